@@ -1,0 +1,85 @@
+-- Document 01, "Event list of a rule": the same rules without objects, and when a listed event type occurs.
+use Prim.Native.Nat.{ℕ}
+use mathlib.Core.Bool.{Bool, true, false, _||_, cond}
+use mathlib.Core.List.{List, [], _∷_, _++_, foldr}
+use lib.Dec.{eqb}
+use Rattle.meaning.specs.Lists.{any, place}
+use Rattle.meaning.specs.Schema.{Schema, hasParent, relationshipOf}
+use Rattle.meaning.specs.Register.{isUnder}
+use Rattle.meaning.specs.Forms.{Sort, Form, compare, negate, connect, quantify, kind, num, cell, size, sum, combine, role, all, select, bind, variable, memberType, Rule}
+use Rattle.meaning.specs.Reach.{Change, someStep, joins, parts, sets, insertsInto, specialisesInto, deletesFrom, generalisesFrom, Direction, up, down, same, reversed, either, through, leftOf, rightOf, firstPart, secondPart, sourceOf, secondTerm, quiet}
+
+-- What a rule lists: a kind of event with the type, the type and cell, or the relationship that it names.
+pub data EventType : Type 0 where
+  insertOf deleteOf : (type : ℕ) → EventType
+  setOf : (type cell : ℕ) → EventType
+  joinOf partOf : (relationship : ℕ) → EventType
+  specialOf generalOf : (type : ℕ) → EventType
+
+-- "three 16-bit words each: place in that order from 0, type or relationship, cell or 0"
+unfoldable pub wordsOf : EventType → List ℕ
+wordsOf (insertOf t) = 0 ∷ t ∷ 0 ∷ []
+wordsOf (deleteOf t) = 1 ∷ t ∷ 0 ∷ []
+wordsOf (setOf t k) = 2 ∷ t ∷ k ∷ []
+wordsOf (joinOf r) = 3 ∷ r ∷ 0 ∷ []
+wordsOf (partOf r) = 4 ∷ r ∷ 0 ∷ []
+wordsOf (specialOf t) = 5 ∷ t ∷ 0 ∷ []
+wordsOf (generalOf t) = 6 ∷ t ∷ 0 ∷ []
+
+-- "`special t` and `general t` are left out where t has no parent."
+unfoldable pub whereParent : Schema → ℕ → EventType → List EventType
+whereParent S t e = cond (hasParent S t) (e ∷ []) []
+
+-- "role gain lists join, loss part"
+unfoldable pub roleLists : ℕ → Direction → List EventType
+roleLists r up = joinOf (relationshipOf r) ∷ []
+roleLists r down = partOf (relationshipOf r) ∷ []
+
+-- "`all t` gain lists insert t and special t, loss delete t and general t"
+unfoldable pub allLists : Schema → ℕ → Direction → List EventType
+allLists S t up = insertOf t ∷ whereParent S t (specialOf t)
+allLists S t down = deleteOf t ∷ whereParent S t (generalOf t)
+
+unfoldable pub kindLists : Schema → ℕ → Direction → List EventType
+kindLists S t up = whereParent S t (specialOf t)
+kindLists S t down = whereParent S t (generalOf t)
+
+-- What may move a form in a direction, by the types of its variables.
+unfoldable pub lists : {s : Sort} → Schema → Form s → List ℕ → Direction → List EventType
+lists S (compare o a b) ts d = through _++_ (leftOf o) (lists S a ts) d ++ through _++_ (rightOf o) (lists S b ts) d
+lists S (negate a) ts d = through _++_ reversed (lists S a ts) d
+lists S (connect o a b) ts d = through _++_ (firstPart o) (lists S a ts) d ++ through _++_ (secondPart o) (lists S b ts) d
+lists S (quantify q c b) ts d = through _++_ (sourceOf q) (lists S c ts) d ++ lists S b (bind ts (memberType S ts c)) d
+lists S (kind v t) ts d = kindLists S t d
+lists S (num n) ts d = []
+lists S (cell v k) ts d = setOf (variable ts v) k ∷ []
+lists S (size c) ts d = through _++_ same (lists S c ts) d
+lists S (sum c k) ts d = through _++_ either (lists S c ts) d ++ setOf (memberType S ts c) k ∷ []
+lists S (combine o a b) ts d = through _++_ same (lists S a ts) d ++ through _++_ (secondTerm o) (lists S b ts) d
+lists S (role v r) ts d = roleLists r d
+lists S (all t) ts d = allLists S t d
+lists S (select c b) ts d = through _++_ same (lists S c ts) d ++ lists S b (bind ts (memberType S ts c)) d
+
+-- "kind and context as above": an insert into the context type unless the body is quiet, and a special into it
+unfoldable pub contextLists : Schema → Rule → List EventType
+contextLists S r = cond (quiet (r .body)) [] (insertOf (r .context) ∷ []) ++ whereParent S (r .context) (specialOf (r .context))
+
+-- "Order: the events' order above, then numbers, none twice"
+unfoldable pub eventList : Schema → Rule → List EventType
+eventList S r = foldr (place wordsOf) [] (lists S (r .body) (r .context ∷ []) down ++ contextLists S r)
+
+-- "An insert, delete, special or general counts for every type it brings the object into or out of; a set counts for every
+-- type its object is under at the end, with its cell; a join or part for its relationship. A listed event type occurs when an
+-- event of its kind in the batch counts for what it names."
+unfoldable pub occurs : Change → EventType → Bool
+occurs c (insertOf t) = someStep c (insertsInto (λ id. true) (c .schema) t)
+occurs c (deleteOf t) = someStep c (deletesFrom (λ id. true) (c .schema) t)
+occurs c (setOf t k) = someStep c (λ g. sets (λ id. isUnder (c .schema) (c .end) id t) k)
+occurs c (joinOf r) = someStep c (λ g. joins (λ l. eqb (l .relationship) r))
+occurs c (partOf r) = someStep c (λ g. parts (λ l. eqb (l .relationship) r))
+occurs c (specialOf t) = someStep c (specialisesInto (λ id. true) (c .schema) t)
+occurs c (generalOf t) = someStep c (generalisesFrom (λ id. true) (c .schema) t)
+
+-- "The rules a batch touches": a listed event type occurs.
+unfoldable pub touched : Change → Rule → Bool
+touched c r = any (occurs c) (eventList (c .schema) r)

@@ -1,0 +1,170 @@
+-- Document 01, "Events" and "After a batch": what each event does, refusals 7 to 13, and the register after a batch.
+use Prim.Native.Nat.{ℕ, suc, _-_, min}
+use mathlib.Core.Bool.{Bool, true, false, _&&_, _||_, not, cond}
+use mathlib.Core.List.{List, [], _∷_, _++_, map}
+use mathlib.Core.Option.{Option, none, some}
+use lib.Dec.{ltb, leb, eqb}
+use lib.ListN.{length, take, replicate, set as replaceAt}
+use lib.IntN.{ℤ, pos}
+use Rattle.meaning.specs.Lists.{any, keep, holds, place}
+use Rattle.meaning.specs.Limits.{maxObjects, maxLinks, cellCount, validId, fitsWord}
+use Rattle.meaning.specs.Schema.{Schema, knownType, knownRelationship, cellsOf, under, sourceType, targetType}
+use Rattle.meaning.specs.Register.{Object, Link, Register, objectKey, linkKey, objectAt, present, isUnder, sameLink, hasLink}
+
+-- "Events: `insert id t` .., `delete id`, `set id k v`, `join r a b`, `part r a b`, `special id t` .., `general id t` .."
+pub data Event : Type 0 where
+  insert : (id type : ℕ) → Event
+  delete : (id : ℕ) → Event
+  set : (id cell : ℕ) (value : ℤ) → Event
+  join : (relationship source target : ℕ) → Event
+  part : (relationship source target : ℕ) → Event
+  special : (id type : ℕ) → Event
+  general : (id type : ℕ) → Event
+
+-- how many rows are lent for the register's tables, and how many words for the list of pairs
+pub record Lent : Type 0 where
+  pub objects : ℕ
+  pub links : ℕ
+  pub words : ℕ
+
+-- ---- what an event does
+
+abbrev pub linkOf : ℕ → ℕ → ℕ → Link
+linkOf r a b = record { relationship = r; source = a; target = b }
+
+-- "`insert id t` (cells 0)"
+abbrev pub newObject : ℕ → ℕ → Object
+newObject id t = record { id = id; type = t; cells = replicate cellCount (pos 0) }
+
+-- "cells the new type lacks become 0": the first n cells, and zeros after them
+abbrev pub clearedFrom : ℕ → List ℤ → List ℤ
+clearedFrom n cells = take n cells ++ replicate (cellCount - n) (pos 0)
+
+abbrev pub withCell : ℕ → ℤ → Object → Object
+withCell k v o = record { id = o .id; type = o .type; cells = replaceAt (o .cells) k v }
+
+abbrev pub withType : ℕ → Object → Object
+withType t o = record { id = o .id; type = t; cells = o .cells }
+
+abbrev pub withHigherType : Schema → ℕ → Object → Object
+withHigherType S t o = record { id = o .id; type = t; cells = clearedFrom (cellsOf S t) (o .cells) }
+
+-- the object of that id changed, every other as it was
+abbrev pub amended : ℕ → (Object → Object) → Register → Register
+amended id change g =
+    record { objects = map (λ o. cond (eqb (o .id) id) (change o) o) (g .objects); links = g .links }
+
+-- "Insert adds the object, delete takes it out, set puts v in cell k, join adds the link, part takes it out, special and
+-- general put type t, cells as above; nothing else changes."
+unfoldable pub apply : Schema → Event → Register → Register
+apply S (insert id t) g = record { objects = place objectKey (newObject id t) (g .objects); links = g .links }
+apply S (delete id) g = record { objects = keep (λ o. not (eqb (o .id) id)) (g .objects); links = g .links }
+apply S (set id k v) g = amended id (withCell k v) g
+apply S (join r a b) g = record { objects = g .objects; links = place linkKey (linkOf r a b) (g .links) }
+apply S (part r a b) g = record { objects = g .objects; links = keep (λ l. not (sameLink (linkOf r a b) l)) (g .links) }
+apply S (special id t) g = amended id (withType t) g
+apply S (general id t) g = amended id (withHigherType S t) g
+
+-- "The first event works on the register as lent, each other on what the one before it left. .. What the last one leaves is
+-- the register after the batch, *the end* ..; without events it is the lent one."
+unfoldable pub after : Schema → Register → List Event → Register
+after S g [] = g
+after S g (e ∷ es) = after S (apply S e g) es
+
+-- ---- refusals 7 to 13
+
+-- a refusal's number, and when it is met
+pub data Check : Type 0 where
+  _when_ : ℕ → Bool → Check
+
+infix 20 _when_
+
+-- the number of the first refusal of the list that is met
+unfoldable pub firstMet : List Check → Option ℕ
+firstMet [] = none
+firstMet ((n when met) ∷ checks) = cond met (some n) (firstMet checks)
+
+-- 12: "delete of a linked object"
+unfoldable pub linked : Register → ℕ → Bool
+linked g id = any (λ l. eqb (l .source) id || eqb (l .target) id) (g .links)
+
+-- 12: "general out of a type a link needs"; a link of an object to itself counts at both ends
+unfoldable pub typeNeeded : Schema → Register → ℕ → ℕ → Bool
+typeNeeded S g id t =
+    any
+    (λ l.
+      (eqb (l .source) id && not (under S t (sourceType S (l .relationship))))
+      || (eqb (l .target) id && not (under S t (targetType S (l .relationship)))))
+    (g .links)
+
+-- the object's type is strictly above t, or strictly under it
+unfoldable pub strictlyAbove : Schema → Register → ℕ → ℕ → Bool
+strictlyAbove S g id t = holds (λ o. under S t (o .type) && not (eqb t (o .type))) (objectAt g id)
+
+unfoldable pub strictlyUnder : Schema → Register → ℕ → ℕ → Bool
+strictlyUnder S g id t = holds (λ o. under S (o .type) t && not (eqb t (o .type))) (objectAt g id)
+
+-- 11: the object's type has cell k
+unfoldable pub hasCell : Schema → Register → ℕ → ℕ → Bool
+hasCell S g id k = holds (λ o. ltb k (cellsOf S (o .type))) (objectAt g id)
+
+-- The refusals that an event can meet, in the table's order.
+unfoldable pub checks : Schema → Lent → Register → Event → List Check
+checks S lent g (insert id t) =
+    (7 when not (validId id && knownType S t))
+    ∷ (9 when present g id)
+    ∷ (13 when leb (min maxObjects (lent .objects)) (length (g .objects)))
+    ∷ []
+checks S lent g (delete id) =
+    (7 when not (validId id))
+    ∷ (8 when not (present g id))
+    ∷ (12 when linked g id)
+    ∷ []
+checks S lent g (set id k v) =
+    (7 when not (validId id && ltb k cellCount && fitsWord v))
+    ∷ (8 when not (present g id))
+    ∷ (11 when not (hasCell S g id k))
+    ∷ []
+checks S lent g (join r a b) =
+    (7 when not (knownRelationship S r && validId a && validId b))
+    ∷ (8 when not (present g a && present g b))
+    ∷ (9 when hasLink g (linkOf r a b))
+    ∷ (11 when not (isUnder S g a (sourceType S r) && isUnder S g b (targetType S r)))
+    ∷ (13 when leb (min maxLinks (lent .links)) (length (g .links)))
+    ∷ []
+checks S lent g (part r a b) =
+    (7 when not (knownRelationship S r && validId a && validId b))
+    ∷ (8 when not (present g a && present g b))
+    ∷ (10 when not (hasLink g (linkOf r a b)))
+    ∷ []
+checks S lent g (special id t) =
+    (7 when not (validId id && knownType S t))
+    ∷ (8 when not (present g id))
+    ∷ (11 when not (strictlyAbove S g id t))
+    ∷ []
+checks S lent g (general id t) =
+    (7 when not (validId id && knownType S t))
+    ∷ (8 when not (present g id))
+    ∷ (11 when not (strictlyUnder S g id t))
+    ∷ (12 when typeNeeded S g id t)
+    ∷ []
+
+-- the number of the refusal that the event meets on register g, if any
+unfoldable pub eventRefusal : Schema → Lent → Register → Event → Option ℕ
+eventRefusal S lent g e = firstMet (checks S lent g e)
+
+-- "a refusal gives number and place"
+pub record Refusal : Type 0 where
+  pub number : ℕ
+  pub place : ℕ
+
+-- "its refusals are met there"; "the first faulty event decides". n is the first event's number.
+unfoldable pub refusalFrom : Schema → Lent → ℕ → Register → List Event → Option Refusal
+refusalFrom S lent n g [] = none
+refusalFrom S lent n g (e ∷ es) =
+    elim (eventRefusal S lent g e) [
+        none ↦ refusalFrom S lent (suc n) (apply S e g) es
+      | some number ↦ some (record { number = number; place = n }) ]
+
+unfoldable pub batchRefusal : Schema → Lent → Register → List Event → Option Refusal
+batchRefusal S lent g es = refusalFrom S lent 0 g es

@@ -1,0 +1,71 @@
+-- Operations on lists and optional values that the definitions of document 01 are written in.
+use Prim.Native.Nat.{ℕ, suc}
+use mathlib.Core.Bool.{Bool, true, false, _&&_, _||_, cond}
+use mathlib.Core.List.{List, [], _∷_}
+use mathlib.Core.Option.{Option, none, some}
+use lib.Dec.{ltb, eqb}
+
+module _ {A : Type 0} where
+  -- some element passes the test
+  abbrev pub any : (A → Bool) → List A → Bool
+  any p [] = false
+  any p (x ∷ xs) = p x || any p xs
+
+  -- every element passes the test
+  abbrev pub every : (A → Bool) → List A → Bool
+  every p [] = true
+  every p (x ∷ xs) = p x && every p xs
+
+  -- the elements that pass the test, in their order
+  abbrev pub keep : (A → Bool) → List A → List A
+  keep p [] = []
+  keep p (x ∷ xs) = cond (p x) (x ∷ keep p xs) (keep p xs)
+
+  -- the first element that passes the test
+  abbrev pub first : (A → Bool) → List A → Option A
+  first p [] = none
+  first p (x ∷ xs) = cond (p x) (some x) (first p xs)
+
+  -- there is a value, and it passes the test
+  abbrev pub holds : (A → Bool) → Option A → Bool
+  holds p none = false
+  holds p (some x) = p x
+
+  -- the first of the two that is there
+  abbrev pub firstOf : Option A → Option A → Option A
+  firstOf none b = b
+  firstOf (some a) b = some a
+
+  -- The place, from n, of the first faulty row. A row is judged by its place, the row before it and itself.
+  abbrev pub faultFrom : (ℕ → Option A → A → Bool) → ℕ → Option A → List A → Option ℕ
+  faultFrom faulty n previous [] = none
+  faultFrom faulty n previous (x ∷ xs) = cond (faulty n previous x) (some n) (faultFrom faulty (suc n) (some x) xs)
+
+  abbrev pub firstFault : (ℕ → Option A → A → Bool) → List A → Option ℕ
+  firstFault faulty rows = faultFrom faulty 0 none rows
+
+-- The order of rows by their keys: number by number.
+abbrev pub before : List ℕ → List ℕ → Bool
+before [] ys = false
+before (x ∷ xs) [] = false
+before (x ∷ xs) (y ∷ ys) = ltb x y || (eqb x y && before xs ys)
+
+-- the same key
+abbrev pub same : List ℕ → List ℕ → Bool
+same [] [] = true
+same [] (y ∷ ys) = false
+same (x ∷ xs) [] = false
+same (x ∷ xs) (y ∷ ys) = eqb x y && same xs ys
+
+module _ {A : Type 0} (key : A → List ℕ) where
+  -- the row comes after the one before it, if there is one
+  abbrev pub ascends : Option A → A → Bool
+  ascends none x = true
+  ascends (some p) x = before (key p) (key x)
+
+  -- Into its place in an ascending list. What is there already is not put in twice.
+  abbrev pub place : A → List A → List A
+  place x [] = x ∷ []
+  place x (y ∷ ys) =
+      cond (before (key x) (key y)) (x ∷ y ∷ ys)
+      (cond (before (key y) (key x)) (y ∷ place x ys) (y ∷ ys))
