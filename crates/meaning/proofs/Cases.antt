@@ -10,7 +10,7 @@ use lib.ListN.{length, replicate}
 use lib.IntN.{ℤ, pos, negsuc}
 use Rattle.meaning.specs.Limits.{cellCount, validId, fitsWord}
 use Rattle.meaning.specs.Schema.{ObjectType, Relationship, Schema, knownType, knownRelationship, typeAt, parentOf, cellsOf, hasParent, climbs, under, knownRole, relationshipAt, sourceType, targetType, nearType, farType, parentFits, faultyType, faultyRelationship, typeFault, relationshipFault}
-use Rattle.meaning.specs.Register.{Object, Link, Register, objectAt, present, isUnder, cellAt, instances, hasLink, farEnds, cellsFit, faultyObject, linkFits, faultyLink, objectFault, linkFault}
+use Rattle.meaning.specs.Register.{Object, Link, Register, objectAt, present, isUnder, cellAt, instances, hasLink, farEnds, cellsFit, objectFits, faultyObject, linkFits, faultyLink, objectFault, linkFault}
 use Rattle.meaning.specs.Forms.{Sort, truth, le, ge, gt, and, or, forall, add, Form, compare, connect, quantify, kind, num, cell, size, sum, combine, role, all, select, formCount, memberType, wellTyped, Rule, Book, faultyRule, ruleFault}
 use Rattle.meaning.specs.Meaning.{compared, connected, quantified, combined, total, meaning, broken}
 use Rattle.meaning.specs.Events.{Event, insert, delete, set, join, part, special, general, Lent, linkOf, apply, after, firstMet, linked, typeNeeded, strictlyAbove, strictlyUnder, hasCell, checks, eventRefusal, refusalFrom, batchRefusal}
@@ -179,5 +179,5 @@ table =
     ∷ []
 
 cases-hold : map (λ (c : Case). shown (c .given)) table ≡ map (λ (c : Case). c .expected) table
-unfolding table shown everything validId fitsWord knownType knownRelationship typeAt parentOf cellsOf hasParent climbs under knownRole relationshipAt sourceType targetType nearType farType parentFits faultyType faultyRelationship typeFault relationshipFault objectAt present isUnder cellAt instances hasLink farEnds cellsFit faultyObject linkFits faultyLink objectFault linkFault formCount memberType wellTyped faultyRule ruleFault compared connected quantified combined total meaning broken apply after firstMet linked typeNeeded strictlyAbove strictlyUnder hasCell checks eventRefusal refusalFrom batchRefusal stepsOf changeBy someStep leftOf rightOf firstPart secondPart sourceOf secondTerm roleMoves allMoves cellMoves kindMoves moves roleOfSelf quietQuantifier quietConnective quietly quiet inserted specialised selected pairsFrom contextPairs ofRule selectedPairs wordsOf whereParent roleLists allLists kindLists lists contextLists eventList refusalAt bookRefusal registerRefusal refusal foundAnswer firstBroken unlessRefused listRefusal checkRefusal registerLeft outcomeOf batchCheck
+unfolding table shown everything validId fitsWord knownType knownRelationship typeAt parentOf cellsOf hasParent climbs under knownRole relationshipAt sourceType targetType nearType farType parentFits faultyType faultyRelationship typeFault relationshipFault objectAt present isUnder cellAt instances hasLink farEnds cellsFit objectFits faultyObject linkFits faultyLink objectFault linkFault formCount memberType wellTyped faultyRule ruleFault compared connected quantified combined total meaning broken apply after firstMet linked typeNeeded strictlyAbove strictlyUnder hasCell checks eventRefusal refusalFrom batchRefusal stepsOf changeBy someStep leftOf rightOf firstPart secondPart sourceOf secondTerm roleMoves allMoves cellMoves kindMoves moves roleOfSelf quietQuantifier quietConnective quietly quiet inserted specialised selected pairsFrom contextPairs ofRule selectedPairs wordsOf whereParent roleLists allLists kindLists lists contextLists eventList refusalAt bookRefusal registerRefusal refusal foundAnswer firstBroken unlessRefused listRefusal checkRefusal registerLeft outcomeOf batchCheck
 cases-hold = refl

@@ -86,8 +86,11 @@ isZero z = leZ z (pos 0) && leZ (pos 0) z
 unfoldable pub cellsFit : Schema → Object → Bool
 cellsFit S o = eqb (length (o .cells)) cellCount && every fitsWord (o .cells) && every isZero (drop (cellsOf S (o .type)) (o .cells))
 
+unfoldable pub objectFits : Schema → Object → Bool
+objectFits S o = validId (o .id) && knownType S (o .type) && cellsFit S o
+
 unfoldable pub faultyObject : Schema → ℕ → Option Object → Object → Bool
-faultyObject S n previous o = not (ascends objectKey previous o && validId (o .id) && knownType S (o .type) && cellsFit S o)
+faultyObject S n previous o = not (ascends objectKey previous o && objectFits S o)
 
 -- "both objects present and under the end types"
 unfoldable pub linkFits : Schema → Register → Link → Bool

@@ -1,0 +1,208 @@
+-- Laws of the operations of specs/Lists: membership in what they make, and lists that ascend by a relation.
+use Prim.Native.Nat.{ℕ, zero, suc, _≤_, zero-le, suc-le-suc}
+use mathlib.Core.Path.{_≡_, refl, sym, ap, subst, _∙_}
+use mathlib.Core.Logic.{_⊎_, inl, inr, ⊎-elim}
+use mathlib.Core.Bool.{Bool, true, false, _&&_, _||_, not, cond}
+use mathlib.Core.List.{List, [], _∷_, _++_, map, List·Memᴰ, List·Memᴰ·head, List·Memᴰ·tail, List·Memᴰ·not-nil, List·Memᴰ·cases-cons, Memᴰ·cast, Memᴰ·append-left, Memᴰ·append-right, List·Memᴰ·append-cases}
+use mathlib.Core.Option.{Option, none, some, Option·none-ne-some, Option·some-injective}
+use native.Mathlib.Nat.{le-trans, le-suc, le-refl}
+use lib.Dec.{T}
+use lib.ListN.{length, getElem?}
+use mir.Facts.{and-yes, yes-and, or-yes, or-no, T-not, not-T}
+use Rattle.meaning.specs.Lists.{any, every, keep, first, holds}
+
+-- ---- membership
+
+infix 50 _∈_
+abbrev pub _∈_ : {A : Type 0} → A → List A → Type 0
+x ∈ l = List·Memᴰ x l
+
+pub or-left : (a b : Bool) → T a → T (a || b)
+or-left true b t = tt
+or-left false b t = absurd t
+
+pub or-right : (a b : Bool) → T b → T (a || b)
+or-right true b t = tt
+or-right false b t = t
+
+-- which of the two a test is
+pub decide : (b : Bool) → T b ⊎ T (not b)
+decide true = inl tt
+decide false = inr tt
+
+pub cond-yes : {A : Type 0} (b : Bool) (x y : A) → T b → cond b x y ≡ x
+cond-yes true x y t = refl
+cond-yes false x y t = absurd t
+
+pub cond-no : {A : Type 0} (b : Bool) (x y : A) → T (not b) → cond b x y ≡ y
+cond-no true x y t = absurd t
+cond-no false x y t = refl
+
+module _ {A : Type 0} where
+  pub any-of : (p : A → Bool) {x : A} {l : List A} → x ∈ l → T (p x) → T (any p l)
+  any-of p (List·Memᴰ·head {x = y} {xs = ys} e) t = or-left (p y) (any p ys) (subst (λ z. T (p z)) e t)
+  any-of p (List·Memᴰ·tail {x = y} {xs = ys} m) t = or-right (p y) (any p ys) (any-of p m t)
+
+  pub any-cases : (p : A → Bool) (l : List A) → T (any p l) → (x : A) × x ∈ l × T (p x)
+  any-cases p [] t = absurd t
+  any-cases p (y ∷ ys) t = step (λ u. any-cases p ys u) (or-yes (p y) (any p ys) t)
+    where
+      step : (T (any p ys) → (x : A) × x ∈ ys × T (p x)) → T (p y) ⊎ T (any p ys) → (x : A) × x ∈ (y ∷ ys) × T (p x)
+      step below (inl u) = (y, List·Memᴰ·head refl, u)
+      step below (inr u) = let r = below u in (r .0, List·Memᴰ·tail (r .1), r .2)
+
+  pub any-none : (p : A → Bool) {x : A} {l : List A} → T (not (any p l)) → x ∈ l → T (not (p x))
+  any-none p {x} {l} t m = not-T (p x) (λ u. T-not (any p l) (any-of p m u) t)
+
+  pub every-of : (p : A → Bool) (l : List A) → ((x : A) → x ∈ l → T (p x)) → T (every p l)
+  every-of p [] h = tt
+  every-of p (y ∷ ys) h = yes-and (p y) (every p ys) (h y (List·Memᴰ·head refl)) (every-of p ys (λ x m. h x (List·Memᴰ·tail m)))
+
+  pub every-at : (p : A → Bool) {x : A} {l : List A} → T (every p l) → x ∈ l → T (p x)
+  every-at p t (List·Memᴰ·head {x = y} {xs = ys} e) = subst (λ z. T (p z)) (sym e) (and-yes (p y) (every p ys) t .0)
+  every-at p t (List·Memᴰ·tail {x = y} {xs = ys} m) = every-at p (and-yes (p y) (every p ys) t .1) m
+
+  pub any-map : (p q : A → Bool) {l : List A} → ((x : A) → x ∈ l → T (p x) → T (q x)) → T (any p l) → T (any q l)
+  any-map p q {l} h t = let r = any-cases p l t in any-of q (r .1) (h (r .0) (r .1) (r .2))
+
+  -- ---- keep
+
+  pub keep-in : (p : A → Bool) {x : A} {l : List A} → x ∈ l → T (p x) → x ∈ keep p l
+  keep-in p {x} (List·Memᴰ·head {x = y} {xs = ys} e) t =
+      subst (λ k. x ∈ k) (sym (cond-yes (p y) (y ∷ keep p ys) (keep p ys) (subst (λ z. T (p z)) e t))) (List·Memᴰ·head e)
+  keep-in p {x} (List·Memᴰ·tail {x = y} {xs = ys} m) t = deeper (p y) (keep-in p m t)
+    where
+      deeper : (b : Bool) → x ∈ keep p ys → x ∈ cond b (y ∷ keep p ys) (keep p ys)
+      deeper true n = List·Memᴰ·tail n
+      deeper false n = n
+
+  pub keep-from : (p : A → Bool) (l : List A) {x : A} → x ∈ keep p l → x ∈ l × T (p x)
+  keep-from p [] m = absurd (List·Memᴰ·not-nil m)
+  keep-from p (y ∷ ys) {x} m = step (p y) refl (λ n. keep-from p ys n) m
+    where
+      step : (b : Bool) → p y ≡ b → (x ∈ keep p ys → x ∈ ys × T (p x)) → x ∈ cond b (y ∷ keep p ys) (keep p ys) → x ∈ (y ∷ ys) × T (p x)
+      step true e below n =
+          ⊎-elim
+          (λ (q : x ≡ y). (List·Memᴰ·head q, subst (λ z. T (p z)) (sym q) (subst T (sym e) tt)))
+          (λ (k : x ∈ keep p ys). let r = below k in (List·Memᴰ·tail (r .0), r .1))
+          (List·Memᴰ·cases-cons n)
+      step false e below n = let r = below n in (List·Memᴰ·tail (r .0), r .1)
+
+  pub length-keep : (p : A → Bool) (l : List A) → length (keep p l) ≤ length l
+  length-keep p [] = zero-le
+  length-keep p (y ∷ ys) = step (p y) (length-keep p ys)
+    where
+      step : (b : Bool) → length (keep p ys) ≤ length ys → length (cond b (y ∷ keep p ys) (keep p ys)) ≤ suc (length ys)
+      step true h = suc-le-suc h
+      step false h = le-trans h (le-suc (length ys))
+
+  -- ---- first
+
+  pub first-some : (p : A → Bool) (l : List A) {x : A} → first p l ≡ some x → x ∈ l × T (p x)
+  first-some p [] {x} e = absurd (Option·none-ne-some x e)
+  first-some p (y ∷ ys) {x} e = step (p y) refl (λ q. first-some p ys q) e
+    where
+      step : (b : Bool) → p y ≡ b → (first p ys ≡ some x → x ∈ ys × T (p x)) → cond b (some y) (first p ys) ≡ some x → x ∈ (y ∷ ys) × T (p x)
+      step true b below q =
+          let r : x ≡ y = sym (Option·some-injective y x q) in
+          (List·Memᴰ·head r, subst (λ z. T (p z)) (sym r) (subst T (sym b) tt))
+      step false b below q = let r = below q in (List·Memᴰ·tail (r .0), r .1)
+
+  pub first-none : (p : A → Bool) (l : List A) → first p l ≡ none → (x : A) → x ∈ l → T (not (p x))
+  first-none p [] e x m = absurd (List·Memᴰ·not-nil m)
+  first-none p (y ∷ ys) e x m = step (p y) refl (λ q. first-none p ys q x) e
+    where
+      step : (b : Bool) → p y ≡ b → (first p ys ≡ none → x ∈ ys → T (not (p x))) → cond b (some y) (first p ys) ≡ none → T (not (p x))
+      step true b below q = absurd (Option·none-ne-some y (sym q))
+      step false b below q =
+          ⊎-elim (λ (r : x ≡ y). subst (λ z. T (not (p z))) (sym r) (subst (λ c. T (not c)) (sym b) tt)) (λ n. below q n) (List·Memᴰ·cases-cons m)
+
+  -- ---- ascending lists
+
+  -- each element stands in the relation to all that come after it
+  abbrev pub Ascending : (A → A → Type 0) → List A → Type 0
+  Ascending R [] = Unit {0}
+  Ascending R (x ∷ xs) = ((y : A) → y ∈ xs → R x y) × Ascending R xs
+
+  pub ascending-keep : (R : A → A → Type 0) (p : A → Bool) (l : List A) → Ascending R l → Ascending R (keep p l)
+  ascending-keep R p [] a = tt
+  ascending-keep R p (y ∷ ys) a = step (p y) (ascending-keep R p ys (a .1))
+    where
+      step : (b : Bool) → Ascending R (keep p ys) → Ascending R (cond b (y ∷ keep p ys) (keep p ys))
+      step true r = (λ z m. a .0 z (keep-from p ys m .0), r)
+      step false r = r
+
+  module _ (R : A → A → Type 0) (irreflexive : (x : A) → ¬ R x x) (transitive : (x y z : A) → R x y → R y z → R x z) where
+    -- two ascending lists of the same members are one list
+    pub ascending-unique : (l k : List A) → Ascending R l → Ascending R k → ((x : A) → x ∈ l → x ∈ k) → ((x : A) → x ∈ k → x ∈ l) → l ≡ k
+    ascending-unique [] [] a b f g = refl
+    ascending-unique [] (y ∷ ys) a b f g = absurd (List·Memᴰ·not-nil (g y (List·Memᴰ·head refl)))
+    ascending-unique (x ∷ xs) [] a b f g = absurd (List·Memᴰ·not-nil (f x (List·Memᴰ·head refl)))
+    ascending-unique (x ∷ xs) (y ∷ ys) a b f g =
+        both heads (λ e. ascending-unique xs ys (a .1) (b .1) (rest e) (back e))
+      where
+        heads : x ≡ y
+        heads =
+            ⊎-elim (λ (e : x ≡ y). e)
+            (λ (m : x ∈ ys).
+              ⊎-elim (λ (e : y ≡ x). sym e)
+              (λ (n : y ∈ xs). absurd (irreflexive x (transitive x y x (a .0 y n) (b .0 x m))))
+              (List·Memᴰ·cases-cons (g y (List·Memᴰ·head refl))))
+            (List·Memᴰ·cases-cons (f x (List·Memᴰ·head refl)))
+        rest : x ≡ y → (z : A) → z ∈ xs → z ∈ ys
+        rest e z m =
+            ⊎-elim (λ (q : z ≡ y). absurd (irreflexive x (subst (R x) (q ∙ sym e) (a .0 z m)))) (λ n. n)
+            (List·Memᴰ·cases-cons (f z (List·Memᴰ·tail m)))
+        back : x ≡ y → (z : A) → z ∈ ys → z ∈ xs
+        back e z m =
+            ⊎-elim (λ (q : z ≡ x). absurd (irreflexive y (subst (R y) (q ∙ e) (b .0 z m)))) (λ n. n)
+            (List·Memᴰ·cases-cons (g z (List·Memᴰ·tail m)))
+        both : x ≡ y → (x ≡ y → xs ≡ ys) → x ∷ xs ≡ y ∷ ys
+        both e tails = λ i. e i ∷ tails e i
+
+    -- an ascending list whose members are all in another is no longer than it
+    pub ascending-shorter : (l k : List A) → Ascending R l → Ascending R k → ((x : A) → x ∈ l → x ∈ k) → length l ≤ length k
+    ascending-shorter [] k a b f = zero-le
+    ascending-shorter (x ∷ xs) [] a b f = absurd (List·Memᴰ·not-nil (f x (List·Memᴰ·head refl)))
+    ascending-shorter (x ∷ xs) (y ∷ ys) a b f = suc-le-suc (ascending-shorter xs ys (a .1) (b .1) inside)
+      where
+        -- an element after x is not y: y is x, or comes before x
+        inside : (z : A) → z ∈ xs → z ∈ ys
+        inside z m =
+            ⊎-elim
+            (λ (q : z ≡ y).
+              absurd
+              (⊎-elim
+               (λ (e : x ≡ y). irreflexive x (subst (R x) (q ∙ sym e) (a .0 z m)))
+               (λ (n : x ∈ ys). irreflexive y (transitive y x y (b .0 x n) (subst (R x) q (a .0 z m))))
+               (List·Memᴰ·cases-cons (f x (List·Memᴰ·head refl)))))
+            (λ n. n)
+            (List·Memᴰ·cases-cons (f z (List·Memᴰ·tail m)))
+
+  pub ascending-append : (R : A → A → Type 0) (l k : List A) → Ascending R l → Ascending R k → ((x y : A) → x ∈ l → y ∈ k → R x y) → Ascending R (l ++ k)
+  ascending-append R [] k a b h = b
+  ascending-append R (x ∷ xs) k a b h =
+      (λ y m. ⊎-elim (λ n. a .0 y n) (λ n. h x y (List·Memᴰ·head refl) n) (List·Memᴰ·append-cases xs m),
+       ascending-append R xs k (a .1) b (λ z y m n. h z y (List·Memᴰ·tail m) n))
+
+module _ {A B : Type 0} (f : A → B) where
+  pub map-in : {x : A} {l : List A} → x ∈ l → f x ∈ map f l
+  map-in (List·Memᴰ·head e) = List·Memᴰ·head (ap f e)
+  map-in (List·Memᴰ·tail m) = List·Memᴰ·tail (map-in m)
+
+  pub map-from : (l : List A) {y : B} → y ∈ map f l → (x : A) × x ∈ l × (y ≡ f x)
+  map-from [] m = absurd (List·Memᴰ·not-nil m)
+  map-from (x ∷ xs) {y} m = step (λ n. map-from xs n) (List·Memᴰ·cases-cons m)
+    where
+      step : (y ∈ map f xs → (z : A) × z ∈ xs × (y ≡ f z)) → (y ≡ f x) ⊎ (y ∈ map f xs) → (z : A) × z ∈ (x ∷ xs) × (y ≡ f z)
+      step below (inl e) = (x, List·Memᴰ·head refl, e)
+      step below (inr n) = let r = below n in (r .0, List·Memᴰ·tail (r .1), r .2)
+
+  -- a map that keeps the relation between members keeps the order
+  pub ascending-map : (R : A → A → Type 0) (Q : B → B → Type 0) (l : List A) → ((x y : A) → x ∈ l → y ∈ l → R x y → Q (f x) (f y)) → Ascending R l → Ascending Q (map f l)
+  ascending-map R Q [] h a = tt
+  ascending-map R Q (x ∷ xs) h a =
+      (λ y m.
+        let r = map-from xs m in
+        subst (Q (f x)) (sym (r .2)) (h x (r .0) (List·Memᴰ·head refl) (List·Memᴰ·tail (r .1)) (a .0 (r .0) (r .1))),
+       ascending-map R Q xs (λ z y m n. h z y (List·Memᴰ·tail m) (List·Memᴰ·tail n)) (a .1))
