@@ -16,7 +16,7 @@ use Rattle.meaning.specs.Meaning.{compared, connected, quantified, combi
 use Rattle.meaning.specs.Events.{Event, insert, delete, set, join, part, special, general, Lent, linkOf, apply, after, firstMet, linked, typeNeeded, strictlyAbove, strictlyUnder, hasCell, checks, eventRefusal, refusalFrom, batchRefusal}
 use Rattle.meaning.specs.Reach.{stepsOf, changeBy, someStep, leftOf, rightOf, firstPart, secondPart, sourceOf, secondTerm, roleMoves, allMoves, cellMoves, kindMoves, moves, roleOfSelf, quietQuantifier, quietConnective, quietly, quiet, inserted, specialised, selected, Pair, pairOf, pairsFrom, contextPairs, ofRule, selectedPairs}
 use Rattle.meaning.specs.EventList.{EventType, insertOf, deleteOf, setOf, joinOf, partOf, specialOf, generalOf, wordsOf, whereParent, roleLists, allLists, kindLists, lists, contextLists, eventList}
-use Rattle.meaning.specs.Answers.{Answer, accepted, brokenAt, refused, refusalAt, bookRefusal, registerRefusal, refusal, foundAnswer, firstBroken, unlessRefused, listRefusal, checkRefusal, Outcome, registerLeft, outcomeOf, batchCheck}
+use Rattle.meaning.specs.Answers.{Answer, accepted, brokenAt, refused, refusalAt, bookRefusal, registerRefusal, refusal, foundAnswer, firstBroken, unlessRefused, listRefusal, checkRefusal, Outcome, registerLeft, outcomeOf, outcomeUnless, batchCheck}
 
 -- ---- what a case gives and what it must show
 
@@ -179,5 +179,5 @@ table =
     ∷ []
 
 cases-hold : map (λ (c : Case). shown (c .given)) table ≡ map (λ (c : Case). c .expected) table
-unfolding table shown everything validId fitsWord knownType knownRelationship typeAt parentOf cellsOf hasParent climbs under knownRole relationshipAt sourceType targetType nearType farType parentFits faultyType faultyRelationship typeFault relationshipFault objectAt present isUnder cellAt instances hasLink farEnds cellsFit objectFits faultyObject linkFits faultyLink objectFault linkFault formCount memberType wellTyped faultyRule ruleFault compared connected quantified combined total meaning broken apply after firstMet linked typeNeeded strictlyAbove strictlyUnder hasCell checks eventRefusal refusalFrom batchRefusal stepsOf changeBy someStep leftOf rightOf firstPart secondPart sourceOf secondTerm roleMoves allMoves cellMoves kindMoves moves roleOfSelf quietQuantifier quietConnective quietly quiet inserted specialised selected pairsFrom contextPairs ofRule selectedPairs wordsOf whereParent roleLists allLists kindLists lists contextLists eventList refusalAt bookRefusal registerRefusal refusal foundAnswer firstBroken unlessRefused listRefusal checkRefusal registerLeft outcomeOf batchCheck
+unfolding table shown everything validId fitsWord knownType knownRelationship typeAt parentOf cellsOf hasParent climbs under knownRole relationshipAt sourceType targetType nearType farType parentFits faultyType faultyRelationship typeFault relationshipFault objectAt present isUnder cellAt instances hasLink farEnds cellsFit objectFits faultyObject linkFits faultyLink objectFault linkFault formCount memberType wellTyped faultyRule ruleFault compared connected quantified combined total meaning broken apply after firstMet linked typeNeeded strictlyAbove strictlyUnder hasCell checks eventRefusal refusalFrom batchRefusal stepsOf someStep leftOf rightOf firstPart secondPart sourceOf secondTerm roleMoves allMoves cellMoves kindMoves moves roleOfSelf quietQuantifier quietConnective quietly quiet inserted specialised selected pairsFrom contextPairs ofRule selectedPairs wordsOf whereParent roleLists allLists kindLists lists contextLists eventList refusalAt bookRefusal registerRefusal refusal foundAnswer firstBroken unlessRefused listRefusal checkRefusal registerLeft outcomeOf outcomeUnless batchCheck
 cases-hold = refl

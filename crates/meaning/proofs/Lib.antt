@@ -4,4 +4,13 @@ pub mod Integers
 pub mod Schemas
 pub mod Registers
 pub mod Effects
+pub mod Monotone
+pub mod Comparisons
+pub mod Collections
+pub mod Bounds
+pub mod Steps
+pub mod Movement
+pub mod Batches
+pub mod Quiet
+pub mod Agreement
 pub mod Cases

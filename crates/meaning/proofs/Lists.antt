@@ -25,6 +25,22 @@ pub or-right : (a b : Bool) → T b → T (a || b)
 or-right true b t = tt
 or-right false b t = t
 
+pub no-or : (a b : Bool) → T (not a) → T (not b) → T (not (a || b))
+no-or true b s t = s
+no-or false b s t = t
+
+pub not-and-left : (a b : Bool) → T (not a) → T (not (a && b))
+not-and-left true b t = absurd t
+not-and-left false b t = tt
+
+pub not-and-right : (a b : Bool) → T (not b) → T (not (a && b))
+not-and-right true b t = t
+not-and-right false b t = tt
+
+pub not-not : (a : Bool) → T a → T (not (not a))
+not-not true t = tt
+not-not false t = t
+
 -- which of the two a test is
 pub decide : (b : Bool) → T b ⊎ T (not b)
 decide true = inl tt
@@ -62,8 +78,8 @@ module _ {A : Type 0} where
   every-at p t (List·Memᴰ·head {x = y} {xs = ys} e) = subst (λ z. T (p z)) (sym e) (and-yes (p y) (every p ys) t .0)
   every-at p t (List·Memᴰ·tail {x = y} {xs = ys} m) = every-at p (and-yes (p y) (every p ys) t .1) m
 
-  pub any-map : (p q : A → Bool) {l : List A} → ((x : A) → x ∈ l → T (p x) → T (q x)) → T (any p l) → T (any q l)
-  any-map p q {l} h t = let r = any-cases p l t in any-of q (r .1) (h (r .0) (r .1) (r .2))
+  pub any-map : (p q : A → Bool) (l : List A) → ((x : A) → x ∈ l → T (p x) → T (q x)) → T (any p l) → T (any q l)
+  any-map p q l h t = let r = any-cases p l t in any-of q (r .1) (h (r .0) (r .1) (r .2))
 
   -- ---- keep
 
@@ -116,6 +132,26 @@ module _ {A : Type 0} where
       step true b below q = absurd (Option·none-ne-some y (sym q))
       step false b below q =
           ⊎-elim (λ (r : x ≡ y). subst (λ z. T (not (p z))) (sym r) (subst (λ c. T (not c)) (sym b) tt)) (λ n. below q n) (List·Memᴰ·cases-cons m)
+
+  -- of the elements that pass one test, the first that passes another, if that one passes the first too
+  pub first-keep : (p q : A → Bool) (l : List A) → ((x : A) → x ∈ l → T (p x) → T (q x)) → first p (keep q l) ≡ first p l
+  first-keep p q [] h = refl
+  first-keep p q (y ∷ ys) h = step (p y) (q y) refl (h y (List·Memᴰ·head refl)) (first-keep p q ys (λ x m. h x (List·Memᴰ·tail m)))
+    where
+      step : (b d : Bool) → p y ≡ b → (T (p y) → T d) → first p (keep q ys) ≡ first p ys → first p (cond d (y ∷ keep q ys) (keep q ys)) ≡ cond b (some y) (first p ys)
+      step true true e f below = rw e refl
+      step true false e f below = absurd (f (subst T (sym e) tt))
+      step false true e f below = rw e below
+      step false false e f below = below
+
+  pub holds-some : (p : A → Bool) (o : Option A) → T (holds p o) → (x : A) × (o ≡ some x) × T (p x)
+  holds-some p none t = absurd t
+  holds-some p (some x) t = (x, refl, t)
+
+  pub element-in : (l : List A) (n : ℕ) {x : A} → getElem? l n ≡ some x → x ∈ l
+  element-in [] n {x} e = absurd (Option·none-ne-some x e)
+  element-in (y ∷ ys) zero {x} e = List·Memᴰ·head (sym (Option·some-injective y x e))
+  element-in (y ∷ ys) (suc n) e = List·Memᴰ·tail (element-in ys n e)
 
   -- ---- ascending lists
 

@@ -1,13 +1,20 @@
 -- What a register without refusal 5 is, and how its objects, links and collections are found in it.
 use Prim.Native.Nat.{ℕ, _<_}
-use mathlib.Core.Path.{_≡_}
-use mathlib.Core.Bool.{Bool, not}
+use mathlib.Core.Path.{_≡_, refl, sym, ap, subst, _∙_}
+use mathlib.Core.Logic.{⊎-elim}
+use mathlib.Core.Bool.{Bool, true, false, _&&_, not, cond}
+use mathlib.Core.List.{List, [], _∷_, List·Memᴰ·not-nil, List·Memᴰ·cases-cons, Memᴰ·cast}
 use mathlib.Core.Option.{Option, none, some}
-use lib.Dec.{T}
-use Rattle.meaning.specs.Schema.{Schema, relationshipOf, farType}
-use Rattle.meaning.specs.Register.{Object, Link, Register, objectKey, linkKey, objectAt, present, isUnder, instances, hasLink, farEnd, startsAt, farEnds, objectFits, linkFits, objectFault, linkFault}
-use Rattle.meaning.proofs.Lists.{_∈_, Ascending}
-use Rattle.meaning.proofs.Order.{Before}
+use native.Mathlib.Nat.{ne-of-lt}
+use lib.Dec.{T, ltb, eqb, eqb-refl}
+use lib.ListN.{length, getD, drop}
+use mir.Facts.{and-yes, yes-and, or-yes, T-not, ltb-yes, eqb-yes, yes-eqb}
+use Rattle.meaning.specs.Lists.{any, every, keep, first, holds, before, same}
+use Rattle.meaning.specs.Limits.{cellCount, validId, fitsWord}
+use Rattle.meaning.specs.Schema.{Schema, knownType, knownRelationship, cellsOf, relationshipOf, forward, sourceType, targetType, farType, under}
+use Rattle.meaning.specs.Register.{Object, Link, Register, objectKey, linkKey, objectAt, present, isUnder, instances, sameLink, hasLink, nearEnd, farEnd, startsAt, farEnds, isZero, cellsFit, objectFits, faultyObject, linkFits, faultyLink, objectFault, linkFault}
+use Rattle.meaning.proofs.Lists.{_∈_, Ascending, any-of, any-cases, keep-in, keep-from, first-some, first-none, ascending-keep, map-in, map-from, ascending-map}
+use Rattle.meaning.proofs.Order.{Before, before-irreflexive, same-eq, same-refl, rows-fit, fits-rows}
 
 pub record RegisterFits (S : Schema) (g : Register) : Type 0 where
   pub objects-ascend : Ascending (Before objectKey) (g .objects)
@@ -16,50 +23,211 @@ pub record RegisterFits (S : Schema) (g : Register) : Type 0 where
   pub links-fit : (l : Link) → l ∈ g .links → T (linkFits S g l)
 
 pub register-fits : (S : Schema) (g : Register) → objectFault S g ≡ none → linkFault S g ≡ none → RegisterFits S g
-register-fits S g e f = ?
+unfolding objectFault linkFault faultyObject faultyLink
+register-fits S g e f =
+    let o = rows-fit objectKey (objectFits S) (g .objects) e in
+    let l = rows-fit linkKey (linkFits S g) (g .links) f in
+    record { objects-ascend = o .0; objects-fit = o .1; links-ascend = l .0; links-fit = l .1 }
 
 pub fits-register : (S : Schema) (g : Register) → RegisterFits S g → (objectFault S g ≡ none) × (linkFault S g ≡ none)
-fits-register S g r = ?
+unfolding objectFault linkFault faultyObject faultyLink
+fits-register S g r =
+    (fits-rows objectKey (objectFits S) (g .objects) (r .objects-ascend) (r .objects-fit),
+     fits-rows linkKey (linkFits S g) (g .links) (r .links-ascend) (r .links-fit))
+
+-- ---- objects
+
+-- what `objectFits` tests, part by part
+pub record ObjectFits (S : Schema) (o : Object) : Type 0 where
+  pub id-valid : T (validId (o .id))
+  pub type-known : T (knownType S (o .type))
+  pub cells-count : length (o .cells) ≡ cellCount
+  pub cells-word : T (every fitsWord (o .cells))
+  pub cells-zero : T (every isZero (drop (cellsOf S (o .type)) (o .cells)))
+
+pub object-parts : (S : Schema) (o : Object) → T (objectFits S o) → ObjectFits S o
+unfolding objectFits cellsFit
+object-parts S o t =
+    let count = eqb (length (o .cells)) cellCount in
+    let zero = every isZero (drop (cellsOf S (o .type)) (o .cells)) in
+    let whole = and-yes (validId (o .id) && knownType S (o .type)) (count && every fitsWord (o .cells) && zero) t in
+    let head = and-yes (validId (o .id)) (knownType S (o .type)) (whole .0) in
+    let cells = and-yes (count && every fitsWord (o .cells)) zero (whole .1) in
+    let words = and-yes count (every fitsWord (o .cells)) (cells .0) in
+    record { id-valid = head .0; type-known = head .1; cells-count = eqb-yes (words .0); cells-word = words .1; cells-zero = cells .1 }
+
+pub object-whole : (S : Schema) (o : Object) → ObjectFits S o → T (objectFits S o)
+unfolding objectFits cellsFit
+object-whole S o f =
+    let count = eqb (length (o .cells)) cellCount in
+    let zero = every isZero (drop (cellsOf S (o .type)) (o .cells)) in
+    yes-and (validId (o .id) && knownType S (o .type)) (count && every fitsWord (o .cells) && zero)
+    (yes-and (validId (o .id)) (knownType S (o .type)) (f .id-valid) (f .type-known))
+    (yes-and (count && every fitsWord (o .cells)) zero (yes-and count (every fitsWord (o .cells)) (yes-eqb (f .cells-count)) (f .cells-word)) (f .cells-zero))
 
 pub object-at : (g : Register) (x : ℕ) {o : Object} → objectAt g x ≡ some o → (o ∈ g .objects) × (o .id ≡ x)
-object-at g x e = ?
+unfolding objectAt
+object-at g x e = let r = first-some (λ o. eqb (o .id) x) (g .objects) e in (r .0, eqb-yes (r .1))
+
+module _ {A : Type 0} where
+  -- the only element that passes the test is the first
+  first-only : (p : A → Bool) (l : List A) {x : A} → x ∈ l → T (p x) → ((y : A) → y ∈ l → T (p y) → y ≡ x) → first p l ≡ some x
+  first-only p l {x} m t only = step (first p l) refl
+    where
+      step : (o : Option A) → first p l ≡ o → o ≡ some x
+      step none e = absurd (T-not (p x) t (first-none p l e x m))
+      step (some y) e = let r = first-some p l e in ap {B = Option A} some (only y (r .0) (r .1))
+
+  -- members of an ascending list of which neither comes before the other are one
+  ascending-one : (R : A → A → Type 0) (l : List A) → Ascending R l → {x y : A} → x ∈ l → y ∈ l → ¬ R x y → ¬ R y x → x ≡ y
+  ascending-one R [] a m n f h = absurd (List·Memᴰ·not-nil m)
+  ascending-one R (z ∷ zs) a {x} {y} m n f h =
+      ⊎-elim
+      (λ (p : x ≡ z). ⊎-elim (λ (q : y ≡ z). p ∙ sym q) (λ (k : y ∈ zs). absurd (f (subst (λ w. R w y) (sym p) (a .0 y k)))) (List·Memᴰ·cases-cons n))
+      (λ (j : x ∈ zs).
+        ⊎-elim (λ (q : y ≡ z). absurd (h (subst (λ w. R w x) (sym q) (a .0 x j)))) (λ (k : y ∈ zs). ascending-one R zs (a .1) j k f h) (List·Memᴰ·cases-cons n))
+      (List·Memᴰ·cases-cons m)
+
+-- no id twice
+pub object-one : (l : List Object) → Ascending (Before objectKey) l → {x y : Object} → x ∈ l → y ∈ l → x .id ≡ y .id → x ≡ y
+object-one l a {x} {y} m n e = ascending-one (Before objectKey) l a m n (differ x y e) (differ y x (sym e))
+  where
+    differ : (v w : Object) → v .id ≡ w .id → ¬ Before objectKey v w
+    differ v w q t = before-irreflexive (objectKey w) (subst (λ i. T (before (i ∷ []) (objectKey w))) q t)
+
+pub ascending-found : (g : Register) → Ascending (Before objectKey) (g .objects) → {o : Object} → o ∈ g .objects → objectAt g (o .id) ≡ some o
+unfolding objectAt
+ascending-found g a {o} m =
+    first-only (λ y. eqb (y .id) (o .id)) (g .objects) m (eqb-refl (o .id)) (λ y n t. object-one (g .objects) a n m (eqb-yes t))
 
 pub object-found : (S : Schema) (g : Register) → RegisterFits S g → {o : Object} → o ∈ g .objects → objectAt g (o .id) ≡ some o
-object-found S g r m = ?
+object-found S g r m = ascending-found g (r .objects-ascend) m
+
+-- a test that an object passes, and the object
+pub held : (p : Object → Bool) (x : Option Object) → T (holds p x) → (o : Object) × (x ≡ some o) × T (p o)
+held p none t = absurd t
+held p (some o) t = (o, refl, t)
 
 -- an object under some type is there
 pub under-present : (S : Schema) (g : Register) (x t : ℕ) → T (isUnder S g x t) → T (present g x)
-under-present S g x t u = ?
+unfolding isUnder present
+under-present S g x t u = step (objectAt g x) u
+  where
+    step : (o : Option Object) → T (holds (λ o. under S (o .type) t) o) → T (holds (λ o. true) o)
+    step none h = h
+    step (some o) h = tt
+
+-- ---- links
 
 pub link-in : (g : Register) (l : Link) → T (hasLink g l) → l ∈ g .links
-link-in g l t = ?
+unfolding hasLink
+link-in g l t =
+    let r = any-cases (sameLink l) (g .links) t in
+    Memᴰ·cast (of-key (r .0) (same-eq (linkKey l) (linkKey (r .0)) (r .2))) (r .1)
+  where
+    of-key : (k : Link) → linkKey l ≡ linkKey k → l ≡ k
+    of-key k e = λ i. record { relationship = getD (e i) 0 0; source = getD (e i) 1 0; target = getD (e i) 2 0 }
 
 pub link-has : (g : Register) (l : Link) → l ∈ g .links → T (hasLink g l)
-link-has g l m = ?
+unfolding hasLink
+link-has g l m = any-of (sameLink l) m (same-refl (linkKey l))
 
 -- ---- collections
 
 pub instance-in : (S : Schema) (g : Register) (x t : ℕ) → T (isUnder S g x t) → x ∈ instances S g t
-instance-in S g x t u = ?
+unfolding isUnder instances
+instance-in S g x t u =
+    let o = held (λ o. under S (o .type) t) (objectAt g x) u in
+    let r = object-at g x (o .1) in
+    Memᴰ·cast (sym (r .1)) (map-in (λ (o : Object). o .id) (keep-in (λ o. under S (o .type) t) (r .0) (o .2)))
 
 pub instance-from : (S : Schema) (g : Register) → RegisterFits S g → (x t : ℕ) → x ∈ instances S g t → T (isUnder S g x t)
-instance-from S g r x t m = ?
+unfolding isUnder instances
+instance-from S g r x t m =
+    let o = map-from (λ (o : Object). o .id) (keep (λ o. under S (o .type) t) (g .objects)) m in
+    let k = keep-from (λ o. under S (o .type) t) (g .objects) (o .1) in
+    rw (o .2) (rw (object-found S g r (k .0)) (k .1))
+
+-- the order of keys that differ in one number
+before-one : (x y : ℕ) → T (before (x ∷ []) (y ∷ [])) → x < y
+before-one x y t = ⊎-elim (λ (u : T (ltb x y)). ltb-yes u) (λ u. absurd (and-yes (eqb x y) false u .1)) (or-yes (ltb x y) (eqb x y && false) t)
+
+before-last : (x y : ℕ) (k l : List ℕ) → x ≡ y → T (before (x ∷ k) (y ∷ l)) → T (before k l)
+before-last x y k l e t =
+    ⊎-elim (λ (u : T (ltb x y)). absurd (ne-of-lt (ltb-yes u) e)) (λ u. and-yes (eqb x y) (before k l) u .1) (or-yes (ltb x y) (eqb x y && before k l) t)
+
+before-first : (x y u v : ℕ) → u ≡ v → T (before (x ∷ u ∷ []) (y ∷ v ∷ [])) → x < y
+before-first x y u v e t =
+    ⊎-elim (λ (h : T (ltb x y)). ltb-yes h) (λ h. absurd (ne-of-lt (before-one u v (and-yes (eqb x y) (before (u ∷ []) (v ∷ [])) h .1)) e))
+    (or-yes (ltb x y) (eqb x y && before (u ∷ []) (v ∷ [])) t)
 
 pub instances-ascend : (S : Schema) (g : Register) → RegisterFits S g → (t : ℕ) → Ascending _<_ (instances S g t)
-instances-ascend S g r t = ?
+unfolding instances
+instances-ascend S g r t =
+    ascending-map (λ (o : Object). o .id) (Before objectKey) _<_ (keep (λ o. under S (o .type) t) (g .objects))
+    (λ x y m n b. before-one (x .id) (y .id) b)
+    (ascending-keep (Before objectKey) (λ o. under S (o .type) t) (g .objects) (r .objects-ascend))
 
 pub far-in : (g : Register) (r u : ℕ) (l : Link) → T (hasLink g l) → T (startsAt r u l) → farEnd r l ∈ farEnds g r u
-far-in g r u l h s = ?
+unfolding farEnds
+far-in g r u l h s = map-in (farEnd r) (keep-in (startsAt r u) (link-in g l h) s)
 
 pub far-from : (g : Register) (r u x : ℕ) → x ∈ farEnds g r u → (l : Link) × T (hasLink g l) × T (startsAt r u l) × (x ≡ farEnd r l)
-far-from g r u x m = ?
+unfolding farEnds
+far-from g r u x m =
+    let l = map-from (farEnd r) (keep (startsAt r u) (g .links)) m in
+    let k = keep-from (startsAt r u) (g .links) (l .1) in
+    (l .0, link-has g (l .0) (k .0), k .1, l .2)
+
+-- what a link of a role from u has
+starts : (r u : ℕ) (l : Link) → T (startsAt r u l) → (l .relationship ≡ relationshipOf r) × (nearEnd r l ≡ u)
+starts r u l s = let h = and-yes (eqb (l .relationship) (relationshipOf r)) (eqb (nearEnd r l) u) s in (eqb-yes (h .0), eqb-yes (h .1))
 
 pub far-ends-ascend : (S : Schema) (g : Register) → RegisterFits S g → (r u : ℕ) → Ascending _<_ (farEnds g r u)
-far-ends-ascend S g f r u = ?
+unfolding farEnds
+far-ends-ascend S g f r u =
+    ascending-map (farEnd r) (Before linkKey) _<_ (keep (startsAt r u) (g .links))
+    (λ x y m n. lower x y (starts r u x (keep-from (startsAt r u) (g .links) m .1)) (starts r u y (keep-from (startsAt r u) (g .links) n .1)))
+    (ascending-keep (Before linkKey) (startsAt r u) (g .links) (f .links-ascend))
+  where
+    by-end : (x y : Link) (b : Bool) → cond b (x .source) (x .target) ≡ cond b (y .source) (y .target) → T (before (x .source ∷ x .target ∷ []) (y .source ∷ y .target ∷ [])) → cond b (x .target) (x .source) < cond b (y .target) (y .source)
+    by-end x y true e t = before-one (x .target) (y .target) (before-last (x .source) (y .source) (x .target ∷ []) (y .target ∷ []) e t)
+    by-end x y false e t = before-first (x .source) (y .source) (x .target) (y .target) e t
+    lower : (x y : Link) → (x .relationship ≡ relationshipOf r) × (nearEnd r x ≡ u) → (y .relationship ≡ relationshipOf r) × (nearEnd r y ≡ u) → Before linkKey x y → farEnd r x < farEnd r y
+    lower x y p q t =
+        by-end x y (forward r) (p .1 ∙ sym (q .1))
+        (before-last (x .relationship) (y .relationship) (x .source ∷ x .target ∷ []) (y .source ∷ y .target ∷ []) (p .0 ∙ sym (q .0)) t)
 
 -- the objects at the ends of a link are there and of the ends' types
+abbrev pub EndsUnder : Schema → Register → Link → Type 0
+EndsUnder S g l = T (isUnder S g (l .source) (sourceType S (l .relationship))) × T (isUnder S g (l .target) (targetType S (l .relationship)))
+
+pub link-parts : (S : Schema) (g : Register) (l : Link) → T (linkFits S g l) → T (knownRelationship S (l .relationship)) × EndsUnder S g l
+unfolding linkFits
+link-parts S g l t =
+    let source = isUnder S g (l .source) (sourceType S (l .relationship)) in
+    let whole = and-yes (knownRelationship S (l .relationship) && source) (isUnder S g (l .target) (targetType S (l .relationship))) t in
+    let head = and-yes (knownRelationship S (l .relationship)) source (whole .0) in
+    (head .0, (head .1, whole .1))
+
+pub link-whole : (S : Schema) (g : Register) (l : Link) → T (knownRelationship S (l .relationship)) → EndsUnder S g l → T (linkFits S g l)
+unfolding linkFits
+link-whole S g l known e =
+    let source = isUnder S g (l .source) (sourceType S (l .relationship)) in
+    yes-and (knownRelationship S (l .relationship) && source) (isUnder S g (l .target) (targetType S (l .relationship)))
+    (yes-and (knownRelationship S (l .relationship)) source known (e .0)) (e .1)
+
 pub far-under : (S : Schema) (g : Register) → RegisterFits S g → (r u : ℕ) (l : Link) → T (hasLink g l) → T (startsAt r u l) → T (isUnder S g (farEnd r l) (farType S r))
-far-under S g f r u l h s = ?
+unfolding farType
+far-under S g f r u l h s = rw (← starts r u l s .0) (step (forward r) (link-parts S g l (f .links-fit l (link-in g l h)) .1))
+  where
+    step : (b : Bool) → EndsUnder S g l → T (isUnder S g (cond b (l .target) (l .source)) (cond b (targetType S (l .relationship)) (sourceType S (l .relationship))))
+    step true e = e .1
+    step false e = e .0
 
 pub near-present : (S : Schema) (g : Register) → RegisterFits S g → (r u : ℕ) (l : Link) → T (hasLink g l) → T (startsAt r u l) → T (present g u)
-near-present S g f r u l h s = ?
+near-present S g f r u l h s = subst (λ x. T (present g x)) (starts r u l s .1) (step (forward r) (link-parts S g l (f .links-fit l (link-in g l h)) .1))
+  where
+    step : (b : Bool) → EndsUnder S g l → T (present g (cond b (l .source) (l .target)))
+    step true e = under-present S g (l .source) (sourceType S (l .relationship)) (e .0)
+    step false e = under-present S g (l .target) (targetType S (l .relationship)) (e .1)

@@ -81,10 +81,11 @@ outcomeOf k g c =
     let answer = firstBroken k (c .end) pairs in
     record { answer = answer; pairs = pairs; register = registerLeft answer g (c .end) }
 
--- "A batch check answers by the listed pairs alone, the first of them broken at the end, else accepted, whatever held before";
--- a refusal lists nothing and leaves the register as it was.
+-- a refusal lists nothing and leaves the register as it was
+unfoldable pub outcomeUnless : Option Refusal → Register → Outcome → Outcome
+outcomeUnless none before outcome = outcome
+outcomeUnless (some r) before outcome = record { answer = refused (r .number) (r .place); pairs = []; register = before }
+
+-- "A batch check answers by the listed pairs alone, the first of them broken at the end, else accepted, whatever held before"
 unfoldable pub batchCheck : Book → Lent → Register → List Event → Outcome
-batchCheck k lent g es =
-    elim (checkRefusal k lent g es) [
-        none ↦ outcomeOf k g (changeBy (k .schema) g es)
-      | some r ↦ record { answer = refused (r .number) (r .place); pairs = []; register = g } ]
+batchCheck k lent g es = outcomeUnless (checkRefusal k lent g es) g (outcomeOf k g (changeBy (k .schema) g es))

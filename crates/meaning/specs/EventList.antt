@@ -1,13 +1,13 @@
 -- Document 01, "Event list of a rule": the same rules without objects, and when a listed event type occurs.
 use Prim.Native.Nat.{ℕ}
-use mathlib.Core.Bool.{Bool, true, false, _||_, cond}
+use mathlib.Core.Bool.{Bool, true, false, _&&_, cond}
 use mathlib.Core.List.{List, [], _∷_, _++_, foldr}
 use lib.Dec.{eqb}
 use Rattle.meaning.specs.Lists.{any, place}
 use Rattle.meaning.specs.Schema.{Schema, hasParent, relationshipOf}
 use Rattle.meaning.specs.Register.{isUnder}
 use Rattle.meaning.specs.Forms.{Sort, Form, compare, negate, connect, quantify, kind, num, cell, size, sum, combine, role, all, select, bind, variable, memberType, Rule}
-use Rattle.meaning.specs.Reach.{Change, someStep, joins, parts, sets, insertsInto, specialisesInto, deletesFrom, generalisesFrom, Direction, up, down, same, reversed, either, through, leftOf, rightOf, firstPart, secondPart, sourceOf, secondTerm, quiet}
+use Rattle.meaning.specs.Reach.{Change, someStep, subject, linkNamed, joins, parts, sets, insertsInto, specialisesInto, deletesFrom, generalisesFrom, Direction, up, down, same, reversed, either, through, leftOf, rightOf, firstPart, secondPart, sourceOf, secondTerm, quiet}
 
 -- What a rule lists: a kind of event with the type, the type and cell, or the relationship that it names.
 pub data EventType : Type 0 where
@@ -72,13 +72,13 @@ eventList S r = foldr (place wordsOf) [] (lists S (r .body) (r .context ∷ []) 
 -- type its object is under at the end, with its cell; a join or part for its relationship. A listed event type occurs when an
 -- event of its kind in the batch counts for what it names."
 unfoldable pub occurs : Change → EventType → Bool
-occurs c (insertOf t) = someStep c (insertsInto (λ id. true) (c .schema) t)
-occurs c (deleteOf t) = someStep c (deletesFrom (λ id. true) (c .schema) t)
-occurs c (setOf t k) = someStep c (λ g. sets (λ id. isUnder (c .schema) (c .end) id t) k)
-occurs c (joinOf r) = someStep c (λ g. joins (λ l. eqb (l .relationship) r))
-occurs c (partOf r) = someStep c (λ g. parts (λ l. eqb (l .relationship) r))
-occurs c (specialOf t) = someStep c (specialisesInto (λ id. true) (c .schema) t)
-occurs c (generalOf t) = someStep c (generalisesFrom (λ id. true) (c .schema) t)
+occurs c (insertOf t) = someStep c (insertsInto (c .schema) t)
+occurs c (deleteOf t) = someStep c (deletesFrom (c .schema) t)
+occurs c (setOf t k) = someStep c (λ g e. sets k e && isUnder (c .schema) (c .end) (subject e) t)
+occurs c (joinOf r) = someStep c (λ g e. joins e && eqb ((linkNamed e) .relationship) r)
+occurs c (partOf r) = someStep c (λ g e. parts e && eqb ((linkNamed e) .relationship) r)
+occurs c (specialOf t) = someStep c (specialisesInto (c .schema) t)
+occurs c (generalOf t) = someStep c (generalisesFrom (c .schema) t)
 
 -- "The rules a batch touches": a listed event type occurs.
 unfoldable pub touched : Change → Rule → Bool

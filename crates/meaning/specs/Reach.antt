@@ -7,7 +7,7 @@ use lib.Dec.{eqb}
 use lib.ListN.{getElem?}
 use Rattle.meaning.specs.Lists.{any, keep, holds}
 use Rattle.meaning.specs.Schema.{Schema, under}
-use Rattle.meaning.specs.Register.{Link, Register, isUnder, instances, hasLink, startsAt, sameLink}
+use Rattle.meaning.specs.Register.{Link, Register, isUnder, instances, hasLink, startsAt}
 use Rattle.meaning.specs.Forms.{Sort, truth, collection, Comparison, le, lt, eq, ne, ge, gt, Connective, and, or, xor, implies, Quantifier, forall, exists, Arithmetic, add, sub, Form, compare, negate, connect, quantify, kind, num, cell, size, sum, combine, role, all, select, bind, variable, Rule, Book}
 use Rattle.meaning.specs.Meaning.{meaning}
 use Rattle.meaning.specs.Events.{Event, insert, delete, set, join, part, special, general, linkOf, apply, after}
@@ -29,77 +29,97 @@ unfoldable pub stepsOf : Schema → Register → List Event → List Step
 stepsOf S g [] = []
 stepsOf S g (e ∷ es) = record { event = e; met = g } ∷ stepsOf S (apply S e g) es
 
-unfoldable pub changeBy : Schema → Register → List Event → Change
+abbrev pub changeBy : Schema → Register → List Event → Change
 changeBy S g es = record { schema = S; steps = stepsOf S g es; end = after S g es }
 
--- ---- what a step did. A test on the link that it names, the object that it is about, or a type that the object entered or left.
+-- ---- what an event did
 
-abbrev pub joins : (Link → Bool) → Event → Bool
-joins p (insert id t) = false
-joins p (delete id) = false
-joins p (set id k v) = false
-joins p (join r a b) = p (linkOf r a b)
-joins p (part r a b) = false
-joins p (special id t) = false
-joins p (general id t) = false
+-- the object that an event is about; a join or part is about none, and no id is 0
+abbrev pub subject : Event → ℕ
+subject (insert id t) = id
+subject (delete id) = id
+subject (set id j v) = id
+subject (join r a b) = 0
+subject (part r a b) = 0
+subject (special id t) = id
+subject (general id t) = id
 
-abbrev pub parts : (Link → Bool) → Event → Bool
-parts p (insert id t) = false
-parts p (delete id) = false
-parts p (set id k v) = false
-parts p (join r a b) = false
-parts p (part r a b) = p (linkOf r a b)
-parts p (special id t) = false
-parts p (general id t) = false
+-- the link that a join or part names
+abbrev pub linkNamed : Event → Link
+linkNamed (insert id t) = linkOf 0 0 0
+linkNamed (delete id) = linkOf 0 0 0
+linkNamed (set id j v) = linkOf 0 0 0
+linkNamed (join r a b) = linkOf r a b
+linkNamed (part r a b) = linkOf r a b
+linkNamed (special id t) = linkOf 0 0 0
+linkNamed (general id t) = linkOf 0 0 0
 
-abbrev pub sets : (ℕ → Bool) → ℕ → Event → Bool
-sets p k (insert id t) = false
-sets p k (delete id) = false
-sets p k (set id j v) = p id && eqb j k
-sets p k (join r a b) = false
-sets p k (part r a b) = false
-sets p k (special id t) = false
-sets p k (general id t) = false
+abbrev pub joins : Event → Bool
+joins (insert id t) = false
+joins (delete id) = false
+joins (set id j v) = false
+joins (join r a b) = true
+joins (part r a b) = false
+joins (special id t) = false
+joins (general id t) = false
+
+abbrev pub parts : Event → Bool
+parts (insert id t) = false
+parts (delete id) = false
+parts (set id j v) = false
+parts (join r a b) = false
+parts (part r a b) = true
+parts (special id t) = false
+parts (general id t) = false
+
+abbrev pub sets : ℕ → Event → Bool
+sets k (insert id t) = false
+sets k (delete id) = false
+sets k (set id j v) = eqb j k
+sets k (join r a b) = false
+sets k (part r a b) = false
+sets k (special id t) = false
+sets k (general id t) = false
 
 -- An insert brings its object into every type that it is now under.
-abbrev pub insertsInto : (ℕ → Bool) → Schema → ℕ → Register → Event → Bool
-insertsInto p S t g (insert id u) = p id && under S u t
-insertsInto p S t g (delete id) = false
-insertsInto p S t g (set id k v) = false
-insertsInto p S t g (join r a b) = false
-insertsInto p S t g (part r a b) = false
-insertsInto p S t g (special id u) = false
-insertsInto p S t g (general id u) = false
+abbrev pub insertsInto : Schema → ℕ → Register → Event → Bool
+insertsInto S t g (insert id u) = under S u t
+insertsInto S t g (delete id) = false
+insertsInto S t g (set id j v) = false
+insertsInto S t g (join r a b) = false
+insertsInto S t g (part r a b) = false
+insertsInto S t g (special id u) = false
+insertsInto S t g (general id u) = false
 
 -- A special brings its object into the types that it is now under and was not under before.
-abbrev pub specialisesInto : (ℕ → Bool) → Schema → ℕ → Register → Event → Bool
-specialisesInto p S t g (insert id u) = false
-specialisesInto p S t g (delete id) = false
-specialisesInto p S t g (set id k v) = false
-specialisesInto p S t g (join r a b) = false
-specialisesInto p S t g (part r a b) = false
-specialisesInto p S t g (special id u) = p id && (under S u t && not (isUnder S g id t))
-specialisesInto p S t g (general id u) = false
+abbrev pub specialisesInto : Schema → ℕ → Register → Event → Bool
+specialisesInto S t g (insert id u) = false
+specialisesInto S t g (delete id) = false
+specialisesInto S t g (set id j v) = false
+specialisesInto S t g (join r a b) = false
+specialisesInto S t g (part r a b) = false
+specialisesInto S t g (special id u) = under S u t && not (isUnder S g id t)
+specialisesInto S t g (general id u) = false
 
 -- A delete takes its object out of every type that it was under.
-abbrev pub deletesFrom : (ℕ → Bool) → Schema → ℕ → Register → Event → Bool
-deletesFrom p S t g (insert id u) = false
-deletesFrom p S t g (delete id) = p id && isUnder S g id t
-deletesFrom p S t g (set id k v) = false
-deletesFrom p S t g (join r a b) = false
-deletesFrom p S t g (part r a b) = false
-deletesFrom p S t g (special id u) = false
-deletesFrom p S t g (general id u) = false
+abbrev pub deletesFrom : Schema → ℕ → Register → Event → Bool
+deletesFrom S t g (insert id u) = false
+deletesFrom S t g (delete id) = isUnder S g id t
+deletesFrom S t g (set id j v) = false
+deletesFrom S t g (join r a b) = false
+deletesFrom S t g (part r a b) = false
+deletesFrom S t g (special id u) = false
+deletesFrom S t g (general id u) = false
 
 -- A general takes its object out of the types that it was under and is not under now.
-abbrev pub generalisesFrom : (ℕ → Bool) → Schema → ℕ → Register → Event → Bool
-generalisesFrom p S t g (insert id u) = false
-generalisesFrom p S t g (delete id) = false
-generalisesFrom p S t g (set id k v) = false
-generalisesFrom p S t g (join r a b) = false
-generalisesFrom p S t g (part r a b) = false
-generalisesFrom p S t g (special id u) = false
-generalisesFrom p S t g (general id u) = p id && (isUnder S g id t && not (under S u t))
+abbrev pub generalisesFrom : Schema → ℕ → Register → Event → Bool
+generalisesFrom S t g (insert id u) = false
+generalisesFrom S t g (delete id) = false
+generalisesFrom S t g (set id j v) = false
+generalisesFrom S t g (join r a b) = false
+generalisesFrom S t g (part r a b) = false
+generalisesFrom S t g (special id u) = false
+generalisesFrom S t g (general id u) = isUnder S g id t && not (under S u t)
 
 -- Some step of the batch did so. An object is known by its id, whatever came before a delete of it.
 unfoldable pub someStep : Change → (Register → Event → Bool) → Bool
@@ -171,27 +191,26 @@ secondTerm sub = reversed
 -- "A role from object u has a *gain* if a join named such a link and it is there at the end. It has a *loss* if a part named
 -- one, back again or not."
 unfoldable pub roleMoves : Change → ℕ → ℕ → Direction → Bool
-roleMoves c r u up = someStep c (λ g. joins (λ l. startsAt r u l && hasLink (c .end) l))
-roleMoves c r u down = someStep c (λ g. parts (startsAt r u))
+roleMoves c r u up = someStep c (λ g e. joins e && (startsAt r u (linkNamed e) && hasLink (c .end) (linkNamed e)))
+roleMoves c r u down = someStep c (λ g e. parts e && startsAt r u (linkNamed e))
 
 -- "`all t`: gain if an insert or special brought in an object that is under t at the end; loss if a delete or general took one
 -- out."
 unfoldable pub allMoves : Change → ℕ → Direction → Bool
 allMoves c t up =
     someStep c (λ g e.
-      insertsInto (λ id. isUnder (c .schema) (c .end) id t) (c .schema) t g e
-      || specialisesInto (λ id. isUnder (c .schema) (c .end) id t) (c .schema) t g e)
-allMoves c t down =
-    someStep c (λ g e. deletesFrom (λ id. true) (c .schema) t g e || generalisesFrom (λ id. true) (c .schema) t g e)
+      (insertsInto (c .schema) t g e || specialisesInto (c .schema) t g e) && isUnder (c .schema) (c .end) (subject e) t)
+allMoves c t down = someStep c (λ g e. deletesFrom (c .schema) t g e || generalisesFrom (c .schema) t g e)
 
 -- "`cell`: may rise or fall if a set named that object and cell."
 unfoldable pub cellMoves : Change → ℕ → ℕ → Bool
-cellMoves c u k = someStep c (λ g. sets (λ id. eqb id u) k)
+cellMoves c u k = someStep c (λ g e. sets k e && eqb (subject e) u)
 
 -- "`kind v t`: false if a general took that object out of t, true if a special brought it in and it is there at the end."
 unfoldable pub kindMoves : Change → ℕ → ℕ → Direction → Bool
-kindMoves c u t up = someStep c (specialisesInto (λ id. eqb id u) (c .schema) t) && isUnder (c .schema) (c .end) u t
-kindMoves c u t down = someStep c (generalisesFrom (λ id. eqb id u) (c .schema) t)
+kindMoves c u t up =
+    someStep c (λ g e. specialisesInto (c .schema) t g e && eqb (subject e) u) && isUnder (c .schema) (c .end) u t
+kindMoves c u t down = someStep c (λ g e. generalisesFrom (c .schema) t g e && eqb (subject e) u)
 
 -- ---- the forms
 
@@ -255,10 +274,10 @@ quiet body = quietly body true
 -- ---- selection
 
 unfoldable pub inserted : Change → ℕ → ℕ → Bool
-inserted c s t = someStep c (insertsInto (λ id. eqb id s) (c .schema) t)
+inserted c s t = someStep c (λ g e. insertsInto (c .schema) t g e && eqb (subject e) s)
 
 unfoldable pub specialised : Change → ℕ → ℕ → Bool
-specialised c s t = someStep c (specialisesInto (λ id. eqb id s) (c .schema) t)
+specialised c s t = someStep c (λ g e. specialisesInto (c .schema) t g e && eqb (subject e) s)
 
 -- "Pair (rule, s) is selected when s is under the context type at the end and: the body may turn false at s; or an insert
 -- brought s into the context type and the body is not quiet; or a special did."

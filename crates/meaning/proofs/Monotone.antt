@@ -1,0 +1,132 @@
+-- What document 01's reach rules say of each operator: where nothing moves its parts, the value before and the value after are
+-- in order. The comparisons are in Comparisons.antt.
+use Prim.Native.Nat.{ℕ, _<_}
+use mathlib.Core.Path.{_≡_, ap, _∙_, subst}
+use mathlib.Core.Logic.{⊎-elim, ∥∥₁-elim}
+use mathlib.Core.Bool.{Bool, _&&_, _||_, not}
+use mathlib.Core.List.{List, map, map-congr-left}
+use native.Mathlib.Nat.{lt-irrefl, lt-trans}
+use lib.Dec.{T}
+use lib.ListN.{length}
+use lib.IntN.{ℤ, pos, ℤ-set}
+use lib.Signed.{_≤ℤ_, ≤ℤ-refl}
+use mir.Facts.{and-yes, yes-and, or-yes, or-no, T-not, not-T}
+use Rattle.meaning.specs.Lists.{keep}
+use Rattle.meaning.specs.Forms.{Sort, truth, number, collection, Connective, and, or, xor, implies, Quantifier, forall, exists, Arithmetic, add, sub}
+use Rattle.meaning.specs.Meaning.{Value, connected, quantified, combined, total}
+use Rattle.meaning.specs.Reach.{Direction, up, down, opposite, Passing, same, reversed, either, through, firstPart, secondPart, sourceOf, secondTerm}
+use Rattle.meaning.proofs.Lists.{_∈_, or-left, or-right, any-of, any-cases, every-of, every-at, keep-in, keep-from, Ascending, ascending-unique, ascending-shorter}
+use Rattle.meaning.proofs.Integers.{pos-mono, add-mono, sub-mono}
+
+-- One order for each sort: false ≤ true, the order of ℤ, inclusion.
+abbrev pub Below : (s : Sort) → Value s → Value s → Type 0
+Below truth a b = T a → T b
+Below number a b = a ≤ℤ b
+Below collection a b = (x : ℕ) → x ∈ a → x ∈ b
+
+-- The value before and the value after, where the form does not move in direction d: what is not moved down has not fallen,
+-- what is not moved up has not risen.
+abbrev pub Unmoved : (s : Sort) → Direction → Value s → Value s → Type 0
+Unmoved s down before after = Below s before after
+Unmoved s up before after = Below s after before
+
+-- What is known of a part through which nothing moves the form in direction d.
+abbrev pub Through : Passing → (Direction → Type 0) → Direction → Type 0
+Through same P d = P d
+Through reversed P d = P (opposite d)
+Through either P d = P up × P down
+
+-- nothing moves through a part, as a test and as what follows from it
+pub through-none : (p : Passing) (moved : Direction → Bool) (P : Direction → Type 0) (d : Direction) → ((e : Direction) → T (not (moved e)) → P e) → T (not (through _||_ p moved d)) → Through p P d
+through-none same moved P d h t = h d t
+through-none reversed moved P d h t = h (opposite d) t
+through-none either moved P d h t = let r = or-no (moved up) (moved down) t in (h up (r .0), h down (r .1))
+
+-- Not moved up is not moved down with before and after exchanged: each law below is proved for down alone.
+pub exchanged : (s : Sort) (p : Passing) (x y : Value s) → Through p (λ e. Unmoved s e x y) up → Through p (λ e. Unmoved s e y x) down
+exchanged s same x y h = h
+exchanged s reversed x y h = h
+exchanged s either x y h = (h .1, h .0)
+
+below-refl : (s : Sort) (x : Value s) → Below s x x
+below-refl truth x = λ t. t
+below-refl number x = ≤ℤ-refl x
+below-refl collection x = λ y m. m
+
+pub unmoved-refl : (s : Sort) (d : Direction) (x : Value s) → Unmoved s d x x
+unmoved-refl s up x = below-refl s x
+unmoved-refl s down x = below-refl s x
+
+-- ---- truths
+
+pub not-below : (a b : Bool) → Below truth a b → Below truth (not b) (not a)
+not-below a b h t = not-T a (λ u. T-not b (h u) t)
+
+and-below : (a a′ b b′ : Bool) → Below truth a a′ → Below truth b b′ → Below truth (a && b) (a′ && b′)
+and-below a a′ b b′ h k t = let r = and-yes a b t in yes-and a′ b′ (h (r .0)) (k (r .1))
+
+or-below : (a a′ b b′ : Bool) → Below truth a a′ → Below truth b b′ → Below truth (a || b) (a′ || b′)
+or-below a a′ b b′ h k t = ⊎-elim (λ u. or-left a′ b′ (h u)) (λ u. or-right a′ b′ (k u)) (or-yes a b t)
+
+pub negation-unmoved : (d : Direction) (a a′ : Bool) → Unmoved truth (opposite d) a a′ → Unmoved truth d (not a) (not a′)
+negation-unmoved up a a′ h = not-below a a′ h
+negation-unmoved down a a′ h = not-below a′ a h
+
+connective-below : (o : Connective) (a a′ b b′ : Bool) → Through (firstPart o) (λ e. Unmoved truth e a a′) down → Through (secondPart o) (λ e. Unmoved truth e b b′) down → Below truth (connected o a b) (connected o a′ b′)
+unfolding firstPart secondPart connected
+connective-below and a a′ b b′ h k = and-below a a′ b b′ h k
+connective-below or a a′ b b′ h k = or-below a a′ b b′ h k
+connective-below xor a a′ b b′ h k =
+    or-below (a && not b) (a′ && not b′) (not a && b) (not a′ && b′)
+    (and-below a a′ (not b) (not b′) (h .1) (not-below b′ b (k .0)))
+    (and-below (not a) (not a′) b b′ (not-below a′ a (h .0)) (k .1))
+connective-below implies a a′ b b′ h k = or-below (not a) (not a′) b b′ (not-below a′ a h) k
+
+pub connective-unmoved : (o : Connective) (d : Direction) (a a′ b b′ : Bool) → Through (firstPart o) (λ e. Unmoved truth e a a′) d → Through (secondPart o) (λ e. Unmoved truth e b b′) d → Unmoved truth d (connected o a b) (connected o a′ b′)
+connective-unmoved o up a a′ b b′ h k = connective-below o a′ a b′ b (exchanged truth (firstPart o) a a′ h) (exchanged truth (secondPart o) b b′ k)
+connective-unmoved o down a a′ b b′ h k = connective-below o a a′ b b′ h k
+
+quantifier-below : (q : Quantifier) (p p′ : ℕ → Bool) (l l′ : List ℕ) → Through (sourceOf q) (λ e. Unmoved collection e l l′) down → ((x : ℕ) → x ∈ l → x ∈ l′ → Below truth (p x) (p′ x)) → Below truth (quantified q p l) (quantified q p′ l′)
+unfolding sourceOf quantified
+quantifier-below forall p p′ l l′ s h t = every-of p′ l′ (λ x m. h x (s x m) m (every-at p t (s x m)))
+quantifier-below exists p p′ l l′ s h t =
+    let r = any-cases p l t in
+    let m : r .0 ∈ l′ = s (r .0) (r .1) in
+    any-of p′ m (h (r .0) (r .1) m (r .2))
+
+pub quantifier-unmoved : (q : Quantifier) (d : Direction) (p p′ : ℕ → Bool) (l l′ : List ℕ) → Through (sourceOf q) (λ e. Unmoved collection e l l′) d → ((x : ℕ) → x ∈ l → x ∈ l′ → Unmoved truth d (p x) (p′ x)) → Unmoved truth d (quantified q p l) (quantified q p′ l′)
+quantifier-unmoved q up p p′ l l′ s h = quantifier-below q p′ p l′ l (exchanged collection (sourceOf q) l l′ s) (λ x m n. h x n m)
+quantifier-unmoved q down p p′ l l′ s h = quantifier-below q p p′ l l′ s h
+
+-- ---- collections
+
+select-below : (p p′ : ℕ → Bool) (l l′ : List ℕ) → Below collection l l′ → ((x : ℕ) → x ∈ l → x ∈ l′ → Below truth (p x) (p′ x)) → Below collection (keep p l) (keep p′ l′)
+select-below p p′ l l′ s h x m = let r = keep-from p l m in keep-in p′ (s x (r .0)) (h x (r .0) (s x (r .0)) (r .1))
+
+pub select-unmoved : (d : Direction) (p p′ : ℕ → Bool) (l l′ : List ℕ) → Unmoved collection d l l′ → ((x : ℕ) → x ∈ l → x ∈ l′ → Unmoved truth d (p x) (p′ x)) → Unmoved collection d (keep p l) (keep p′ l′)
+select-unmoved up p p′ l l′ s h = select-below p′ p l′ l s (λ x m n. h x n m)
+select-unmoved down p p′ l l′ s h = select-below p p′ l l′ s h
+
+-- ---- numbers
+
+pub arithmetic-unmoved : (o : Arithmetic) (d : Direction) (a a′ b b′ : ℤ) → Unmoved number d a a′ → Through (secondTerm o) (λ e. Unmoved number e b b′) d → Unmoved number d (combined o a b) (combined o a′ b′)
+unfolding secondTerm combined
+arithmetic-unmoved add up a a′ b b′ h k = add-mono h k
+arithmetic-unmoved add down a a′ b b′ h k = add-mono h k
+arithmetic-unmoved sub up a a′ b b′ h k = sub-mono h k
+arithmetic-unmoved sub down a a′ b b′ h k = sub-mono h k
+
+size-below : (l l′ : List ℕ) → Ascending _<_ l → Ascending _<_ l′ → Below collection l l′ → Below number (pos (length l)) (pos (length l′))
+size-below l l′ a a′ s = pos-mono (ascending-shorter _<_ lt-irrefl (λ x y z. lt-trans) l l′ a a′ s)
+
+pub size-unmoved : (d : Direction) (l l′ : List ℕ) → Ascending _<_ l → Ascending _<_ l′ → Unmoved collection d l l′ → Unmoved number d (pos (length l)) (pos (length l′))
+size-unmoved up l l′ a a′ s = size-below l′ l a′ a s
+size-unmoved down l l′ a a′ s = size-below l l′ a a′ s
+
+pub sum-unmoved : (d : Direction) (f f′ : ℕ → ℤ) (l l′ : List ℕ) → Ascending _<_ l → Ascending _<_ l′ → Through either (λ e. Unmoved collection e l l′) d → ((x : ℕ) → x ∈ l → x ∈ l′ → f x ≡ f′ x) → Unmoved number d (total (map f l)) (total (map f′ l′))
+sum-unmoved d f f′ l l′ a a′ s h = subst (λ k. Unmoved number d (total (map f l)) (total k)) terms (unmoved-refl number d (total (map f l)))
+  where
+    terms : map f l ≡ map f′ l′
+    terms =
+        map-congr-left (λ x t. ∥∥₁-elim t (ℤ-set (f x) (f′ x)) (λ m. h x m (s .1 x m)))
+        ∙ ap (map f′) (ascending-unique _<_ lt-irrefl (λ x y z. lt-trans) l l′ a a′ (s .1) (s .0))

@@ -1,0 +1,120 @@
+-- An object that the batch inserted has no links but joined ones. So where no role of it gains, a quiet body is true there.
+use Prim.Native.Nat.{ℕ}
+use mathlib.Core.Path.{_≡_, refl, ap, subst}
+use mathlib.Core.Logic.{_⊎_, ⊎-elim}
+use mathlib.Core.Bool.{Bool, true, false, _&&_, _||_, not}
+use mathlib.Core.List.{List, [], _∷_}
+use lib.Dec.{T, eqb, eqb→eq}
+use lib.ListN.{length}
+use mir.Facts.{and-yes, yes-and, or-yes, or-no, T-not, not-T}
+use Rattle.meaning.specs.Lists.{any, every}
+use Rattle.meaning.specs.Schema.{Schema}
+use Rattle.meaning.specs.Register.{Link, Register, present, hasLink, startsAt, farEnds}
+use Rattle.meaning.specs.Forms.{truth, collection, Connective, and, or, xor, implies, Quantifier, forall, exists, Form, compare, negate, connect, quantify, kind, role, all, select, variable}
+use Rattle.meaning.specs.Meaning.{connected, quantified, meaning}
+use Rattle.meaning.specs.Events.{Event, Lent, after}
+use Rattle.meaning.specs.Reach.{Change, changeBy, someStep, subject, insertsInto, Direction, up, down, opposite, through, firstPart, secondPart, sourceOf, roleMoves, moves, roleOfSelf, quietQuantifier, quietConnective, quietly, inserted}
+use Rattle.meaning.proofs.Lists.{_∈_, or-left, or-right, no-or, not-and-left, not-and-right, not-not, any-cases, every-of}
+use Rattle.meaning.proofs.Schemas.{SchemaFits}
+use Rattle.meaning.proofs.Registers.{RegisterFits, far-from, near-present}
+use Rattle.meaning.proofs.Effects.{insert-absent}
+use Rattle.meaning.proofs.Steps.{Throughout, EachStep, Unrefused, throughout-map, throughout-both, each-side, each-both, each-map, step-none, fits-throughout, each-fit}
+use Rattle.meaning.proofs.Batches.{about, no-gain}
+
+-- the value is w
+abbrev Is : Bool → Bool → Type 0
+Is true b = T b
+Is false b = T (not b)
+
+-- the direction away from w
+abbrev against : Bool → Direction
+against true = down
+against false = up
+
+-- what makes a connective quietly true or quietly false makes its value so
+connective-quiet : (o : Connective) (w : Bool) (a b : Bool) (qa qb : Bool → Bool) (ma mb : Direction → Bool) → ((v : Bool) → T (qa v) → T (not (ma (against v))) → Is v a) → ((v : Bool) → T (qb v) → T (not (mb (against v))) → Is v b) → T (quietConnective o w qa qb) → T (not (through _||_ (firstPart o) ma (against w) || through _||_ (secondPart o) mb (against w))) → Is w (connected o a b)
+unfolding quietConnective connected firstPart secondPart
+connective-quiet and true a b qa qb ma mb f g q n =
+    let qs = and-yes (qa true) (qb true) q in let ns = or-no (ma down) (mb down) n in
+    yes-and a b (f true (qs .0) (ns .0)) (g true (qs .1) (ns .1))
+connective-quiet and false a b qa qb ma mb f g q n =
+    let ns = or-no (ma up) (mb up) n in
+    ⊎-elim (λ h. not-and-left a b (f false h (ns .0))) (λ h. not-and-right a b (g false h (ns .1))) (or-yes (qa false) (qb false) q)
+connective-quiet or true a b qa qb ma mb f g q n =
+    let ns = or-no (ma down) (mb down) n in
+    ⊎-elim (λ h. or-left a b (f true h (ns .0))) (λ h. or-right a b (g true h (ns .1))) (or-yes (qa true) (qb true) q)
+connective-quiet or false a b qa qb ma mb f g q n =
+    let qs = and-yes (qa false) (qb false) q in let ns = or-no (ma up) (mb up) n in
+    no-or a b (f false (qs .0) (ns .0)) (g false (qs .1) (ns .1))
+connective-quiet xor w a b qa qb ma mb f g q n = absurd q
+connective-quiet implies true a b qa qb ma mb f g q n =
+    let ns = or-no (ma up) (mb down) n in
+    ⊎-elim (λ h. or-left (not a) b (f false h (ns .0))) (λ h. or-right (not a) b (g true h (ns .1))) (or-yes (qa false) (qb true) q)
+connective-quiet implies false a b qa qb ma mb f g q n =
+    let qs = and-yes (qa true) (qb false) q in let ns = or-no (ma down) (mb up) n in
+    no-or (not a) b (not-not a (f true (qs .0) (ns .0))) (g false (qs .1) (ns .1))
+
+-- over nothing forall is true and exists is false
+quantifier-quiet : (q : Quantifier) (w : Bool) (p : ℕ → Bool) (l : List ℕ) → T (quietQuantifier q w) → ((x : ℕ) → ¬ (x ∈ l)) → Is w (quantified q p l)
+unfolding quietQuantifier quantified
+quantifier-quiet forall true p l h e = every-of p l (λ x m. absurd (e x m))
+quantifier-quiet forall false p l h e = absurd h
+quantifier-quiet exists true p l h e = absurd h
+quantifier-quiet exists false p l h e = not-T (any p l) (λ t. let r = any-cases p l t in e (r .0) (r .1))
+
+-- what turns a quiet quantifier is a gain of its collection
+quantifier-gain : (q : Quantifier) (w : Bool) (m : Direction → Bool) → T (quietQuantifier q w) → T (not (through _||_ (sourceOf q) m (against w))) → T (not (m up))
+unfolding quietQuantifier sourceOf
+quantifier-gain forall true m h n = n
+quantifier-gain forall false m h n = absurd h
+quantifier-gain exists true m h n = absurd h
+quantifier-gain exists false m h n = n
+
+negated : (w a : Bool) → Is (not w) a → Is w (not a)
+negated true a h = h
+negated false a h = not-not a h
+
+opposite-against : (w : Bool) → opposite (against w) ≡ against (not w)
+opposite-against true = refl
+opposite-against false = refl
+
+module _ (S : Schema) (schema-fits : SchemaFits S) (lent : Lent) (g : Register) (fits : RegisterFits S g) (es : List Event) (ok : Unrefused S lent g es) (x t : ℕ) (new : T (inserted (changeBy S g es) x t)) where
+  abbrev c : Change
+  c = changeBy S g es
+
+  -- no link of an inserted object was there all the while
+  not-linked : (r : ℕ) (l : Link) → T (startsAt r x l) → ¬ Throughout (λ g′. T (hasLink g′ l)) S g es
+  unfolding inserted
+  not-linked r l s h =
+      T-not (someStep c (about (insertsInto S t) x)) new
+      (step-none S (about (insertsInto S t) x) g es
+       (each-map S _ _ (λ g′ e k. not-T (about (insertsInto S t) x g′ e) (λ i. T-not (present g′ x) (k .1 .0) (insert-absent S schema-fits lent g′ (k .0 .0) e (k .0 .1) x t i))) g es
+        (each-both S _ _ g es (each-fit S schema-fits lent g es fits ok)
+         (each-side S (λ g′. T (present g′ x)) g es
+          (throughout-map S _ _ (λ g′ k. near-present S g′ (k .0) r x l (k .1) s) g es
+           (throughout-both S (RegisterFits S) (λ g′. T (hasLink g′ l)) g es (fits-throughout S schema-fits lent g es fits ok) h))))))
+
+  no-members : (r : ℕ) → T (not (roleMoves c r x up)) → (y : ℕ) → ¬ (y ∈ farEnds (after S g es) r x)
+  no-members r n y m =
+      let f = far-from (after S g es) r x y m in
+      not-linked r (f .0) (f .2) (no-gain S schema-fits lent g fits es ok r x n (f .0) (f .2) (f .1))
+
+  self-empty : (k : Form collection) → T (roleOfSelf k) → T (not (moves c k (x ∷ []) up)) → (y : ℕ) → ¬ (y ∈ meaning S (after S g es) k (x ∷ []))
+  unfolding roleOfSelf moves meaning
+  self-empty (role v r) h n y m =
+      let self : variable (x ∷ []) v ≡ x = ap (variable (x ∷ [])) (eqb→eq v 0 h) in
+      no-members r (subst (λ z. T (not (roleMoves c r z up))) self n) y (subst (λ z. y ∈ farEnds (after S g es) r z) self m)
+  self-empty (all u) h n y m = absurd h
+  self-empty (select k b) h n y m = absurd h
+
+  pub quiet-value : (f : Form truth) (w : Bool) → T (quietly f w) → T (not (moves c f (x ∷ []) (against w))) → Is w (meaning S (after S g es) f (x ∷ []))
+  unfolding quietly moves meaning
+  quiet-value (compare o a b) w q n = absurd q
+  quiet-value (negate a) w q n = negated w _ (quiet-value a (not w) q (subst (λ d. T (not (moves c a (x ∷ []) d))) (opposite-against w) n))
+  quiet-value (connect o a b) w q n =
+      connective-quiet o w _ _ (quietly a) (quietly b) (moves c a (x ∷ [])) (moves c b (x ∷ [])) (quiet-value a) (quiet-value b) q n
+  quiet-value (quantify o k b) w q n =
+      let qs = and-yes (quietQuantifier o w) (roleOfSelf k) q in
+      let ns = or-no (through _||_ (sourceOf o) (moves c k (x ∷ [])) (against w)) _ n in
+      quantifier-quiet o w _ (meaning S (after S g es) k (x ∷ [])) (qs .0) (self-empty k (qs .1) (quantifier-gain o w (moves c k (x ∷ [])) (qs .0) (ns .0)))
+  quiet-value (kind v u) w q n = absurd q

@@ -1,0 +1,134 @@
+-- A batch that is not refused, event by event: what holds of every register on its way, and of every step.
+use Prim.Native.Nat.{ℕ, suc}
+use mathlib.Core.Path.{_≡_, refl, sym, subst, _∙_}
+use mathlib.Core.Bool.{Bool, not, _||_}
+use mathlib.Core.List.{List, [], _∷_}
+use mathlib.Core.Option.{Option, none, some, Option·none-ne-some, Option·some-ne-none}
+use lib.Dec.{T}
+use mir.Facts.{or-no}
+use Rattle.meaning.specs.Lists.{any}
+use Rattle.meaning.specs.Schema.{Schema}
+use Rattle.meaning.specs.Register.{Register, objectFault, linkFault}
+use Rattle.meaning.specs.Events.{Event, Lent, Refusal, apply, after, eventRefusal, refusalFrom, batchRefusal}
+use Rattle.meaning.specs.Reach.{Step, Change, stepsOf, changeBy, someStep}
+use Rattle.meaning.proofs.Lists.{no-or}
+use Rattle.meaning.proofs.Schemas.{SchemaFits}
+use Rattle.meaning.proofs.Registers.{RegisterFits, fits-register}
+use Rattle.meaning.proofs.Effects.{apply-fits}
+
+-- P holds of the register that each event meets, and of the one at the end.
+abbrev pub Throughout : (Register → Type 0) → Schema → Register → List Event → Type 0
+Throughout P S g [] = P g
+Throughout P S g (e ∷ es) = P g × Throughout P S (apply S e g) es
+
+-- Q holds of each event and the register that it meets.
+abbrev pub EachStep : (Register → Event → Type 0) → Schema → Register → List Event → Type 0
+EachStep Q S g [] = Unit {0}
+EachStep Q S g (e ∷ es) = Q g e × EachStep Q S (apply S e g) es
+
+-- no event of the batch is refused
+abbrev pub Unrefused : Schema → Lent → Register → List Event → Type 0
+Unrefused S lent g es = EachStep (λ g′ e. eventRefusal S lent g′ e ≡ none) S g es
+
+refusal-none : (S : Schema) (lent : Lent) (n : ℕ) (g : Register) (es : List Event) → refusalFrom S lent n g es ≡ none → Unrefused S lent g es
+unfolding refusalFrom
+refusal-none S lent n g [] r = tt
+refusal-none S lent n g (e ∷ es) r = step (eventRefusal S lent g e) refl (λ q. refusal-none S lent (suc n) (apply S e g) es q) r
+  where
+    left : Option ℕ → Option Refusal
+    left o =
+        elim o [
+            none ↦ refusalFrom S lent (suc n) (apply S e g) es
+          | some number ↦ some (record { number = number; place = n }) ]
+    step : (o : Option ℕ) → eventRefusal S lent g e ≡ o → (refusalFrom S lent (suc n) (apply S e g) es ≡ none → Unrefused S lent (apply S e g) es) → left o ≡ none → Unrefused S lent g (e ∷ es)
+    step none q below r′ = (q, below r′)
+    step (some number) q below r′ = absurd (Option·some-ne-none _ r′)
+
+pub unrefused : (S : Schema) (lent : Lent) (g : Register) (es : List Event) → batchRefusal S lent g es ≡ none → Unrefused S lent g es
+unfolding batchRefusal
+unrefused S lent g es r = refusal-none S lent 0 g es r
+
+module _ (S : Schema) where
+  pub at-start : (P : Register → Type 0) (g : Register) (es : List Event) → Throughout P S g es → P g
+  at-start P g [] h = h
+  at-start P g (e ∷ es) h = h .0
+
+  pub at-end : (P : Register → Type 0) (g : Register) (es : List Event) → Throughout P S g es → P (after S g es)
+  unfolding after
+  at-end P g [] h = h
+  at-end P g (e ∷ es) h = at-end P (apply S e g) es (h .1)
+
+  pub throughout-map : (P Q : Register → Type 0) → ((g : Register) → P g → Q g) → (g : Register) (es : List Event) → Throughout P S g es → Throughout Q S g es
+  throughout-map P Q f g [] h = f g h
+  throughout-map P Q f g (e ∷ es) h = (f g (h .0), throughout-map P Q f (apply S e g) es (h .1))
+
+  pub throughout-both : (P Q : Register → Type 0) (g : Register) (es : List Event) → Throughout P S g es → Throughout Q S g es → Throughout (λ g′. P g′ × Q g′) S g es
+  throughout-both P Q g [] h k = (h, k)
+  throughout-both P Q g (e ∷ es) h k = ((h .0, k .0), throughout-both P Q (apply S e g) es (h .1) (k .1))
+
+  -- before and after each step
+  pub each-side : (P : Register → Type 0) (g : Register) (es : List Event) → Throughout P S g es → EachStep (λ g′ e. P g′ × P (apply S e g′)) S g es
+  each-side P g [] h = tt
+  each-side P g (e ∷ es) h = ((h .0, at-start P (apply S e g) es (h .1)), each-side P (apply S e g) es (h .1))
+
+  pub each-both : (P Q : Register → Event → Type 0) (g : Register) (es : List Event) → EachStep P S g es → EachStep Q S g es → EachStep (λ g′ e. P g′ e × Q g′ e) S g es
+  each-both P Q g [] h k = tt
+  each-both P Q g (e ∷ es) h k = ((h .0, k .0), each-both P Q (apply S e g) es (h .1) (k .1))
+
+  -- what holds at the start and is kept by each step holds throughout
+  pub forwards : (P : Register → Type 0) (g : Register) (es : List Event) → EachStep (λ g′ e. P g′ → P (apply S e g′)) S g es → P g → Throughout P S g es
+  forwards P g [] h p = p
+  forwards P g (e ∷ es) h p = (p, forwards P (apply S e g) es (h .1) (h .0 p))
+
+  -- what holds at the end and is brought about by no step holds throughout
+  pub backwards : (P : Register → Type 0) (g : Register) (es : List Event) → EachStep (λ g′ e. P (apply S e g′) → P g′) S g es → P (after S g es) → Throughout P S g es
+  unfolding after
+  backwards P g [] h p = p
+  backwards P g (e ∷ es) h p =
+      let below = backwards P (apply S e g) es (h .1) p in
+      (h .0 (at-start P (apply S e g) es below), below)
+
+  pub each-map : (P Q : Register → Event → Type 0) → ((g : Register) (e : Event) → P g e → Q g e) → (g : Register) (es : List Event) → EachStep P S g es → EachStep Q S g es
+  each-map P Q f g [] h = tt
+  each-map P Q f g (e ∷ es) h = (f g e (h .0), each-map P Q f (apply S e g) es (h .1))
+
+  -- what no step changes is the same at the end
+  pub unchanged : {A : Type 0} (f : Register → A) (g : Register) (es : List Event) → EachStep (λ g′ e. f (apply S e g′) ≡ f g′) S g es → f g ≡ f (after S g es)
+  unfolding after
+  unchanged f g [] h = refl
+  unchanged f g (e ∷ es) h = sym (h .0) ∙ unchanged f (apply S e g) es (h .1)
+
+  none-of : (did : Register → Event → Bool) (g : Register) (es : List Event) → T (not (any (λ s. did (s .met) (s .event)) (stepsOf S g es))) → EachStep (λ g′ e. T (not (did g′ e))) S g es
+  unfolding stepsOf
+  none-of did g [] n = tt
+  none-of did g (e ∷ es) n =
+      let h = or-no (did g e) (any (λ (s : Step). did (s .met) (s .event)) (stepsOf S (apply S e g) es)) n in
+      (h .0, none-of did (apply S e g) es (h .1))
+
+  -- what no step did
+  pub no-step : (did : Register → Event → Bool) (g : Register) (es : List Event) → T (not (someStep (changeBy S g es) did)) → EachStep (λ g′ e. T (not (did g′ e))) S g es
+  unfolding someStep
+  no-step did g es n = none-of did g es n
+
+  none-in : (did : Register → Event → Bool) (g : Register) (es : List Event) → EachStep (λ g′ e. T (not (did g′ e))) S g es → T (not (any (λ s. did (s .met) (s .event)) (stepsOf S g es)))
+  unfolding stepsOf
+  none-in did g [] h = tt
+  none-in did g (e ∷ es) h = no-or (did g e) _ (h .0) (none-in did (apply S e g) es (h .1))
+
+  pub step-none : (did : Register → Event → Bool) (g : Register) (es : List Event) → EachStep (λ g′ e. T (not (did g′ e))) S g es → T (not (someStep (changeBy S g es) did))
+  unfolding someStep
+  step-none did g es h = none-in did g es h
+
+  module _ (schema-fits : SchemaFits S) (lent : Lent) where
+    -- Theorem 4: every register on the way of a batch that is not refused is one that refusal 5 does not meet.
+    pub fits-throughout : (g : Register) (es : List Event) → RegisterFits S g → Unrefused S lent g es → Throughout (RegisterFits S) S g es
+    fits-throughout g [] f u = f
+    fits-throughout g (e ∷ es) f u = (f, fits-throughout (apply S e g) es (apply-fits S schema-fits lent g f e (u .0)) (u .1))
+
+    pub end-fits : (g : Register) (es : List Event) → RegisterFits S g → Unrefused S lent g es → RegisterFits S (after S g es)
+    end-fits g es f u = at-end (RegisterFits S) g es (fits-throughout g es f u)
+
+    -- each step, with what a law of one event asks: a register that fits, and an event that is not refused
+    pub each-fit : (g : Register) (es : List Event) → RegisterFits S g → Unrefused S lent g es → EachStep (λ g′ e. RegisterFits S g′ × (eventRefusal S lent g′ e ≡ none)) S g es
+    each-fit g [] f u = tt
+    each-fit g (e ∷ es) f u = ((f, u .0), each-fit (apply S e g) es (apply-fits S schema-fits lent g f e (u .0)) (u .1))
