@@ -220,21 +220,18 @@ moves c (compare o a b) vs d = through _||_ (leftOf o) (moves c a vs) d || throu
 moves c (negate a) vs d = through _||_ reversed (moves c a vs) d
 moves c (connect o a b) vs d = through _||_ (firstPart o) (moves c a vs) d || through _||_ (secondPart o) (moves c b vs) d
 moves c (quantify q k b) vs d =
-    through _||_ (sourceOf q) (moves c k vs) d
-    || any (λ x. moves c b (bind vs x) d) (meaning (c .schema) (c .end) k vs)
+    through _||_ (sourceOf q) (moves c k vs) d || any (λ x. moves c b (bind vs x) d) (meaning (c .schema) (c .end) k vs)
 moves c (kind v t) vs d = kindMoves c (variable vs v) t d
 moves c (num n) vs d = false
 moves c (cell v k) vs d = cellMoves c (variable vs v) k
 moves c (size k) vs d = through _||_ same (moves c k vs) d
 moves c (sum k n) vs d =
-    through _||_ either (moves c k vs) d
-    || any (λ x. cellMoves c x n) (meaning (c .schema) (c .end) k vs)
+    through _||_ either (moves c k vs) d || any (λ x. cellMoves c x n) (meaning (c .schema) (c .end) k vs)
 moves c (combine o a b) vs d = through _||_ same (moves c a vs) d || through _||_ (secondTerm o) (moves c b vs) d
 moves c (role v r) vs d = roleMoves c r (variable vs v) d
 moves c (all t) vs d = allMoves c t d
 moves c (select k b) vs d =
-    through _||_ same (moves c k vs) d
-    || any (λ x. moves c b (bind vs x) d) (meaning (c .schema) (c .end) k vs)
+    through _||_ same (moves c k vs) d || any (λ x. moves c b (bind vs x) d) (meaning (c .schema) (c .end) k vs)
 
 -- ---- quiet bodies
 
