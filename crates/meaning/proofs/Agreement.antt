@@ -16,9 +16,9 @@ use Rattle.meaning.specs.Register.{Register, isUnder, instances, objectF
 use Rattle.meaning.specs.Forms.{Form, truth, wellTyped, formCount, Rule, Book, faultyRule, ruleFault}
 use Rattle.meaning.specs.Meaning.{meaning, broken, ruleHolds, bookHolds}
 use Rattle.meaning.specs.Events.{Event, Lent, Refusal, after, batchRefusal}
-use Rattle.meaning.specs.Reach.{Change, changeBy, down, moves, quiet, inserted, specialised, selected, Pair, contextPairs, ofRule, selectedPairs}
+use Rattle.meaning.specs.Reach.{Change, changeBy, down, moves, quiet, inserted, specialised, broughtIn, selected, Pair, contextPairs, ofRule, selectedPairs}
 use Rattle.meaning.specs.Answers.{Answer, refusalAt, bookRefusal, registerRefusal, refusal, foundAnswer, firstBroken, unlessRefused, fullCheck, checkRefusal, outcomeOf, outcomeUnless, batchCheck}
-use Rattle.meaning.proofs.Lists.{_∈_, decide, every-at, first-keep, holds-some, element-in}
+use Rattle.meaning.proofs.Lists.{_∈_, decide, first-of-none, every-at, first-keep, holds-some, element-in}
 use Rattle.meaning.proofs.Order.{fault-none}
 use Rattle.meaning.proofs.Schemas.{SchemaFits, schema-fits}
 use Rattle.meaning.proofs.Registers.{RegisterFits, register-fits, fits-register, instance-in}
@@ -28,10 +28,6 @@ use Rattle.meaning.proofs.Batches.{Kept, leaves, not-brought-in}
 use Rattle.meaning.proofs.Quiet.{quiet-value}
 
 -- ---- what is known of a book and a register that are not refused
-
-first-of-none : {A : Type 0} (a b : Option A) → firstOf a b ≡ none → (a ≡ none) × (b ≡ none)
-first-of-none none b e = (refl, e)
-first-of-none (some x) b e = absurd (Option·some-ne-none x e)
 
 refusal-at-none : (n : ℕ) (o : Option ℕ) → refusalAt n o ≡ none → o ≡ none
 unfolding refusalAt
@@ -47,22 +43,28 @@ pub record Checked (k : Book) (g : Register) : Type 0 where
 pub checked : (k : Book) (g : Register) → refusal k g ≡ none → Checked k g
 unfolding refusal bookRefusal registerRefusal ruleFault faultyRule
 checked k g e =
-    record
-      { book = top .0
-      ; schema = schema-fits (k .schema) (types .0)
-      ; typed = well-typed
-      ; register = register-fits (k .schema) g (rows .0) (rows .1) }
+    record {
+      book = top .0;
+      schema = schema-fits (k .schema) (types .0);
+      typed = well-typed;
+      register = register-fits (k .schema) g (rows .0) (rows .1);
+    }
   where
     S : Schema
     S = k .schema
+
     top : (bookRefusal k ≡ none) × (registerRefusal S g ≡ none)
     top = first-of-none (bookRefusal k) (registerRefusal S g) e
+
     parts : (refusalAt 3 (firstOf (typeFault S) (relationshipFault S)) ≡ none) × (refusalAt 4 (ruleFault k) ≡ none)
     parts = first-of-none (refusalAt 3 (firstOf (typeFault S) (relationshipFault S))) (refusalAt 4 (ruleFault k)) (top .0)
+
     types : (typeFault S ≡ none) × (relationshipFault S ≡ none)
     types = first-of-none (typeFault S) (relationshipFault S) (refusal-at-none 3 _ (parts .0))
+
     rows : (objectFault S g ≡ none) × (linkFault S g ≡ none)
     rows = first-of-none (objectFault S g) (linkFault S g) (refusal-at-none 5 _ (top .1))
+
     well-typed : (n : ℕ) (r : Rule) → getElem? (k .rules) n ≡ some r → T (wellTyped S (r .context ∷ []) (r .body))
     well-typed n r q =
         let f = fault-none (faultyRule S) (k .rules) (refusal-at-none 4 (ruleFault k) (parts .1)) n r q in
@@ -94,20 +96,22 @@ module _ (S : Schema) (schema : SchemaFits S) (lent : Lent) (g : Register) (fits
 
   -- Theorem 1, pair by pair.
   pub passed-over : T (broken S (after S g es) r s) → T (not (selected c r s)) → T (broken S g r s)
-  unfolding broken selected quiet
+  unfolding broken selected broughtIn quiet
   passed-over b n =
       ⊎-elim (λ h. absurd (T-not (isUnder S (after S g es) s (r .context)) (bs .0) h)) not-selected
       (and-no (isUnder S (after S g es) s (r .context)) _ n)
     where
       bs : T (isUnder S (after S g es) s (r .context)) × T (not (meaning S (after S g es) (r .body) (s ∷ [])))
       bs = and-yes (isUnder S (after S g es) s (r .context)) (not (meaning S (after S g es) (r .body) (s ∷ []))) b
+
       -- an inserted object's body is quiet, and so true
       quiet-there : T (inserted c s (r .context)) → T (not (moves c (r .body) (s ∷ []) down)) → T (not (inserted c s (r .context) && not (quiet (r .body)))) → ⊥
       quiet-there i m q =
           T-not (meaning S (after S g es) (r .body) (s ∷ []))
           (quiet-value S schema lent g fits es ok s (r .context) i (r .body) true
-           (⊎-elim (λ h. absurd (T-not (inserted c s (r .context)) i h)) (T-not-not (quiet (r .body))) (and-no (inserted c s (r .context)) (not (quiet (r .body))) q)) m)
+          (⊎-elim (λ h. absurd (T-not (inserted c s (r .context)) i h)) (T-not-not (quiet (r .body))) (and-no (inserted c s (r .context)) (not (quiet (r .body))) q)) m)
           (bs .1)
+
       not-selected : T (not (moves c (r .body) (s ∷ []) down || (inserted c s (r .context) && not (quiet (r .body)) || specialised c s (r .context)))) → T (broken S g r s)
       not-selected h =
           let ms = or-no (moves c (r .body) (s ∷ []) down) _ h in
@@ -146,13 +150,13 @@ module _ (k : Book) (lent : Lent) (g : Register) (es : List Event) (accepted-boo
       let f = holds-some (λ r. broken S (after S g es) r (p .id)) (getElem? (k .rules) (p .rule)) b in
       subst (λ o. T (holds (λ r. selected (changeBy S g es) r (p .id)) o)) (sym (f .1))
       (⊎-elim (λ s. s) (λ s. absurd (held (f .0) (f .1) (nothing-passed-over (p .rule) (f .0) (f .1) (p .id) (f .2) s)))
-       (decide (selected (changeBy S g es) (f .0) (p .id))))
+      (decide (selected (changeBy S g es) (f .0) (p .id))))
     where
       held : (r : Rule) → getElem? (k .rules) (p .rule) ≡ some r → ¬ T (broken S g r (p .id))
       held r q b′ =
           T-not (broken S g r (p .id)) b′
           (every-at (λ s. not (broken S g r s)) (every-at (ruleHolds S g) h (element-in (k .rules) (p .rule) q))
-           (instance-in S g (p .id) (r .context) (broken-under S g r (p .id) b′)))
+          (instance-in S g (p .id) (r .context) (broken-under S g r (p .id) b′)))
 
   -- Theorem 1, agreement.
   pub agreement : T (bookHolds k g) → firstBroken k (after S g es) (selectedPairs k (changeBy S g es)) ≡ fullCheck k (after S g es)

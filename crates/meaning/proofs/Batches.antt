@@ -12,7 +12,7 @@ use Rattle.meaning.specs.Schema.{Schema, cellsOf, under, nearType, farTy
 use Rattle.meaning.specs.Register.{Link, linkKey, Register, present, isUnder, cellAt, instances, sameLink, hasLink, farEnd, startsAt, farEnds}
 use Rattle.meaning.specs.Forms.{truth, collection}
 use Rattle.meaning.specs.Events.{Event, Lent, apply, after, eventRefusal}
-use Rattle.meaning.specs.Reach.{Step, Change, changeBy, someStep, subject, linkNamed, joins, parts, sets, insertsInto, specialisesInto, deletesFrom, generalisesFrom, Direction, up, down, roleMoves, allMoves, cellMoves, kindMoves, inserted, specialised}
+use Rattle.meaning.specs.Reach.{Step, Change, changeBy, someStep, subject, linkNamed, joins, parts, sets, insertsInto, specialisesInto, deletesFrom, generalisesFrom, Direction, up, down, roleMoves, bringsIn, takesOut, allMoves, cellMoves, kindMoves, inserted, specialised}
 use Rattle.meaning.specs.Lists.{any}
 use Rattle.meaning.proofs.Lists.{_∈_, or-left, or-right, any-map}
 use Rattle.meaning.proofs.Order.{same-eq}
@@ -88,11 +88,11 @@ module _ (S : Schema) (schema-fits : SchemaFits S) (lent : Lent) (g : Register) 
   no-gain r x n l s h =
       not-joined l
       (some-narrow c (λ g′ e. joins e && (startsAt r x (linkNamed e) && hasLink (after S g es) (linkNamed e))) (names joins l)
-       (λ g′ e t.
-         let ts = and-yes (joins e) (sameLink l (linkNamed e)) t in
-         yes-and (joins e) _ (ts .0)
-         (yes-and (startsAt r x (linkNamed e)) _ (same-link (λ k. T (startsAt r x k)) l (linkNamed e) (ts .1) s) (same-link (λ k. T (hasLink (after S g es) k)) l (linkNamed e) (ts .1) h)))
-       n)
+      (λ g′ e t.
+      let ts = and-yes (joins e) (sameLink l (linkNamed e)) t in
+      yes-and (joins e) _ (ts .0)
+      (yes-and (startsAt r x (linkNamed e)) _ (same-link (λ k. T (startsAt r x k)) l (linkNamed e) (ts .1) s) (same-link (λ k. T (hasLink (after S g es) k)) l (linkNamed e) (ts .1) h)))
+      n)
       h
 
   -- with no loss, a link that was there is there all the while
@@ -101,25 +101,27 @@ module _ (S : Schema) (schema-fits : SchemaFits S) (lent : Lent) (g : Register) 
   no-loss r x n l s h =
       not-parted l
       (some-narrow c (λ g′ e. parts e && startsAt r x (linkNamed e)) (names parts l)
-       (λ g′ e t.
-         let ts = and-yes (parts e) (sameLink l (linkNamed e)) t in
-         yes-and (parts e) _ (ts .0) (same-link (λ k. T (startsAt r x k)) l (linkNamed e) (ts .1) s))
-       n)
+      (λ g′ e t.
+      let ts = and-yes (parts e) (sameLink l (linkNamed e)) t in
+      yes-and (parts e) _ (ts .0) (same-link (λ k. T (startsAt r x k)) l (linkNamed e) (ts .1) s))
+      n)
       h
 
   role-end : (r x y : ℕ) → T (not (roleMoves c r x up)) → y ∈ farEnds (after S g es) r x → y ∈ farEnds g r x × Kept y (farType S r)
   role-end r x y n m =
       let f = far-from (after S g es) r x y m in
-      let h = no-gain r x n (f .0) (f .2) (f .1) in
-      (subst (λ z. z ∈ farEnds g r x) (sym (f .3)) (far-in g r x (f .0) (at-start S _ g es h) (f .2)),
-       subst (λ z. Kept z (farType S r)) (sym (f .3)) (link-kept r x (f .0) (f .2) h))
+      let h = no-gain r x n (f .0) (f .2) (f .1) in (
+        subst (λ z. z ∈ farEnds g r x) (sym (f .3)) (far-in g r x (f .0) (at-start S _ g es h) (f .2)),
+        subst (λ z. Kept z (farType S r)) (sym (f .3)) (link-kept r x (f .0) (f .2) h),
+      )
 
   role-start : (r x y : ℕ) → T (not (roleMoves c r x down)) → y ∈ farEnds g r x → y ∈ farEnds (after S g es) r x × Kept y (farType S r)
   role-start r x y n m =
       let f = far-from g r x y m in
-      let h = no-loss r x n (f .0) (f .2) (f .1) in
-      (subst (λ z. z ∈ farEnds (after S g es) r x) (sym (f .3)) (far-in (after S g es) r x (f .0) (at-end S _ g es h) (f .2)),
-       subst (λ z. Kept z (farType S r)) (sym (f .3)) (link-kept r x (f .0) (f .2) h))
+      let h = no-loss r x n (f .0) (f .2) (f .1) in (
+        subst (λ z. z ∈ farEnds (after S g es) r x) (sym (f .3)) (far-in (after S g es) r x (f .0) (at-end S _ g es h) (f .2)),
+        subst (λ z. Kept z (farType S r)) (sym (f .3)) (link-kept r x (f .0) (f .2) h),
+      )
 
   role-leaf : (d : Direction) (r x : ℕ) → T (not (roleMoves c r x d)) → UnmovedKept Kept (farType S r) d (farEnds g r x) (farEnds (after S g es) r x)
   role-leaf up r x n = (λ y m. role-end r x y n m .0, λ y m m′. role-end r x y n m′ .1)
@@ -141,19 +143,19 @@ module _ (S : Schema) (schema-fits : SchemaFits S) (lent : Lent) (g : Register) 
       (each-both S _ _ g es (no-step S (about (deletesFrom S t) x) g es nd) (no-step S (about (generalisesFrom S t) x) g es ng)) u
 
   all-end : (t x : ℕ) → T (not (allMoves c t up)) → T (isUnder S (after S g es) x t) → Kept x t
-  unfolding allMoves inserted specialised
+  unfolding allMoves bringsIn inserted specialised
   all-end t x n u = not-brought-in x t (narrowed (insertsInto S t) (λ g′ e i. or-left (insertsInto S t g′ e) (specialisesInto S t g′ e) i)) (narrowed (specialisesInto S t) (λ g′ e i. or-right (insertsInto S t g′ e) (specialisesInto S t g′ e) i)) u
     where
       narrowed : (did : Register → Event → Bool) → ((g′ : Register) (e : Event) → T (did g′ e) → T (insertsInto S t g′ e || specialisesInto S t g′ e)) → T (not (someStep c (about did x)))
       narrowed did f =
           some-narrow c _ (about did x)
           (λ g′ e h.
-            let hs = and-yes (did g′ e) (eqb (subject e) x) h in
-            yes-and (insertsInto S t g′ e || specialisesInto S t g′ e) _ (f g′ e (hs .0)) (subst (λ y. T (isUnder S (after S g es) y t)) (sym (eqb→eq (subject e) x (hs .1))) u))
+          let hs = and-yes (did g′ e) (eqb (subject e) x) h in
+          yes-and (insertsInto S t g′ e || specialisesInto S t g′ e) _ (f g′ e (hs .0)) (subst (λ y. T (isUnder S (after S g es) y t)) (sym (eqb→eq (subject e) x (hs .1))) u))
           n
 
   all-start : (t x : ℕ) → T (not (allMoves c t down)) → T (isUnder S g x t) → Kept x t
-  unfolding allMoves
+  unfolding allMoves takesOut
   all-start t x n u =
       not-taken-out x t
       (some-narrow c _ (about (deletesFrom S t) x) (λ g′ e h. or-left (deletesFrom S t g′ e) (generalisesFrom S t g′ e) (and-yes (deletesFrom S t g′ e) (eqb (subject e) x) h .0)) n)
@@ -186,8 +188,8 @@ module _ (S : Schema) (schema-fits : SchemaFits S) (lent : Lent) (g : Register) 
   cell-leaf x t k h l n =
       unchanged S (λ g′. cellAt g′ x k) g es
       (each-map S _ _ (λ g′ e q. cell-same S schema-fits lent g′ (q .0 .0) e (q .0 .1) x t k l (q .1 .0 .0) (q .1 .0 .1) (q .1 .1)) g es
-       (each-both S _ _ g es (each-fit S schema-fits lent g es fits ok)
-        (each-both S _ _ g es (kept-sides x t h) (no-step S (λ g′ e. sets k e && eqb (subject e) x) g es n))))
+      (each-both S _ _ g es (each-fit S schema-fits lent g es fits ok)
+      (each-both S _ _ g es (kept-sides x t h) (no-step S (λ g′ e. sets k e && eqb (subject e) x) g es n))))
 
   -- ---- kinds: an object that is kept is neither inserted nor deleted
 
@@ -209,15 +211,16 @@ module _ (S : Schema) (schema-fits : SchemaFits S) (lent : Lent) (g : Register) 
   kind-leaf up x u t h n = λ e.
       at-start S _ g es
       (not-special-in x u t h
-       (⊎-elim (λ q. q) (λ q. absurd (T-not (isUnder S (after S g es) x t) e q)) (and-no (specialised c x t) (isUnder S (after S g es) x t) n)) e)
+      (⊎-elim (λ q. q) (λ q. absurd (T-not (isUnder S (after S g es) x t) e q)) (and-no (specialised c x t) (isUnder S (after S g es) x t) n)) e)
   kind-leaf down x u t h n = λ e. at-end S _ g es (not-general-out x u t h n e)
 
   pub leaves : Leaves c g Kept
   leaves =
-      record
-        { first-fits = fits
-        ; end-fits = end-register
-        ; role-unmoved = λ d x t r h s n. role-leaf d r x n
-        ; all-unmoved = all-leaf
-        ; cell-unmoved = cell-leaf
-        ; kind-unmoved = kind-leaf }
+      record {
+        first-fits = fits;
+        end-fits = end-register;
+        role-unmoved = λ d x t r h s n. role-leaf d r x n;
+        all-unmoved = all-leaf;
+        cell-unmoved = cell-leaf;
+        kind-unmoved = kind-leaf;
+      }

@@ -13,8 +13,8 @@ use Rattle.meaning.specs.Schema.{ObjectType, Relationship, Schema, known
 use Rattle.meaning.specs.Register.{Object, Link, Register, objectAt, present, isUnder, cellAt, instances, hasLink, farEnds, cellsFit, objectFits, faultyObject, linkFits, faultyLink, objectFault, linkFault}
 use Rattle.meaning.specs.Forms.{Sort, truth, le, ge, gt, and, or, forall, add, Form, compare, connect, quantify, kind, num, cell, size, sum, combine, role, all, select, formCount, memberType, wellTyped, Rule, Book, faultyRule, ruleFault}
 use Rattle.meaning.specs.Meaning.{compared, connected, quantified, combined, total, meaning, broken}
-use Rattle.meaning.specs.Events.{Event, insert, delete, set, join, part, special, general, Lent, linkOf, apply, after, firstMet, linked, typeNeeded, strictlyAbove, strictlyUnder, hasCell, checks, eventRefusal, refusalFrom, batchRefusal}
-use Rattle.meaning.specs.Reach.{stepsOf, changeBy, someStep, leftOf, rightOf, firstPart, secondPart, sourceOf, secondTerm, roleMoves, allMoves, cellMoves, kindMoves, moves, roleOfSelf, quietQuantifier, quietConnective, quietly, quiet, inserted, specialised, selected, Pair, pairOf, pairsFrom, contextPairs, ofRule, selectedPairs}
+use Rattle.meaning.specs.Events.{Event, insert, delete, set, join, part, special, general, Lent, linkOf, apply, after, firstMet, linked, needsType, typeNeeded, strictlyAbove, strictlyUnder, hasCell, checks, eventRefusal, refusalFrom, batchRefusal}
+use Rattle.meaning.specs.Reach.{stepsOf, changeBy, someStep, leftOf, rightOf, firstPart, secondPart, sourceOf, secondTerm, roleMoves, bringsIn, takesOut, allMoves, cellMoves, kindMoves, moves, roleOfSelf, quietQuantifier, quietConnective, quietly, quiet, inserted, specialised, broughtIn, selected, Pair, pairOf, pairsFrom, contextPairs, ofRule, selectedPairs}
 use Rattle.meaning.specs.EventList.{EventType, insertOf, deleteOf, setOf, joinOf, partOf, specialOf, generalOf, wordsOf, whereParent, roleLists, allLists, kindLists, lists, contextLists, eventList}
 use Rattle.meaning.specs.Answers.{Answer, accepted, brokenAt, refused, refusalAt, bookRefusal, registerRefusal, refusal, foundAnswer, firstBroken, unlessRefused, listRefusal, checkRefusal, Outcome, registerLeft, outcomeOf, outcomeUnless, batchCheck}
 
@@ -72,9 +72,10 @@ bookOf S r = record { schema = S; rules = r ∷ [] }
 
 abbrev registerA : Register
 registerA =
-    record
-      { objects = object 10 0 (pos 30 ∷ []) ∷ object 11 0 (pos 30 ∷ []) ∷ object 20 1 (pos 25 ∷ []) ∷ []
-      ; links = linkOf 0 10 20 ∷ [] }
+    record {
+      objects = object 10 0 (pos 30 ∷ []) ∷ object 11 0 (pos 30 ∷ []) ∷ object 20 1 (pos 25 ∷ []) ∷ [];
+      links = linkOf 0 10 20 ∷ [];
+    }
 
 abbrev caseA : List Event → Answer → List Pair → Case
 caseA es a ps = record { given = batch (bookOf schemaA sumRule) registerA es; expected = answer a ps }
@@ -89,9 +90,10 @@ caseBy S r g es a ps = record { given = batch (bookOf S r) g es; expected = answ
 -- relationships: 0 DeliveredIn, of Sale to Shipment; 1 BelongsTo, of Customer to Category; 2 Purchases, of Customer to Sale
 abbrev shop : Schema
 shop =
-    record
-      { types = top 2 ∷ top 1 ∷ top 2 ∷ below 2 2 ∷ top 1 ∷ top 0 ∷ []
-      ; relationships = from-to 0 1 ∷ from-to 5 4 ∷ from-to 5 0 ∷ [] }
+    record {
+      types = top 2 ∷ top 1 ∷ top 2 ∷ below 2 2 ∷ top 1 ∷ top 0 ∷ [];
+      relationships = from-to 0 1 ∷ from-to 5 4 ∷ from-to 5 0 ∷ [];
+    }
 
 abbrev caseOf : Rule → List EventType → Case
 caseOf r es = record { given = rule shop r; expected = listing es }
@@ -117,11 +119,12 @@ numberOfRestrictedProducts = record { context = 3; body = compare le (size (all 
 -- self.customer->forAll(c | c.sale->select(s | s.paymentDate > now)->collect(amount)->sum() <= self.maxPendingAmount)
 abbrev notTooPendingSales : Rule
 notTooPendingSales =
-    record
-      { context = 4
-      ; body =
+    record {
+      context = 4;
+      body =
           quantify forall (role 0 3)
-          (compare le (sum (select (role 1 4) (compare gt (cell 2 1) (num (pos 1000)))) 0) (cell 0 0)) }
+          (compare le (sum (select (role 1 4) (compare gt (cell 2 1) (num (pos 1000)))) 0) (cell 0 0));
+    }
 
 -- ---- beyond (m): what the reach rules must not select, and what they must though agreement does not ask for it
 
@@ -179,5 +182,5 @@ table =
     ∷ []
 
 cases-hold : map (λ (c : Case). shown (c .given)) table ≡ map (λ (c : Case). c .expected) table
-unfolding table shown everything validId fitsWord knownType knownRelationship typeAt parentOf cellsOf hasParent climbs under knownRole relationshipAt sourceType targetType nearType farType parentFits faultyType faultyRelationship typeFault relationshipFault objectAt present isUnder cellAt instances hasLink farEnds cellsFit objectFits faultyObject linkFits faultyLink objectFault linkFault formCount memberType wellTyped faultyRule ruleFault compared connected quantified combined total meaning broken apply after firstMet linked typeNeeded strictlyAbove strictlyUnder hasCell checks eventRefusal refusalFrom batchRefusal stepsOf someStep leftOf rightOf firstPart secondPart sourceOf secondTerm roleMoves allMoves cellMoves kindMoves moves roleOfSelf quietQuantifier quietConnective quietly quiet inserted specialised selected pairsFrom contextPairs ofRule selectedPairs wordsOf whereParent roleLists allLists kindLists lists contextLists eventList refusalAt bookRefusal registerRefusal refusal foundAnswer firstBroken unlessRefused listRefusal checkRefusal registerLeft outcomeOf outcomeUnless batchCheck
+unfolding table shown everything validId fitsWord knownType knownRelationship typeAt parentOf cellsOf hasParent climbs under knownRole relationshipAt sourceType targetType nearType farType parentFits faultyType faultyRelationship typeFault relationshipFault objectAt present isUnder cellAt instances hasLink farEnds cellsFit objectFits faultyObject linkFits faultyLink objectFault linkFault formCount memberType wellTyped faultyRule ruleFault compared connected quantified combined total meaning broken apply after firstMet linked needsType typeNeeded strictlyAbove strictlyUnder hasCell checks eventRefusal refusalFrom batchRefusal stepsOf someStep leftOf rightOf firstPart secondPart sourceOf secondTerm roleMoves bringsIn takesOut allMoves cellMoves kindMoves moves roleOfSelf quietQuantifier quietConnective quietly quiet inserted specialised broughtIn selected pairsFrom contextPairs ofRule selectedPairs wordsOf whereParent roleLists allLists kindLists lists contextLists eventList refusalAt bookRefusal registerRefusal refusal foundAnswer firstBroken unlessRefused listRefusal checkRefusal registerLeft outcomeOf outcomeUnless batchCheck
 cases-hold = refl

@@ -55,6 +55,6 @@ module _ (S : Schema) (g : Register) (fits : RegisterFits S g) where
   members-count c vs =
       rw (← length-map (g .objects) idOf)
       (ascending-shorter _<_ lt-irrefl (λ x y z. lt-trans) (meaning S g c vs) (map idOf (g .objects))
-       (members-ascend c vs)
-       (ascending-map idOf (Before objectKey) _<_ (g .objects) (λ o p m n t. id-before o p t) (fits .objects-ascend))
-       (λ x m. id-in g x (member-present c vs x m)))
+      (members-ascend c vs)
+      (ascending-map idOf (Before objectKey) _<_ (g .objects) (λ o p m n t. id-before o p t) (fits .objects-ascend))
+      (λ x m. id-in g x (member-present c vs x m)))

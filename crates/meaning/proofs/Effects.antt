@@ -1,45 +1,472 @@
 -- What an event that is not refused does to a register that fits its schema: it fits afterwards, and links, types and cells
 -- change only as the reach rules' tests of a step say.
-use Prim.Native.Nat.{ℕ, _<_, _≤_}
-use mathlib.Core.Path.{_≡_}
-use mathlib.Core.Bool.{Bool, _&&_, not}
-use mathlib.Core.Option.{Option, none, some}
-use lib.Dec.{T, eqb}
-use lib.ListN.{length}
-use Rattle.meaning.specs.Schema.{Schema, cellsOf}
-use Rattle.meaning.specs.Register.{Link, Register, present, isUnder, cellAt, sameLink, hasLink}
-use Rattle.meaning.specs.Events.{Event, Lent, apply, eventRefusal}
+use Prim.Native.Nat.{ℕ, zero, suc, _<_, _≤_, _-_, min, suc-le-suc}
+use mathlib.Core.Path.{_≡_, refl, sym, ap, subst, _∙_}
+use mathlib.Core.Logic.{⊎-elim}
+use mathlib.Core.Bool.{Bool, true, false, _&&_, _||_, not, cond}
+use mathlib.Core.List.{List, [], _∷_, _++_, map, Memᴰ·cast}
+use mathlib.Core.Option.{Option, none, some, Option·map, Option·none-ne-some, Option·some-ne-none, Option·some-injective}
+use native.Mathlib.Nat.{add-sub-of-le, lt-of-lt-of-le, le-refl, le-trans}
+use native.Mathlib.Omega.{arith}
+use lib.Dec.{T, ltb, eqb, eqb-refl}
+use lib.ListN.{length, getD, take, drop, replicate, set as replaceAt, length-append, length-replicate, length-set, length-map, List·getD-append}
+use lib.Seq.{length-take-le, drop-set-lt, drop-at, drop-drop, getD-take, getD-set-other}
+use lib.IntN.{ℤ, pos}
+use mir.Facts.{and-yes, yes-and, or-no, T-not, not-T, T-not-not, eqb-yes, yes-eqb, eqb-no, ltb-yes, leb-no}
+use Rattle.meaning.specs.Lists.{every, keep, first, before, same, place}
+use Rattle.meaning.specs.Limits.{cellCount, maxObjects, validId, fitsWord}
+use Rattle.meaning.specs.Schema.{Schema, knownType, knownRelationship, cellsOf, under, sourceType, targetType}
+use Rattle.meaning.specs.Register.{Object, Link, Register, objectKey, linkKey, objectAt, present, isUnder, cellAt, sameLink, hasLink, isZero, objectFits, linkFits}
+use Rattle.meaning.specs.Events.{Event, insert, delete, set, join, part, special, general, Lent, linkOf, newObject, clearedFrom, withCell, withType, withHigherType, amended, apply, Check, _when_, firstMet, linked, needsType, typeNeeded, strictlyAbove, strictlyUnder, hasCell, checks, eventRefusal}
 use Rattle.meaning.specs.Reach.{subject, linkNamed, joins, parts, sets, insertsInto, specialisesInto, deletesFrom, generalisesFrom}
-use Rattle.meaning.proofs.Schemas.{SchemaFits}
-use Rattle.meaning.proofs.Registers.{RegisterFits}
+use Rattle.meaning.proofs.Lists.{_∈_, Ascending, not-sub, decide, first-absent, first-keep, first-map, every-drop, every-take, every-append, every-replicate, every-set, holds-some, cond-yes, cond-no, any-none, keep-in, keep-from, length-keep, first-some, ascending-keep, ascending-map}
+use Rattle.meaning.proofs.Order.{Before, same-eq, same-refl, same-swap, first-place, length-place, place-from, place-other, place-has, place-ascending}
+use Rattle.meaning.proofs.Schemas.{SchemaFits, under-trans, under-cells}
+use Rattle.meaning.proofs.Registers.{RegisterFits, object-parts, object-whole, object-at, ascending-found, under-present, link-in, link-has, link-parts, link-whole}
+
+-- ---- refusals that are not met
+
+abbrev Clear : List Check → Type 0
+Clear [] = Unit {0}
+Clear ((n when met) ∷ checks) = T (not met) × Clear checks
+
+not-met : (checks : List Check) → firstMet checks ≡ none → Clear checks
+unfolding firstMet
+not-met [] e = tt
+not-met ((n when met) ∷ checks) e = step met (λ q. not-met checks q) e
+  where
+    step : (b : Bool) → (firstMet checks ≡ none → Clear checks) → cond b (some n) (firstMet checks) ≡ none → T (not b) × Clear checks
+    step true below q = absurd (Option·some-ne-none n q)
+    step false below q = (tt, below q)
+
+clear : (S : Schema) (lent : Lent) (g : Register) (e : Event) → eventRefusal S lent g e ≡ none → Clear (checks S lent g e)
+unfolding eventRefusal
+clear S lent g e ok = not-met (checks S lent g e) ok
+
+-- a refusal of what lacks one of two
+both : (a b : Bool) → T (not (not (a && b))) → T a × T b
+both a b n = and-yes a b (T-not-not (a && b) n)
+
+and-rest : (a b : Bool) → T a → T (not (a && b)) → T (not b)
+and-rest true b t n = n
+and-rest false b t n = absurd t
+
+eqb-swap : (a b : ℕ) → T (eqb a b) → T (eqb b a)
+eqb-swap a b t = yes-eqb {a = b} {b = a} (sym (eqb-yes {a = a} {b = b} t))
+
+-- a test of an event that names x, where the object asked for is x
+at-self : (b : Bool) (x : ℕ) → T (not (b && eqb x x)) → T (not b)
+at-self true x n = T-not (eqb x x) (eqb-refl x) n
+at-self false x n = tt
+
+-- ---- cells
+
+module _ (S : Schema) (o : Object) where
+  with-cell-fits : (k : ℕ) (v : ℤ) → T (fitsWord v) → k < cellsOf S (o .type) → T (objectFits S o) → T (objectFits S (withCell k v o))
+  with-cell-fits k v w h t =
+      let f = object-parts S o t in
+      object-whole S (withCell k v o)
+      (record {
+        id-valid = f .id-valid;
+        type-known = f .type-known;
+        cells-count = length-set (o .cells) k v ∙ f .cells-count;
+        cells-word = every-set fitsWord (o .cells) k v w (f .cells-word);
+        cells-zero = rw (drop-set-lt (cellsOf S (o .type)) (o .cells) k v h) (f .cells-zero);
+      })
+
+  with-type-fits : (t : ℕ) → T (knownType S t) → cellsOf S (o .type) ≤ cellsOf S t → T (objectFits S o) → T (objectFits S (withType t o))
+  with-type-fits t known h fit =
+      let f = object-parts S o fit in
+      object-whole S (withType t o)
+      (record {
+        id-valid = f .id-valid;
+        type-known = known;
+        cells-count = f .cells-count;
+        cells-word = f .cells-word;
+        cells-zero =
+            subst (λ l. T (every isZero l))
+            (drop-drop (cellsOf S t - cellsOf S (o .type)) (cellsOf S (o .type)) (o .cells) ∙ ap (λ n. drop n (o .cells)) (add-sub-of-le h))
+            (every-drop isZero (cellsOf S t - cellsOf S (o .type)) (drop (cellsOf S (o .type)) (o .cells)) (f .cells-zero));
+      })
+
+  with-higher-type-fits : (t : ℕ) → T (knownType S t) → cellsOf S t ≤ cellCount → T (objectFits S o) → T (objectFits S (withHigherType S t o))
+  unfolding fitsWord
+  with-higher-type-fits t known h fit =
+      let f = object-parts S o fit in
+      let n = cellsOf S t in
+      let zeros = replicate (cellCount - n) (pos 0) in
+      let taken : length (take n (o .cells)) ≡ n = length-take-le n (o .cells) (rw (f .cells-count) h) in
+      object-whole S (withHigherType S t o)
+      (record {
+        id-valid = f .id-valid;
+        type-known = known;
+        cells-count = length-append (take n (o .cells)) zeros ∙ rw (taken, length-replicate (cellCount - n) (pos 0)) (add-sub-of-le h);
+        cells-word =
+            every-append fitsWord (take n (o .cells)) zeros (every-take fitsWord n (o .cells) (f .cells-word))
+            (every-replicate fitsWord (cellCount - n) (pos 0) tt);
+        cells-zero = rw (drop-at (take n (o .cells)) zeros n taken) (every-replicate isZero (cellCount - n) (pos 0) tt);
+      })
+
+-- the cells that a higher type has stay
+cleared-same : (n k : ℕ) (cells : List ℤ) → n ≤ length cells → k < n → getD (clearedFrom n cells) k (pos 0) ≡ getD cells k (pos 0)
+cleared-same n k cells enough h =
+    List·getD-append (take n cells) (replicate (cellCount - n) (pos 0)) (pos 0) k (rw (length-take-le n cells enough) h)
+    ∙ getD-take n cells k (pos 0) h
+
+new-object-fits : (S : Schema) (id t : ℕ) → T (validId id) → T (knownType S t) → T (objectFits S (newObject id t))
+unfolding fitsWord
+new-object-fits S id t valid known =
+    object-whole S (newObject id t)
+    (record {
+      id-valid = valid;
+      type-known = known;
+      cells-count = refl;
+      cells-word = tt;
+      cells-zero = every-drop isZero (cellsOf S t) (replicate cellCount (pos 0)) tt;
+    })
+
+-- ---- an object of a register after a change
+
+-- what holds at id, and at every other number, holds
+at-or-else : (P : ℕ → Type 0) (id x : ℕ) → P id → (T (not (eqb id x)) → P x) → P x
+at-or-else P id x here there = ⊎-elim (λ (e : T (eqb id x)). subst P (eqb-yes e) here) there (decide (eqb id x))
+
+module _ (g : Register) (id : ℕ) where
+  -- the object of another id is not the one of this id
+  other : {x y : ℕ} → T (not (eqb id x)) → y ≡ x → T (not (eqb y id))
+  other {x} {y} n e = not-T (eqb y id) (λ t. eqb-no n (sym (eqb-yes t) ∙ e))
+
+  inserted-at : (S : Schema) (t : ℕ) → Ascending (Before objectKey) (g .objects) → T (not (present g id)) → objectAt (apply S (insert id t) g) id ≡ some (newObject id t)
+  unfolding apply present
+  inserted-at S t a absent = ascending-found (apply S (insert id t) g) (place-ascending objectKey 1 (λ o. refl) new (g .objects) a) placed
+    where
+      new : Object
+      new = newObject id t
+
+      placed : new ∈ place objectKey new (g .objects)
+      placed =
+          let z = place-has objectKey 1 (λ o. refl) new (g .objects) in
+          ⊎-elim (λ (q : z .0 ≡ new). Memᴰ·cast (sym q) (z .1))
+          (λ (m : z .0 ∈ g .objects).
+          absurd
+          (T-not (present g id) (rw (← ap (λ k. getD k 0 0) (z .2), ascending-found g a m) tt) absent))
+          (place-from objectKey new (g .objects) (z .1))
+
+  inserted-other : (S : Schema) (t x : ℕ) → T (not (eqb id x)) → objectAt (apply S (insert id t) g) x ≡ objectAt g x
+  unfolding apply objectAt
+  inserted-other S t x n = first-place (λ o. eqb (o .id) x) objectKey (newObject id t) (g .objects) n
+
+  deleted-at : (S : Schema) → objectAt (apply S (delete id) g) id ≡ none
+  unfolding apply objectAt
+  deleted-at S =
+      first-absent (λ o. eqb (o .id) id) (keep (λ o. not (eqb (o .id) id)) (g .objects))
+      (λ y m. keep-from (λ o. not (eqb (o .id) id)) (g .objects) m .1)
+
+  deleted-other : (S : Schema) (x : ℕ) → T (not (eqb id x)) → objectAt (apply S (delete id) g) x ≡ objectAt g x
+  unfolding apply objectAt
+  deleted-other S x n = first-keep (λ o. eqb (o .id) x) (λ o. not (eqb (o .id) id)) (g .objects) (λ y m t. other n (eqb-yes t))
+
+  module _ (change : Object → Object) (keeps : (o : Object) → (change o) .id ≡ o .id) where
+    abbrev amend : Object → Object
+    amend o = cond (eqb (o .id) id) (change o) o
+
+    amend-id : (o : Object) → (amend o) .id ≡ o .id
+    amend-id o = step (eqb (o .id) id)
+      where
+        step : (b : Bool) → (cond b (change o) o) .id ≡ o .id
+        step true = keeps o
+        step false = refl
+
+    amended-ascends : Ascending (Before objectKey) (g .objects) → Ascending (Before objectKey) ((amended id change g) .objects)
+    amended-ascends a =
+        ascending-map amend (Before objectKey) (Before objectKey) (g .objects)
+        (λ x y m n b. rw (amend-id x, amend-id y) b) a
+
+    amended-lookup : (x : ℕ) → objectAt (amended id change g) x ≡ Option·map amend (objectAt g x)
+    unfolding objectAt
+    amended-lookup x = first-map (λ o. eqb (o .id) x) amend (λ o. ap (λ i. eqb i x) (amend-id o)) (g .objects)
+
+    amended-at : {o : Object} → objectAt g id ≡ some o → objectAt (amended id change g) id ≡ some (change o)
+    amended-at {o} e =
+        amended-lookup id ∙ ap (Option·map amend) e
+        ∙ ap {B = Option Object} some (cond-yes (eqb (o .id) id) (change o) o (yes-eqb (object-at g id e .1)))
+
+    amended-other : (x : ℕ) → T (not (eqb id x)) → objectAt (amended id change g) x ≡ objectAt g x
+    amended-other x n = amended-lookup x ∙ step (objectAt g x) refl
+      where
+        step : (found : Option Object) → objectAt g x ≡ found → Option·map amend found ≡ found
+        step none e = refl
+        step (some o) e = ap {B = Option Object} some (cond-no (eqb (o .id) id) (change o) o (other n (object-at g x e .1)))
+
+-- What an event that is not refused did to the object of id x, from register g to register h.
+data Fate (S : Schema) (g h : Register) (x : ℕ) : Event → Type 0 where
+  kept : {e : Event} → objectAt h x ≡ objectAt g x → Fate S g h x e
+  came : {t : ℕ} → T (validId x) → T (knownType S t) → T (not (present g x)) → objectAt h x ≡ some (newObject x t) → Fate S g h x (insert x t)
+  went : objectAt h x ≡ none → Fate S g h x (delete x)
+  written : {o : Object} {k : ℕ} {v : ℤ} → T (fitsWord v) → k < cellsOf S (o .type) → objectAt g x ≡ some o → objectAt h x ≡ some (withCell k v o) → Fate S g h x (set x k v)
+  lowered : {o : Object} {t : ℕ} → T (knownType S t) → T (under S t (o .type)) → objectAt g x ≡ some o → objectAt h x ≡ some (withType t o) → Fate S g h x (special x t)
+  raised : {o : Object} {t : ℕ} → T (knownType S t) → T (under S (o .type) t) → objectAt g x ≡ some o → objectAt h x ≡ some (withHigherType S t o) → Fate S g h x (general x t)
 
 module _ (S : Schema) (schema-fits : SchemaFits S) (lent : Lent) (g : Register) (fits : RegisterFits S g) where
-  pub apply-fits : (e : Event) → eventRefusal S lent g e ≡ none → RegisterFits S (apply S e g)
-  apply-fits e ok = ?
+  fate : (e : Event) → eventRefusal S lent g e ≡ none → (x : ℕ) → Fate S g (apply S e g) x e
+  unfolding apply checks strictlyAbove strictlyUnder hasCell objectAt
+  fate (insert id t) ok x =
+      let c = clear S lent g (insert id t) ok in
+      let valid = both (validId id) (knownType S t) (c .0) in
+      at-or-else (λ y. Fate S g (apply S (insert id t) g) y (insert id t)) id x
+      (came (valid .0) (valid .1) (c .1 .0) (inserted-at g id S t (fits .objects-ascend) (c .1 .0)))
+      (λ n. kept (inserted-other g id S t x n))
+  fate (delete id) ok x =
+      at-or-else (λ y. Fate S g (apply S (delete id) g) y (delete id)) id x (went (deleted-at g id S)) (λ n. kept (deleted-other g id S x n))
+  fate (set id k v) ok x =
+      let c = clear S lent g (set id k v) ok in
+      let o = holds-some (λ o. ltb k (cellsOf S (o .type))) (objectAt g id) (T-not-not (hasCell S g id k) (c .1 .1 .0)) in
+      at-or-else (λ y. Fate S g (apply S (set id k v) g) y (set id k v)) id x
+      (written (both (validId id && ltb k cellCount) (fitsWord v) (c .0) .1) (ltb-yes (o .2)) (o .1) (amended-at g id (withCell k v) (λ o. refl) (o .1)))
+      (λ n. kept (amended-other g id (withCell k v) (λ o. refl) x n))
+  fate (join r a b) ok x = kept refl
+  fate (part r a b) ok x = kept refl
+  fate (special id t) ok x =
+      let c = clear S lent g (special id t) ok in
+      let o = holds-some (λ o. under S t (o .type) && not (eqb t (o .type))) (objectAt g id) (T-not-not (strictlyAbove S g id t) (c .1 .1 .0)) in
+      let lower = and-yes (under S t (o .0 .type)) (not (eqb t (o .0 .type))) (o .2) .0 in
+      at-or-else (λ y. Fate S g (apply S (special id t) g) y (special id t)) id x
+      (lowered (both (validId id) (knownType S t) (c .0) .1) lower (o .1) (amended-at g id (withType t) (λ o. refl) (o .1)))
+      (λ n. kept (amended-other g id (withType t) (λ o. refl) x n))
+  fate (general id t) ok x =
+      let c = clear S lent g (general id t) ok in
+      let o = holds-some (λ o. under S (o .type) t && not (eqb t (o .type))) (objectAt g id) (T-not-not (strictlyUnder S g id t) (c .1 .1 .0)) in
+      let higher = and-yes (under S (o .0 .type) t) (not (eqb t (o .0 .type))) (o .2) .0 in
+      at-or-else (λ y. Fate S g (apply S (general id t) g) y (general id t)) id x
+      (raised (both (validId id) (knownType S t) (c .0) .1) higher (o .1) (amended-at g id (withHigherType S t) (λ o. refl) (o .1)))
+      (λ n. kept (amended-other g id (withHigherType S t) (λ o. refl) x n))
 
-  pub link-stays : (e : Event) → eventRefusal S lent g e ≡ none → (l : Link) → T (not (parts e && sameLink l (linkNamed e))) → T (hasLink g l) → T (hasLink (apply S e g) l)
-  link-stays e ok l n h = ?
-
-  pub link-was : (e : Event) → eventRefusal S lent g e ≡ none → (l : Link) → T (not (joins e && sameLink l (linkNamed e))) → T (hasLink (apply S e g) l) → T (hasLink g l)
-  link-was e ok l n h = ?
+  -- ---- types
 
   pub under-stays : (e : Event) → eventRefusal S lent g e ≡ none → (x t : ℕ) → T (not (deletesFrom S t g e && eqb (subject e) x)) → T (not (generalisesFrom S t g e && eqb (subject e) x)) → T (isUnder S g x t) → T (isUnder S (apply S e g) x t)
-  under-stays e ok x t nd ng u = ?
+  unfolding isUnder
+  under-stays e ok x t nd ng u = step (fate e ok x) nd ng
+    where
+      step : {f : Event} {h : Register} → Fate S g h x f → T (not (deletesFrom S t g f && eqb (subject f) x)) → T (not (generalisesFrom S t g f && eqb (subject f) x)) → T (isUnder S h x t)
+      step (kept q) nd ng = rw q u
+      step (came i k a b) nd ng = absurd (T-not (present g x) (under-present S g x t u) a)
+      step (went b) nd ng = absurd (T-not (isUnder S g x t) u (at-self (isUnder S g x t) x nd))
+      step (written w k a b) nd ng = rw b (rw a at u)
+      step (lowered {o} {t = s} k l a b) nd ng = rw b (under-trans S schema-fits s (o .type) t l (rw a at u))
+      step (raised {o} {t = s} k l a b) nd ng =
+          rw b (T-not-not (under S s t) (and-rest (isUnder S g x t) (not (under S s t)) u (at-self (isUnder S g x t && not (under S s t)) x ng)))
 
   pub under-was : (e : Event) → eventRefusal S lent g e ≡ none → (x t : ℕ) → T (not (insertsInto S t g e && eqb (subject e) x)) → T (not (specialisesInto S t g e && eqb (subject e) x)) → T (isUnder S (apply S e g) x t) → T (isUnder S g x t)
-  under-was e ok x t ni ns u = ?
+  unfolding isUnder
+  under-was e ok x t ni ns u = step (fate e ok x) ni ns u
+    where
+      step : {f : Event} {h : Register} → Fate S g h x f → T (not (insertsInto S t g f && eqb (subject f) x)) → T (not (specialisesInto S t g f && eqb (subject f) x)) → T (isUnder S h x t) → T (isUnder S g x t)
+      step (kept q) ni ns u = rw q at u
+      step (came {t = s} i k a b) ni ns u = absurd (T-not (under S s t) (rw b at u) (at-self (under S s t) x ni))
+      step (went b) ni ns u = absurd (rw b at u)
+      step (written w k a b) ni ns u = rw a (rw b at u)
+      step (lowered {o} {t = s} k l a b) ni ns u =
+          T-not-not (isUnder S g x t) (and-rest (under S s t) (not (isUnder S g x t)) (rw b at u) (at-self (under S s t && not (isUnder S g x t)) x ns))
+      step (raised {o} {t = s} k l a b) ni ns u = rw a (under-trans S schema-fits (o .type) s t l (rw b at u))
+
+  -- ---- the register fits
+
+  found-fits : (x : ℕ) {o : Object} → objectAt g x ≡ some o → T (objectFits S o)
+  found-fits x {o} e = fits .objects-fit o (object-at g x e .0)
+
+  objects-ascend-after : (e : Event) → Ascending (Before objectKey) ((apply S e g) .objects)
+  unfolding apply
+  objects-ascend-after (insert id t) = place-ascending objectKey 1 (λ o. refl) (newObject id t) (g .objects) (fits .objects-ascend)
+  objects-ascend-after (delete id) = ascending-keep (Before objectKey) (λ o. not (eqb (o .id) id)) (g .objects) (fits .objects-ascend)
+  objects-ascend-after (set id k v) = amended-ascends g id (withCell k v) (λ o. refl) (fits .objects-ascend)
+  objects-ascend-after (join r a b) = fits .objects-ascend
+  objects-ascend-after (part r a b) = fits .objects-ascend
+  objects-ascend-after (special id t) = amended-ascends g id (withType t) (λ o. refl) (fits .objects-ascend)
+  objects-ascend-after (general id t) = amended-ascends g id (withHigherType S t) (λ o. refl) (fits .objects-ascend)
+
+  objects-fit-after : (e : Event) → eventRefusal S lent g e ≡ none → (o : Object) → o ∈ (apply S e g) .objects → T (objectFits S o)
+  objects-fit-after e ok o m = step (fate e ok (o .id)) (ascending-found (apply S e g) (objects-ascend-after e) m)
+    where
+      now : {found : Option Object} {n : Object} → found ≡ some o → found ≡ some n → T (objectFits S n) → T (objectFits S o)
+      now {n} p q t = subst (λ z. T (objectFits S z)) (Option·some-injective n o (sym q ∙ p)) t
+
+      step : {f : Event} {h : Register} → Fate S g h (o .id) f → objectAt h (o .id) ≡ some o → T (objectFits S o)
+      step (kept q) p = found-fits (o .id) (sym q ∙ p)
+      step (came {t} i k a b) p = now p b (new-object-fits S (o .id) t i k)
+      step (went b) p = absurd (Option·none-ne-some o (sym b ∙ p))
+      step (written {o = was} {k} {v} w h a b) p = now p b (with-cell-fits S was k v w h (found-fits (o .id) a))
+      step (lowered {o = was} {t} k l a b) p = now p b (with-type-fits S was t k (under-cells S schema-fits t (was .type) l) (found-fits (o .id) a))
+      step (raised {o = was} {t} k l a b) p = now p b (with-higher-type-fits S was t k (schema-fits .cells-bound t) (found-fits (o .id) a))
+
+  -- the event does not take object x out of type t
+  abbrev Leaves : Event → ℕ → ℕ → Type 0
+  Leaves e x t = T (not (deletesFrom S t g e && eqb (subject e) x)) × T (not (generalisesFrom S t g e && eqb (subject e) x))
+
+  -- a link holds its ends in their types: refusal 12
+  link-holds : (e : Event) → eventRefusal S lent g e ≡ none → (l : Link) → l ∈ g .links → Leaves e (l .source) (sourceType S (l .relationship)) × Leaves e (l .target) (targetType S (l .relationship))
+  unfolding checks linked needsType typeNeeded
+  link-holds (insert id t) ok l m = ((tt, tt), (tt, tt))
+  link-holds (delete id) ok l m =
+      let n = or-no (eqb (l .source) id) (eqb (l .target) id) (any-none (λ l. eqb (l .source) id || eqb (l .target) id) (clear S lent g (delete id) ok .1 .1 .0) m) in
+      ((not-of (l .source) (sourceType S (l .relationship)) (n .0), tt), (not-of (l .target) (targetType S (l .relationship)) (n .1), tt))
+    where
+      not-of : (x s : ℕ) → T (not (eqb x id)) → T (not (isUnder S g id s && eqb id x))
+      not-of x s n = not-sub (isUnder S g id s && eqb id x) (eqb x id) (λ y. eqb-swap id x (and-yes (isUnder S g id s) (eqb id x) y .1)) n
+  link-holds (set id k v) ok l m = ((tt, tt), (tt, tt))
+  link-holds (join r a b) ok l m = ((tt, tt), (tt, tt))
+  link-holds (part r a b) ok l m = ((tt, tt), (tt, tt))
+  link-holds (special id t) ok l m = ((tt, tt), (tt, tt))
+  link-holds (general id t) ok l m =
+      let n = or-no (needs (l .source) (sourceType S (l .relationship))) (needs (l .target) (targetType S (l .relationship))) (any-none (needsType S id t) (clear S lent g (general id t) ok .1 .1 .1 .0) m) in
+      ((tt, not-out (l .source) (sourceType S (l .relationship)) (n .0)), (tt, not-out (l .target) (targetType S (l .relationship)) (n .1)))
+    where
+      needs : ℕ → ℕ → Bool
+      needs x s = eqb x id && not (under S t s)
+
+      not-out : (x s : ℕ) → T (not (needs x s)) → T (not (isUnder S g id s && not (under S t s) && eqb id x))
+      not-out x s n =
+          not-sub (isUnder S g id s && not (under S t s) && eqb id x) (needs x s)
+          (λ y.
+          let p = and-yes (isUnder S g id s && not (under S t s)) (eqb id x) y in
+          yes-and (eqb x id) (not (under S t s)) (eqb-swap id x (p .1)) (and-yes (isUnder S g id s) (not (under S t s)) (p .0) .1))
+          n
+
+  old-link-fits : (e : Event) → eventRefusal S lent g e ≡ none → (l : Link) → l ∈ g .links → T (linkFits S (apply S e g) l)
+  old-link-fits e ok l m =
+      let p = link-parts S g l (fits .links-fit l m) in
+      let h = link-holds e ok l m in
+      link-whole S (apply S e g) l (p .0) (
+        under-stays e ok (l .source) (sourceType S (l .relationship)) (h .0 .0) (h .0 .1) (p .1 .0),
+        under-stays e ok (l .target) (targetType S (l .relationship)) (h .1 .0) (h .1 .1) (p .1 .1),
+      )
+
+  links-ascend-after : (e : Event) → Ascending (Before linkKey) ((apply S e g) .links)
+  unfolding apply
+  links-ascend-after (insert id t) = fits .links-ascend
+  links-ascend-after (delete id) = fits .links-ascend
+  links-ascend-after (set id k v) = fits .links-ascend
+  links-ascend-after (join r a b) = place-ascending linkKey 3 (λ l. refl) (linkOf r a b) (g .links) (fits .links-ascend)
+  links-ascend-after (part r a b) = ascending-keep (Before linkKey) (λ l. not (sameLink (linkOf r a b) l)) (g .links) (fits .links-ascend)
+  links-ascend-after (special id t) = fits .links-ascend
+  links-ascend-after (general id t) = fits .links-ascend
+
+  new-link-fits : (r a b : ℕ) → eventRefusal S lent g (join r a b) ≡ none → T (linkFits S (apply S (join r a b) g) (linkOf r a b))
+  unfolding apply checks isUnder objectAt
+  new-link-fits r a b ok =
+      let c = clear S lent g (join r a b) ok in
+      link-whole S (apply S (join r a b) g) (linkOf r a b)
+      (and-yes (knownRelationship S r) (validId a) (both (knownRelationship S r && validId a) (validId b) (c .0) .0) .0)
+      (both (isUnder S g a (sourceType S r)) (isUnder S g b (targetType S r)) (c .1 .1 .1 .0))
+
+  links-fit-after : (e : Event) → eventRefusal S lent g e ≡ none → (l : Link) → l ∈ (apply S e g) .links → T (linkFits S (apply S e g) l)
+  unfolding apply
+  links-fit-after (insert id t) ok l m = old-link-fits (insert id t) ok l m
+  links-fit-after (delete id) ok l m = old-link-fits (delete id) ok l m
+  links-fit-after (set id k v) ok l m = old-link-fits (set id k v) ok l m
+  links-fit-after (join r a b) ok l m =
+      ⊎-elim
+      (λ (q : l ≡ linkOf r a b). subst (λ k. T (linkFits S (apply S (join r a b) g) k)) (sym q) (new-link-fits r a b ok))
+      (λ (n : l ∈ g .links). old-link-fits (join r a b) ok l n)
+      (place-from linkKey (linkOf r a b) (g .links) m)
+  links-fit-after (part r a b) ok l m = old-link-fits (part r a b) ok l (keep-from (λ l. not (sameLink (linkOf r a b) l)) (g .links) m .0)
+  links-fit-after (special id t) ok l m = old-link-fits (special id t) ok l m
+  links-fit-after (general id t) ok l m = old-link-fits (general id t) ok l m
+
+  pub apply-fits : (e : Event) → eventRefusal S lent g e ≡ none → RegisterFits S (apply S e g)
+  apply-fits e ok =
+      record {
+        objects-ascend = objects-ascend-after e;
+        objects-fit = objects-fit-after e ok;
+        links-ascend = links-ascend-after e;
+        links-fit = links-fit-after e ok;
+      }
+
+  -- ---- links
+
+  pub link-stays : (e : Event) → eventRefusal S lent g e ≡ none → (l : Link) → T (not (parts e && sameLink l (linkNamed e))) → T (hasLink g l) → T (hasLink (apply S e g) l)
+  unfolding apply hasLink
+  link-stays (insert id t) ok l n h = h
+  link-stays (delete id) ok l n h = h
+  link-stays (set id k v) ok l n h = h
+  link-stays (join r a b) ok l n h = link-has (apply S (join r a b) g) l (place-other linkKey (linkOf r a b) (g .links) (link-in g l h))
+  link-stays (part r a b) ok l n h =
+      link-has (apply S (part r a b) g) l
+      (keep-in (λ l. not (sameLink (linkOf r a b) l)) (link-in g l h)
+      (not-sub (sameLink (linkOf r a b) l) (sameLink l (linkOf r a b)) (λ t. same-swap (linkKey (linkOf r a b)) (linkKey l) t) n))
+  link-stays (special id t) ok l n h = h
+  link-stays (general id t) ok l n h = h
+
+  pub link-was : (e : Event) → eventRefusal S lent g e ≡ none → (l : Link) → T (not (joins e && sameLink l (linkNamed e))) → T (hasLink (apply S e g) l) → T (hasLink g l)
+  unfolding apply hasLink
+  link-was (insert id t) ok l n h = h
+  link-was (delete id) ok l n h = h
+  link-was (set id k v) ok l n h = h
+  link-was (join r a b) ok l n h =
+      ⊎-elim
+      (λ (q : l ≡ linkOf r a b). absurd (T-not (sameLink l (linkOf r a b)) (rw q (same-refl (linkKey (linkOf r a b)))) n))
+      (λ (m : l ∈ g .links). link-has g l m)
+      (place-from linkKey (linkOf r a b) (g .links) (link-in (apply S (join r a b) g) l h))
+  link-was (part r a b) ok l n h =
+      link-has g l (keep-from (λ l. not (sameLink (linkOf r a b) l)) (g .links) (link-in (apply S (part r a b) g) l h) .0)
+  link-was (special id t) ok l n h = h
+  link-was (general id t) ok l n h = h
+
+  -- ---- cells
 
   pub cell-same : (e : Event) → eventRefusal S lent g e ≡ none → (x t k : ℕ) → k < cellsOf S t → T (isUnder S g x t) → T (isUnder S (apply S e g) x t) → T (not (sets k e && eqb (subject e) x)) → cellAt (apply S e g) x k ≡ cellAt g x k
-  cell-same e ok x t k h u v n = ?
+  unfolding isUnder cellAt
+  cell-same e ok x t k h u v n = step (fate e ok x) v n
+    where
+      step : {f : Event} {after : Register} → Fate S g after x f → T (isUnder S after x t) → T (not (sets k f && eqb (subject f) x)) → cellAt after x k ≡ cellAt g x k
+      step (kept q) v n = rw (cellAt, q)
+      step (came i j a b) v n = absurd (T-not (present g x) (under-present S g x t u) a)
+      step (went b) v n = absurd (rw b at v)
+      step (written {o} {k = j} {v = z} w j< a b) v n =
+          rw (cellAt, a, b) (getD-set-other (o .cells) j k z (pos 0) (λ e. eqb-no (at-self (eqb j k) x n) (sym e)))
+      step (lowered j l a b) v n = rw (cellAt, a, b)
+      step (raised {o} {t = s} j l a b) v n =
+          let enough : cellsOf S s ≤ length (o .cells) = rw ((object-parts S o (found-fits x a)) .cells-count) (schema-fits .cells-bound s) in
+          rw (cellAt, a, b) (cleared-same (cellsOf S s) k (o .cells) enough (lt-of-lt-of-le h (under-cells S schema-fits s t (rw b at v))))
+
+  -- ---- objects
 
   -- only an absent object is inserted
   pub insert-absent : (e : Event) → eventRefusal S lent g e ≡ none → (x t : ℕ) → T (insertsInto S t g e && eqb (subject e) x) → T (not (present g x))
-  insert-absent e ok x t i = ?
+  unfolding checks
+  insert-absent (insert id s) ok x t i =
+      subst (λ y. T (not (present g y))) (eqb-yes (and-yes (under S s t) (eqb id x) i .1)) (clear S lent g (insert id s) ok .1 .0)
+  insert-absent (delete id) ok x t i = absurd i
+  insert-absent (set id k v) ok x t i = absurd i
+  insert-absent (join r a b) ok x t i = absurd i
+  insert-absent (part r a b) ok x t i = absurd i
+  insert-absent (special id s) ok x t i = absurd i
+  insert-absent (general id s) ok x t i = absurd i
 
   -- an object that is there after a delete of it is another's
   pub delete-absent : (e : Event) → eventRefusal S lent g e ≡ none → (x t : ℕ) → T (deletesFrom S t g e && eqb (subject e) x) → T (not (present (apply S e g) x))
-  delete-absent e ok x t d = ?
+  unfolding present
+  delete-absent (insert id s) ok x t d = absurd d
+  delete-absent (delete id) ok x t d =
+      subst (λ y. T (not (present (apply S (delete id) g) y))) (eqb-yes (and-yes (isUnder S g id t) (eqb id x) d .1)) gone
+    where
+      gone : T (not (present (apply S (delete id) g) id))
+      gone = rw (deleted-at g id S) tt
+  delete-absent (set id k v) ok x t d = absurd d
+  delete-absent (join r a b) ok x t d = absurd d
+  delete-absent (part r a b) ok x t d = absurd d
+  delete-absent (special id s) ok x t d = absurd d
+  delete-absent (general id s) ok x t d = absurd d
 
   -- the limits on rows
   pub objects-limit : (e : Event) → eventRefusal S lent g e ≡ none → length (g .objects) ≤ 1024 → length ((apply S e g) .objects) ≤ 1024
-  objects-limit e ok h = ?
+  unfolding apply checks
+  objects-limit (insert id t) ok h =
+      let room = leb-no {a = min maxObjects (lent .objects)} {b = length (g .objects)} (clear S lent g (insert id t) ok .1 .1 .0) in
+      let grown = length-place objectKey (newObject id t) (g .objects) in
+      omega (arith, room, grown)
+  objects-limit (delete id) ok h = le-trans (length-keep (λ o. not (eqb (o .id) id)) (g .objects)) h
+  objects-limit (set id k v) ok h = rw (length-map (g .objects) (λ o. cond (eqb (o .id) id) (withCell k v o) o)) h
+  objects-limit (join r a b) ok h = h
+  objects-limit (part r a b) ok h = h
+  objects-limit (special id t) ok h = rw (length-map (g .objects) (λ o. cond (eqb (o .id) id) (withType t o) o)) h
+  objects-limit (general id t) ok h = rw (length-map (g .objects) (λ o. cond (eqb (o .id) id) (withHigherType S t o) o)) h

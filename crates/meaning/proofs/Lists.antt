@@ -4,12 +4,12 @@ use mathlib.Core.Path.{_≡_, refl, sym, ap, subst, _∙_}
 use mathlib.Core.Logic.{_⊎_, inl, inr, ⊎-elim}
 use mathlib.Core.Bool.{Bool, true, false, _&&_, _||_, not, cond}
 use mathlib.Core.List.{List, [], _∷_, _++_, map, List·Memᴰ, List·Memᴰ·head, List·Memᴰ·tail, List·Memᴰ·not-nil, List·Memᴰ·cases-cons, Memᴰ·cast, Memᴰ·append-left, Memᴰ·append-right, List·Memᴰ·append-cases}
-use mathlib.Core.Option.{Option, none, some, Option·none-ne-some, Option·some-injective}
+use mathlib.Core.Option.{Option, none, some, Option·map, Option·none-ne-some, Option·some-injective}
 use native.Mathlib.Nat.{le-trans, le-suc, le-refl}
 use lib.Dec.{T}
-use lib.ListN.{length, getElem?}
+use lib.ListN.{length, take, drop, replicate, getElem?, set as replaceAt}
 use mir.Facts.{and-yes, yes-and, or-yes, or-no, T-not, not-T}
-use Rattle.meaning.specs.Lists.{any, every, keep, first, holds}
+use Rattle.meaning.specs.Lists.{any, every, keep, first, holds, firstOf}
 
 -- ---- membership
 
@@ -41,6 +41,9 @@ pub not-not : (a : Bool) → T a → T (not (not a))
 not-not true t = tt
 not-not false t = t
 
+pub not-sub : (a b : Bool) → (T a → T b) → T (not b) → T (not a)
+not-sub a b h n = not-T a (λ t. T-not b (h t) n)
+
 -- which of the two a test is
 pub decide : (b : Bool) → T b ⊎ T (not b)
 decide true = inl tt
@@ -53,6 +56,10 @@ cond-yes false x y t = absurd t
 pub cond-no : {A : Type 0} (b : Bool) (x y : A) → T (not b) → cond b x y ≡ y
 cond-no true x y t = absurd t
 cond-no false x y t = refl
+
+pub first-of-none : {A : Type 0} (a b : Option A) → firstOf a b ≡ none → (a ≡ none) × (b ≡ none)
+first-of-none none b e = (refl, e)
+first-of-none (some x) b e = absurd (Option·none-ne-some x (sym e))
 
 module _ {A : Type 0} where
   pub any-of : (p : A → Bool) {x : A} {l : List A} → x ∈ l → T (p x) → T (any p l)
@@ -181,18 +188,21 @@ module _ {A : Type 0} where
         heads =
             ⊎-elim (λ (e : x ≡ y). e)
             (λ (m : x ∈ ys).
-              ⊎-elim (λ (e : y ≡ x). sym e)
-              (λ (n : y ∈ xs). absurd (irreflexive x (transitive x y x (a .0 y n) (b .0 x m))))
-              (List·Memᴰ·cases-cons (g y (List·Memᴰ·head refl))))
+            ⊎-elim (λ (e : y ≡ x). sym e)
+            (λ (n : y ∈ xs). absurd (irreflexive x (transitive x y x (a .0 y n) (b .0 x m))))
+            (List·Memᴰ·cases-cons (g y (List·Memᴰ·head refl))))
             (List·Memᴰ·cases-cons (f x (List·Memᴰ·head refl)))
+
         rest : x ≡ y → (z : A) → z ∈ xs → z ∈ ys
         rest e z m =
             ⊎-elim (λ (q : z ≡ y). absurd (irreflexive x (subst (R x) (q ∙ sym e) (a .0 z m)))) (λ n. n)
             (List·Memᴰ·cases-cons (f z (List·Memᴰ·tail m)))
+
         back : x ≡ y → (z : A) → z ∈ ys → z ∈ xs
         back e z m =
             ⊎-elim (λ (q : z ≡ x). absurd (irreflexive y (subst (R y) (q ∙ e) (b .0 z m)))) (λ n. n)
             (List·Memᴰ·cases-cons (g z (List·Memᴰ·tail m)))
+
         both : x ≡ y → (x ≡ y → xs ≡ ys) → x ∷ xs ≡ y ∷ ys
         both e tails = λ i. e i ∷ tails e i
 
@@ -207,19 +217,20 @@ module _ {A : Type 0} where
         inside z m =
             ⊎-elim
             (λ (q : z ≡ y).
-              absurd
-              (⊎-elim
-               (λ (e : x ≡ y). irreflexive x (subst (R x) (q ∙ sym e) (a .0 z m)))
-               (λ (n : x ∈ ys). irreflexive y (transitive y x y (b .0 x n) (subst (R x) q (a .0 z m))))
-               (List·Memᴰ·cases-cons (f x (List·Memᴰ·head refl)))))
+            absurd
+            (⊎-elim
+            (λ (e : x ≡ y). irreflexive x (subst (R x) (q ∙ sym e) (a .0 z m)))
+            (λ (n : x ∈ ys). irreflexive y (transitive y x y (b .0 x n) (subst (R x) q (a .0 z m))))
+            (List·Memᴰ·cases-cons (f x (List·Memᴰ·head refl)))))
             (λ n. n)
             (List·Memᴰ·cases-cons (f z (List·Memᴰ·tail m)))
 
   pub ascending-append : (R : A → A → Type 0) (l k : List A) → Ascending R l → Ascending R k → ((x y : A) → x ∈ l → y ∈ k → R x y) → Ascending R (l ++ k)
   ascending-append R [] k a b h = b
-  ascending-append R (x ∷ xs) k a b h =
-      (λ y m. ⊎-elim (λ n. a .0 y n) (λ n. h x y (List·Memᴰ·head refl) n) (List·Memᴰ·append-cases xs m),
-       ascending-append R xs k (a .1) b (λ z y m n. h z y (List·Memᴰ·tail m) n))
+  ascending-append R (x ∷ xs) k a b h = (
+    λ y m. ⊎-elim (λ n. a .0 y n) (λ n. h x y (List·Memᴰ·head refl) n) (List·Memᴰ·append-cases xs m),
+    ascending-append R xs k (a .1) b (λ z y m n. h z y (List·Memᴰ·tail m) n),
+  )
 
 module _ {A B : Type 0} (f : A → B) where
   pub map-in : {x : A} {l : List A} → x ∈ l → f x ∈ map f l
@@ -237,8 +248,72 @@ module _ {A B : Type 0} (f : A → B) where
   -- a map that keeps the relation between members keeps the order
   pub ascending-map : (R : A → A → Type 0) (Q : B → B → Type 0) (l : List A) → ((x y : A) → x ∈ l → y ∈ l → R x y → Q (f x) (f y)) → Ascending R l → Ascending Q (map f l)
   ascending-map R Q [] h a = tt
-  ascending-map R Q (x ∷ xs) h a =
-      (λ y m.
+  ascending-map R Q (x ∷ xs) h a = (
+    λ y m.
         let r = map-from xs m in
         subst (Q (f x)) (sym (r .2)) (h x (r .0) (List·Memᴰ·head refl) (List·Memᴰ·tail (r .1)) (a .0 (r .0) (r .1))),
-       ascending-map R Q xs (λ z y m n. h z y (List·Memᴰ·tail m) (List·Memᴰ·tail n)) (a .1))
+    ascending-map R Q xs (λ z y m n. h z y (List·Memᴰ·tail m) (List·Memᴰ·tail n)) (a .1),
+  )
+
+-- ---- the first element that passes a test, after a change of the list
+
+module _ {A : Type 0} (p : A → Bool) where
+  pub first-absent : (l : List A) → ((y : A) → y ∈ l → T (not (p y))) → first p l ≡ none
+  first-absent l h = step (first p l) refl
+    where
+      step : (o : Option A) → first p l ≡ o → o ≡ none
+      step none e = refl
+      step (some y) e = let r = first-some p l e in absurd (T-not (p y) (r .1) (h y (r .0)))
+
+  pub first-map : (f : A → A) → ((y : A) → p (f y) ≡ p y) → (l : List A) → first p (map f l) ≡ Option·map f (first p l)
+  first-map f h [] = refl
+  first-map f h (y ∷ ys) = ap (λ b. cond b (some (f y)) (first p (map f ys))) (h y) ∙ step (p y) (first-map f h ys)
+    where
+      step : (b : Bool) → first p (map f ys) ≡ Option·map f (first p ys) → cond b (some (f y)) (first p (map f ys)) ≡ Option·map f (cond b (some y) (first p ys))
+      step true below = refl
+      step false below = below
+
+-- ---- what every element passes, after a change of the list
+
+module _ {A : Type 0} (p : A → Bool) where
+  pub every-drop : (n : ℕ) (l : List A) → T (every p l) → T (every p (drop n l))
+  every-drop zero l t = t
+  every-drop (suc n) [] t = tt
+  every-drop (suc n) (y ∷ ys) t = every-drop n ys (and-yes (p y) (every p ys) t .1)
+
+  pub every-take : (n : ℕ) (l : List A) → T (every p l) → T (every p (take n l))
+  every-take zero l t = tt
+  every-take (suc n) [] t = tt
+  every-take (suc n) (y ∷ ys) t = let h = and-yes (p y) (every p ys) t in yes-and (p y) (every p (take n ys)) (h .0) (every-take n ys (h .1))
+
+  pub every-append : (l k : List A) → T (every p l) → T (every p k) → T (every p (l ++ k))
+  every-append [] k t u = u
+  every-append (y ∷ ys) k t u = let h = and-yes (p y) (every p ys) t in yes-and (p y) (every p (ys ++ k)) (h .0) (every-append ys k (h .1) u)
+
+  pub every-replicate : (n : ℕ) (x : A) → T (p x) → T (every p (replicate n x))
+  every-replicate zero x t = tt
+  every-replicate (suc n) x t = yes-and (p x) (every p (replicate n x)) t (every-replicate n x t)
+
+  pub every-set : (l : List A) (i : ℕ) (x : A) → T (p x) → T (every p l) → T (every p (replaceAt l i x))
+  every-set [] i x u t = tt
+  every-set (y ∷ ys) zero x u t = yes-and (p x) (every p ys) u (and-yes (p y) (every p ys) t .1)
+  every-set (y ∷ ys) (suc i) x u t = let h = and-yes (p y) (every p ys) t in yes-and (p y) (every p (replaceAt ys i x)) (h .0) (every-set ys i x u (h .1))
+
+module _ {A : Type 0} where
+  -- the only element that passes the test is the first
+  pub first-only : (p : A → Bool) (l : List A) {x : A} → x ∈ l → T (p x) → ((y : A) → y ∈ l → T (p y) → y ≡ x) → first p l ≡ some x
+  first-only p l {x} m t only = step (first p l) refl
+    where
+      step : (o : Option A) → first p l ≡ o → o ≡ some x
+      step none e = absurd (T-not (p x) t (first-none p l e x m))
+      step (some y) e = let r = first-some p l e in ap {B = Option A} some (only y (r .0) (r .1))
+
+  -- members of an ascending list of which neither comes before the other are one
+  pub ascending-one : (R : A → A → Type 0) (l : List A) → Ascending R l → {x y : A} → x ∈ l → y ∈ l → ¬ R x y → ¬ R y x → x ≡ y
+  ascending-one R [] a m n f h = absurd (List·Memᴰ·not-nil m)
+  ascending-one R (z ∷ zs) a {x} {y} m n f h =
+      ⊎-elim
+      (λ (p : x ≡ z). ⊎-elim (λ (q : y ≡ z). p ∙ sym q) (λ (k : y ∈ zs). absurd (f (subst (λ w. R w y) (sym p) (a .0 y k)))) (List·Memᴰ·cases-cons n))
+      (λ (j : x ∈ zs).
+      ⊎-elim (λ (q : y ≡ z). absurd (h (subst (λ w. R w x) (sym q) (a .0 x j)))) (λ (k : y ∈ zs). ascending-one R zs (a .1) j k f h) (List·Memᴰ·cases-cons n))
+      (List·Memᴰ·cases-cons m)

@@ -87,10 +87,10 @@ module _ (c : Change) (first : Register) (Kept : ℕ → ℕ → Type 0) (leaves
       at v l =
           ⊎-elim
           (λ (e : v ≡ length ts).
-            rw e (subst₂ Kept (sym (getD-at vs x [] 0 (length ts) (k .lengths))) (sym (getD-append-seam ts t [] 0)) h))
+          rw e (subst₂ Kept (sym (getD-at vs x [] 0 (length ts) (k .lengths))) (sym (getD-append-seam ts t [] 0)) h))
           (λ (m : v < length ts).
-            subst₂ Kept (sym (List·getD-append vs (x ∷ []) 0 v (subst (λ n. v < n) (sym (k .lengths)) m)))
-            (sym (List·getD-append ts (t ∷ []) 0 v m)) (k .each v m))
+          subst₂ Kept (sym (List·getD-append vs (x ∷ []) 0 v (subst (λ n. v < n) (sym (k .lengths)) m)))
+          (sym (List·getD-append ts (t ∷ []) 0 v m)) (k .each v m))
           (eq-or-lt-of-le (le-of-suc-le-suc (subst (λ n. v < n) (length-append ts (t ∷ []) ∙ add-one (length ts)) l)))
 
   -- what is claimed of a form that is not moved in direction d
@@ -142,6 +142,7 @@ module _ (c : Change) (first : Register) (Kept : ℕ → ℕ → Type 0) (leaves
   unmoved (all t) ts vs w k d n = leaves .all-unmoved d t n
   unmoved (select e b) ts vs w k d n =
       let ws = and-yes (wellTyped S ts e) (wellTyped S (bind ts (memberType S ts e)) b) w in
-      let h = over-members same e ts vs (λ x. moves c b (bind vs x) d) d (unmoved e ts vs (ws .0) k) n in
-      (select-unmoved d _ _ _ _ (h .0 .0) (λ x m m′. unmoved b (bind ts (memberType S ts e)) (bind vs x) (ws .1) (keeps-bind ts vs x (memberType S ts e) k (h .0 .1 x m m′)) d (h .1 x m′)),
-       λ x m m′. h .0 .1 x (keep-from _ _ m .0) (keep-from _ _ m′ .0))
+      let h = over-members same e ts vs (λ x. moves c b (bind vs x) d) d (unmoved e ts vs (ws .0) k) n in (
+        select-unmoved d _ _ _ _ (h .0 .0) (λ x m m′. unmoved b (bind ts (memberType S ts e)) (bind vs x) (ws .1) (keeps-bind ts vs x (memberType S ts e) k (h .0 .1 x m m′)) d (h .1 x m′)),
+        λ x m m′. h .0 .1 x (keep-from _ _ m .0) (keep-from _ _ m′ .0),
+      )

@@ -1,17 +1,17 @@
 -- The order of keys, once for objects, links, pairs and event types: `before` is a strict total order on keys of one length.
 -- What `place` puts where, and what a table without a fault is.
-use Prim.Native.Nat.{ℕ, zero, suc, _+_, _<_}
-use mathlib.Core.Path.{_≡_, refl, sym, ap₂, subst, _∙_}
+use Prim.Native.Nat.{ℕ, zero, suc, _+_, _≤_, _<_, suc-le-suc}
+use mathlib.Core.Path.{_≡_, refl, sym, ap, ap₂, subst, _∙_}
 use mathlib.Core.Logic.{_⊎_, inl, inr, ⊎-elim}
 use mathlib.Core.Bool.{Bool, true, false, _&&_, not, cond}
 use mathlib.Core.List.{List, [], _∷_, List·Memᴰ·head, List·Memᴰ·tail, List·Memᴰ·not-nil, List·Memᴰ·cases-cons, List·Memᴰ·eq-of-singleton}
 use mathlib.Core.Option.{Option, none, some, Option·none-ne-some, Option·some-injective}
-use native.Mathlib.Nat.{add-zero, zero-add, eq-or-lt-of-le, lt-irrefl, suc-inj}
+use native.Mathlib.Nat.{add-zero, zero-add, eq-or-lt-of-le, le-refl, lt-irrefl, suc-inj}
 use native.Mathlib.Omega.{arith}
 use lib.Dec.{T, ltb, eqb, eqb-refl}
 use lib.ListN.{length, getElem?}
 use mir.Facts.{and-yes, yes-and, or-yes, T-not, not-T, T-not-not, ltb-yes, ltb-no, yes-ltb, eqb-yes, yes-eqb}
-use Rattle.meaning.specs.Lists.{before, same, ascends, place, faultFrom, firstFault}
+use Rattle.meaning.specs.Lists.{first, before, same, ascends, place, faultFrom, firstFault}
 use Rattle.meaning.proofs.Lists.{_∈_, Ascending, or-left, or-right, decide, cond-no}
 
 -- ---- keys
@@ -123,10 +123,11 @@ module _ {A : Type 0} (key : A → List ℕ) where
     rows-from n previous (x ∷ xs) e =
         let s = fault-step faultyRow n previous x xs e in
         let row = and-yes (ascends key previous x) (fits x) (T-not-not (goodRow previous x) (s .0)) in
-        let r = rows-from (suc n) (some x) xs (s .1) in
-        ((r .2, r .0),
-         each-cons (λ y. T (fits y)) x xs (row .1) (r .1),
-         each-cons (λ y. T (ascends key previous y)) x xs (row .0) (λ y m. ascends-after previous x y (row .0) (r .2 y m)))
+        let r = rows-from (suc n) (some x) xs (s .1) in (
+          (r .2, r .0),
+          each-cons (λ y. T (fits y)) x xs (row .1) (r .1),
+          each-cons (λ y. T (ascends key previous y)) x xs (row .0) (λ y m. ascends-after previous x y (row .0) (r .2 y m)),
+        )
 
     from-rows : (n : ℕ) (previous : Option A) (l : List A) → Ascending Before l → ((x : A) → x ∈ l → T (fits x)) → ((x : A) → x ∈ l → T (ascends key previous x)) → faultFrom faultyRow n previous l ≡ none
     from-rows n previous [] a h p = refl
@@ -172,9 +173,11 @@ module _ {A : Type 0} (key : A → List ℕ) where
         step : (b c : Bool) → before (key x) (key y) ≡ b → before (key y) (key x) ≡ c → (z : A) × z ∈ place key x ys × (key z ≡ key x) → (z : A) × z ∈ cond b (x ∷ y ∷ ys) (cond c (y ∷ place key x ys) (y ∷ ys)) × (key z ≡ key x)
         step true c p q below = (x, List·Memᴰ·head refl, refl)
         step false true p q below = (below .0, List·Memᴰ·tail (below .1), below .2)
-        step false false p q below =
-            (y, List·Memᴰ·head refl,
-             ⊎-elim (λ t. absurd (subst T p t)) (⊎-elim sym (λ t. absurd (subst T q t))) (before-total (key x) (key y) (one-width x ∙ sym (one-width y))))
+        step false false p q below = (
+          y,
+          List·Memᴰ·head refl,
+          ⊎-elim (λ t. absurd (subst T p t)) (⊎-elim sym (λ t. absurd (subst T q t))) (before-total (key x) (key y) (one-width x ∙ sym (one-width y))),
+        )
 
     pub place-ascending : (x : A) (l : List A) → Ascending Before l → Ascending Before (place key x l)
     place-ascending x [] a = ((λ y m. absurd (List·Memᴰ·not-nil m)), tt)
@@ -187,3 +190,25 @@ module _ {A : Type 0} (key : A → List ℕ) where
         step false true p q r =
             (λ z m. ⊎-elim (λ (e : z ≡ x). subst (Before y) (sym e) (subst T (sym q) tt)) (a .0 z) (place-from x ys m), r)
         step false false p q r = a
+
+pub same-swap : (x y : List ℕ) → T (same x y) → T (same y x)
+same-swap x y t = subst (λ z. T (same z x)) (same-eq x y t) (same-refl x)
+
+-- what is placed and fails the test is passed over
+pub first-place : {A : Type 0} (p : A → Bool) (key : A → List ℕ) (x : A) (l : List A) → T (not (p x)) → first p (place key x l) ≡ first p l
+first-place p key x [] n = cond-no (p x) (some x) none n
+first-place p key x (y ∷ ys) n = step (before (key x) (key y)) (before (key y) (key x)) (first-place p key x ys n)
+  where
+    step : (b c : Bool) → first p (place key x ys) ≡ first p ys → first p (cond b (x ∷ y ∷ ys) (cond c (y ∷ place key x ys) (y ∷ ys))) ≡ first p (y ∷ ys)
+    step true c below = cond-no (p x) (some x) (first p (y ∷ ys)) n
+    step false true below = ap (cond (p y) (some y)) below
+    step false false below = refl
+
+pub length-place : {A : Type 0} (key : A → List ℕ) (x : A) (l : List A) → length (place key x l) ≤ suc (length l)
+length-place key x [] = le-refl 1
+length-place key x (y ∷ ys) = step (before (key x) (key y)) (before (key y) (key x)) (length-place key x ys)
+  where
+    step : (b c : Bool) → length (place key x ys) ≤ suc (length ys) → length (cond b (x ∷ y ∷ ys) (cond c (y ∷ place key x ys) (y ∷ ys))) ≤ suc (suc (length ys))
+    step true c below = le-refl (suc (suc (length ys)))
+    step false true below = suc-le-suc below
+    step false false below = omega arith

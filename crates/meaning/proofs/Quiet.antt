@@ -88,11 +88,11 @@ module _ (S : Schema) (schema-fits : SchemaFits S) (lent : Lent) (g : Register) 
   not-linked r l s h =
       T-not (someStep c (about (insertsInto S t) x)) new
       (step-none S (about (insertsInto S t) x) g es
-       (each-map S _ _ (λ g′ e k. not-T (about (insertsInto S t) x g′ e) (λ i. T-not (present g′ x) (k .1 .0) (insert-absent S schema-fits lent g′ (k .0 .0) e (k .0 .1) x t i))) g es
-        (each-both S _ _ g es (each-fit S schema-fits lent g es fits ok)
-         (each-side S (λ g′. T (present g′ x)) g es
-          (throughout-map S _ _ (λ g′ k. near-present S g′ (k .0) r x l (k .1) s) g es
-           (throughout-both S (RegisterFits S) (λ g′. T (hasLink g′ l)) g es (fits-throughout S schema-fits lent g es fits ok) h))))))
+      (each-map S _ _ (λ g′ e k. not-T (about (insertsInto S t) x g′ e) (λ i. T-not (present g′ x) (k .1 .0) (insert-absent S schema-fits lent g′ (k .0 .0) e (k .0 .1) x t i))) g es
+      (each-both S _ _ g es (each-fit S schema-fits lent g es fits ok)
+      (each-side S (λ g′. T (present g′ x)) g es
+      (throughout-map S _ _ (λ g′ k. near-present S g′ (k .0) r x l (k .1) s) g es
+      (throughout-both S (RegisterFits S) (λ g′. T (hasLink g′ l)) g es (fits-throughout S schema-fits lent g es fits ok) h))))))
 
   no-members : (r : ℕ) → T (not (roleMoves c r x up)) → (y : ℕ) → ¬ (y ∈ farEnds (after S g es) r x)
   no-members r n y m =

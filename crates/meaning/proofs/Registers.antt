@@ -2,18 +2,18 @@
 use Prim.Native.Nat.{ℕ, _<_}
 use mathlib.Core.Path.{_≡_, refl, sym, ap, subst, _∙_}
 use mathlib.Core.Logic.{⊎-elim}
-use mathlib.Core.Bool.{Bool, true, false, _&&_, not, cond}
+use mathlib.Core.Bool.{Bool, true, false, _&&_, cond}
 use mathlib.Core.List.{List, [], _∷_, List·Memᴰ·not-nil, List·Memᴰ·cases-cons, Memᴰ·cast}
 use mathlib.Core.Option.{Option, none, some}
 use native.Mathlib.Nat.{ne-of-lt}
 use lib.Dec.{T, ltb, eqb, eqb-refl}
 use lib.ListN.{length, getD, drop}
 use mir.Facts.{and-yes, yes-and, or-yes, T-not, ltb-yes, eqb-yes, yes-eqb}
-use Rattle.meaning.specs.Lists.{any, every, keep, first, holds, before, same}
+use Rattle.meaning.specs.Lists.{every, keep, first, holds, before}
 use Rattle.meaning.specs.Limits.{cellCount, validId, fitsWord}
 use Rattle.meaning.specs.Schema.{Schema, knownType, knownRelationship, cellsOf, relationshipOf, forward, sourceType, targetType, farType, under}
 use Rattle.meaning.specs.Register.{Object, Link, Register, objectKey, linkKey, objectAt, present, isUnder, instances, sameLink, hasLink, nearEnd, farEnd, startsAt, farEnds, isZero, cellsFit, objectFits, faultyObject, linkFits, faultyLink, objectFault, linkFault}
-use Rattle.meaning.proofs.Lists.{_∈_, Ascending, any-of, any-cases, keep-in, keep-from, first-some, first-none, ascending-keep, map-in, map-from, ascending-map}
+use Rattle.meaning.proofs.Lists.{_∈_, Ascending, first-only, ascending-one, holds-some, any-of, any-cases, keep-in, keep-from, first-some, first-none, ascending-keep, map-in, map-from, ascending-map}
 use Rattle.meaning.proofs.Order.{Before, before-irreflexive, same-eq, same-refl, rows-fit, fits-rows}
 
 pub record RegisterFits (S : Schema) (g : Register) : Type 0 where
@@ -31,9 +31,10 @@ register-fits S g e f =
 
 pub fits-register : (S : Schema) (g : Register) → RegisterFits S g → (objectFault S g ≡ none) × (linkFault S g ≡ none)
 unfolding objectFault linkFault faultyObject faultyLink
-fits-register S g r =
-    (fits-rows objectKey (objectFits S) (g .objects) (r .objects-ascend) (r .objects-fit),
-     fits-rows linkKey (linkFits S g) (g .links) (r .links-ascend) (r .links-fit))
+fits-register S g r = (
+  fits-rows objectKey (objectFits S) (g .objects) (r .objects-ascend) (r .objects-fit),
+  fits-rows linkKey (linkFits S g) (g .links) (r .links-ascend) (r .links-fit),
+)
 
 -- ---- objects
 
@@ -69,27 +70,8 @@ pub object-at : (g : Register) (x : ℕ) {o : Object} → objectAt g x ≡ some 
 unfolding objectAt
 object-at g x e = let r = first-some (λ o. eqb (o .id) x) (g .objects) e in (r .0, eqb-yes (r .1))
 
-module _ {A : Type 0} where
-  -- the only element that passes the test is the first
-  first-only : (p : A → Bool) (l : List A) {x : A} → x ∈ l → T (p x) → ((y : A) → y ∈ l → T (p y) → y ≡ x) → first p l ≡ some x
-  first-only p l {x} m t only = step (first p l) refl
-    where
-      step : (o : Option A) → first p l ≡ o → o ≡ some x
-      step none e = absurd (T-not (p x) t (first-none p l e x m))
-      step (some y) e = let r = first-some p l e in ap {B = Option A} some (only y (r .0) (r .1))
-
-  -- members of an ascending list of which neither comes before the other are one
-  ascending-one : (R : A → A → Type 0) (l : List A) → Ascending R l → {x y : A} → x ∈ l → y ∈ l → ¬ R x y → ¬ R y x → x ≡ y
-  ascending-one R [] a m n f h = absurd (List·Memᴰ·not-nil m)
-  ascending-one R (z ∷ zs) a {x} {y} m n f h =
-      ⊎-elim
-      (λ (p : x ≡ z). ⊎-elim (λ (q : y ≡ z). p ∙ sym q) (λ (k : y ∈ zs). absurd (f (subst (λ w. R w y) (sym p) (a .0 y k)))) (List·Memᴰ·cases-cons n))
-      (λ (j : x ∈ zs).
-        ⊎-elim (λ (q : y ≡ z). absurd (h (subst (λ w. R w x) (sym q) (a .0 x j)))) (λ (k : y ∈ zs). ascending-one R zs (a .1) j k f h) (List·Memᴰ·cases-cons n))
-      (List·Memᴰ·cases-cons m)
-
 -- no id twice
-pub object-one : (l : List Object) → Ascending (Before objectKey) l → {x y : Object} → x ∈ l → y ∈ l → x .id ≡ y .id → x ≡ y
+object-one : (l : List Object) → Ascending (Before objectKey) l → {x y : Object} → x ∈ l → y ∈ l → x .id ≡ y .id → x ≡ y
 object-one l a {x} {y} m n e = ascending-one (Before objectKey) l a m n (differ x y e) (differ y x (sym e))
   where
     differ : (v w : Object) → v .id ≡ w .id → ¬ Before objectKey v w
@@ -103,19 +85,10 @@ ascending-found g a {o} m =
 pub object-found : (S : Schema) (g : Register) → RegisterFits S g → {o : Object} → o ∈ g .objects → objectAt g (o .id) ≡ some o
 object-found S g r m = ascending-found g (r .objects-ascend) m
 
--- a test that an object passes, and the object
-pub held : (p : Object → Bool) (x : Option Object) → T (holds p x) → (o : Object) × (x ≡ some o) × T (p o)
-held p none t = absurd t
-held p (some o) t = (o, refl, t)
-
 -- an object under some type is there
 pub under-present : (S : Schema) (g : Register) (x t : ℕ) → T (isUnder S g x t) → T (present g x)
 unfolding isUnder present
-under-present S g x t u = step (objectAt g x) u
-  where
-    step : (o : Option Object) → T (holds (λ o. under S (o .type) t) o) → T (holds (λ o. true) o)
-    step none h = h
-    step (some o) h = tt
+under-present S g x t u = rw (holds-some (λ o. under S (o .type) t) (objectAt g x) u .1) tt
 
 -- ---- links
 
@@ -137,7 +110,7 @@ link-has g l m = any-of (sameLink l) m (same-refl (linkKey l))
 pub instance-in : (S : Schema) (g : Register) (x t : ℕ) → T (isUnder S g x t) → x ∈ instances S g t
 unfolding isUnder instances
 instance-in S g x t u =
-    let o = held (λ o. under S (o .type) t) (objectAt g x) u in
+    let o = holds-some (λ o. under S (o .type) t) (objectAt g x) u in
     let r = object-at g x (o .1) in
     Memᴰ·cast (sym (r .1)) (map-in (λ (o : Object). o .id) (keep-in (λ o. under S (o .type) t) (r .0) (o .2)))
 
@@ -193,6 +166,7 @@ far-ends-ascend S g f r u =
     by-end : (x y : Link) (b : Bool) → cond b (x .source) (x .target) ≡ cond b (y .source) (y .target) → T (before (x .source ∷ x .target ∷ []) (y .source ∷ y .target ∷ [])) → cond b (x .target) (x .source) < cond b (y .target) (y .source)
     by-end x y true e t = before-one (x .target) (y .target) (before-last (x .source) (y .source) (x .target ∷ []) (y .target ∷ []) e t)
     by-end x y false e t = before-first (x .source) (y .source) (x .target) (y .target) e t
+
     lower : (x y : Link) → (x .relationship ≡ relationshipOf r) × (nearEnd r x ≡ u) → (y .relationship ≡ relationshipOf r) × (nearEnd r y ≡ u) → Before linkKey x y → farEnd r x < farEnd r y
     lower x y p q t =
         by-end x y (forward r) (p .1 ∙ sym (q .1))

@@ -59,7 +59,8 @@ schema-fits S e =
     record {
       parent-lower = λ t p q. ltb-yes (parent-fits S e t p q .0);
       parent-cells = λ t p q. leb-yes (parent-fits S e t p q .1);
-      cells-bound = λ t. leb-yes (and-yes (parentFits S t (typeAt S t)) (leb (cellsOf S t) cellCount) (type-fits S e t) .1) }
+      cells-bound = λ t. leb-yes (and-yes (parentFits S t (typeAt S t)) (leb (cellsOf S t) cellCount) (type-fits S e t) .1);
+    }
 
 -- ---- under
 

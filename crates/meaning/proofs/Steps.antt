@@ -3,7 +3,7 @@ use Prim.Native.Nat.{ℕ, suc}
 use mathlib.Core.Path.{_≡_, refl, sym, subst, _∙_}
 use mathlib.Core.Bool.{Bool, not, _||_}
 use mathlib.Core.List.{List, [], _∷_}
-use mathlib.Core.Option.{Option, none, some, Option·none-ne-some, Option·some-ne-none}
+use mathlib.Core.Option.{none, Option·map, map-eq-none-iff}
 use lib.Dec.{T}
 use mir.Facts.{or-no}
 use Rattle.meaning.specs.Lists.{any}
@@ -11,7 +11,7 @@ use Rattle.meaning.specs.Schema.{Schema}
 use Rattle.meaning.specs.Register.{Register, objectFault, linkFault}
 use Rattle.meaning.specs.Events.{Event, Lent, Refusal, apply, after, eventRefusal, refusalFrom, batchRefusal}
 use Rattle.meaning.specs.Reach.{Step, Change, stepsOf, changeBy, someStep}
-use Rattle.meaning.proofs.Lists.{no-or}
+use Rattle.meaning.proofs.Lists.{no-or, first-of-none}
 use Rattle.meaning.proofs.Schemas.{SchemaFits}
 use Rattle.meaning.proofs.Registers.{RegisterFits, fits-register}
 use Rattle.meaning.proofs.Effects.{apply-fits}
@@ -33,16 +33,9 @@ Unrefused S lent g es = EachStep (λ g′ e. eventRefusal S lent g′ e ≡ none
 refusal-none : (S : Schema) (lent : Lent) (n : ℕ) (g : Register) (es : List Event) → refusalFrom S lent n g es ≡ none → Unrefused S lent g es
 unfolding refusalFrom
 refusal-none S lent n g [] r = tt
-refusal-none S lent n g (e ∷ es) r = step (eventRefusal S lent g e) refl (λ q. refusal-none S lent (suc n) (apply S e g) es q) r
-  where
-    left : Option ℕ → Option Refusal
-    left o =
-        elim o [
-            none ↦ refusalFrom S lent (suc n) (apply S e g) es
-          | some number ↦ some (record { number = number; place = n }) ]
-    step : (o : Option ℕ) → eventRefusal S lent g e ≡ o → (refusalFrom S lent (suc n) (apply S e g) es ≡ none → Unrefused S lent (apply S e g) es) → left o ≡ none → Unrefused S lent g (e ∷ es)
-    step none q below r′ = (q, below r′)
-    step (some number) q below r′ = absurd (Option·some-ne-none _ r′)
+refusal-none S lent n g (e ∷ es) r =
+    let h = first-of-none (Option·map (λ number. record { number = number; place = n }) (eventRefusal S lent g e)) (refusalFrom S lent (suc n) (apply S e g) es) r in
+    (map-eq-none-iff _ (eventRefusal S lent g e) .0 (h .0), refusal-none S lent (suc n) (apply S e g) es (h .1))
 
 pub unrefused : (S : Schema) (lent : Lent) (g : Register) (es : List Event) → batchRefusal S lent g es ≡ none → Unrefused S lent g es
 unfolding batchRefusal

@@ -2,11 +2,11 @@
 use Prim.Native.Nat.{ℕ, suc, _-_, min}
 use mathlib.Core.Bool.{Bool, true, false, _&&_, _||_, not, cond}
 use mathlib.Core.List.{List, [], _∷_, _++_, map}
-use mathlib.Core.Option.{Option, none, some}
+use mathlib.Core.Option.{Option, none, some, Option·map}
 use lib.Dec.{ltb, leb, eqb}
 use lib.ListN.{length, take, replicate, set as replaceAt}
 use lib.IntN.{ℤ, pos}
-use Rattle.meaning.specs.Lists.{any, keep, holds, place}
+use Rattle.meaning.specs.Lists.{any, keep, holds, firstOf, place}
 use Rattle.meaning.specs.Limits.{maxObjects, maxLinks, cellCount, validId, fitsWord}
 use Rattle.meaning.specs.Schema.{Schema, knownType, knownRelationship, cellsOf, under, sourceType, targetType}
 use Rattle.meaning.specs.Register.{Object, Link, Register, objectKey, linkKey, objectAt, present, isUnder, sameLink, hasLink}
@@ -73,11 +73,10 @@ after S g (e ∷ es) = after S (apply S e g) es
 
 -- ---- refusals 7 to 13
 
+infix 20 _when_
 -- a refusal's number, and when it is met
 pub data Check : Type 0 where
   _when_ : ℕ → Bool → Check
-
-infix 20 _when_
 
 -- the number of the first refusal of the list that is met
 unfoldable pub firstMet : List Check → Option ℕ
@@ -89,13 +88,13 @@ unfoldable pub linked : Register → ℕ → Bool
 linked g id = any (λ l. eqb (l .source) id || eqb (l .target) id) (g .links)
 
 -- 12: "general out of a type a link needs"; a link of an object to itself counts at both ends
+unfoldable pub needsType : Schema → ℕ → ℕ → Link → Bool
+needsType S id t l =
+    (eqb (l .source) id && not (under S t (sourceType S (l .relationship))))
+    || (eqb (l .target) id && not (under S t (targetType S (l .relationship))))
+
 unfoldable pub typeNeeded : Schema → Register → ℕ → ℕ → Bool
-typeNeeded S g id t =
-    any
-    (λ l.
-      (eqb (l .source) id && not (under S t (sourceType S (l .relationship))))
-      || (eqb (l .target) id && not (under S t (targetType S (l .relationship)))))
-    (g .links)
+typeNeeded S g id t = any (needsType S id t) (g .links)
 
 -- the object's type is strictly above t, or strictly under it
 unfoldable pub strictlyAbove : Schema → Register → ℕ → ℕ → Bool
@@ -162,9 +161,8 @@ pub record Refusal : Type 0 where
 unfoldable pub refusalFrom : Schema → Lent → ℕ → Register → List Event → Option Refusal
 refusalFrom S lent n g [] = none
 refusalFrom S lent n g (e ∷ es) =
-    elim (eventRefusal S lent g e) [
-        none ↦ refusalFrom S lent (suc n) (apply S e g) es
-      | some number ↦ some (record { number = number; place = n }) ]
+    let rest = refusalFrom S lent (suc n) (apply S e g) es in
+    firstOf (Option·map (λ number. record { number = number; place = n }) (eventRefusal S lent g e)) rest
 
 unfoldable pub batchRefusal : Schema → Lent → Register → List Event → Option Refusal
 batchRefusal S lent g es = refusalFrom S lent 0 g es

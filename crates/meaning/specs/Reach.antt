@@ -196,11 +196,15 @@ roleMoves c r u down = someStep c (λ g e. parts e && startsAt r u (linkNamed e)
 
 -- "`all t`: gain if an insert or special brought in an object that is under t at the end; loss if a delete or general took one
 -- out."
+unfoldable pub bringsIn : Schema → ℕ → Register → Event → Bool
+bringsIn S t g e = insertsInto S t g e || specialisesInto S t g e
+
+unfoldable pub takesOut : Schema → ℕ → Register → Event → Bool
+takesOut S t g e = deletesFrom S t g e || generalisesFrom S t g e
+
 unfoldable pub allMoves : Change → ℕ → Direction → Bool
-allMoves c t up =
-    someStep c (λ g e.
-      (insertsInto (c .schema) t g e || specialisesInto (c .schema) t g e) && isUnder (c .schema) (c .end) (subject e) t)
-allMoves c t down = someStep c (λ g e. deletesFrom (c .schema) t g e || generalisesFrom (c .schema) t g e)
+allMoves c t up = someStep c (λ g e. bringsIn (c .schema) t g e && isUnder (c .schema) (c .end) (subject e) t)
+allMoves c t down = someStep c (takesOut (c .schema) t)
 
 -- "`cell`: may rise or fall if a set named that object and cell."
 unfoldable pub cellMoves : Change → ℕ → ℕ → Bool
@@ -278,11 +282,11 @@ specialised c s t = someStep c (λ g e. specialisesInto (c .schema) t g e && eqb
 
 -- "Pair (rule, s) is selected when s is under the context type at the end and: the body may turn false at s; or an insert
 -- brought s into the context type and the body is not quiet; or a special did."
+unfoldable pub broughtIn : Change → Rule → ℕ → Bool
+broughtIn c r s = (inserted c s (r .context) && not (quiet (r .body))) || specialised c s (r .context)
+
 unfoldable pub selected : Change → Rule → ℕ → Bool
-selected c r s =
-    isUnder (c .schema) (c .end) s (r .context)
-    && (moves c (r .body) (s ∷ []) down
-        || ((inserted c s (r .context) && not (quiet (r .body))) || specialised c s (r .context)))
+selected c r s = isUnder (c .schema) (c .end) s (r .context) && (moves c (r .body) (s ∷ []) down || broughtIn c r s)
 
 -- a rule's number and an object's id
 pub record Pair : Type 0 where
