@@ -1,29 +1,28 @@
--- Theorem 1. A pair that is broken at the end and not selected was broken before the batch already. Hence, where every rule held
--- before the batch, the answer by the listed pairs is the full check's.
+-- A pair that is broken at the end and not selected was broken before the batch already.
 use Prim.Native.Nat.{ℕ}
-use mathlib.Core.Path.{_≡_, refl, sym, subst, ap, _∙_}
-use mathlib.Core.Logic.{_⊎_, ⊎-elim}
-use mathlib.Core.Bool.{Bool, true, false, _&&_, _||_, not}
+use mathlib.Core.Path.{_≡_, refl}
+use mathlib.Core.Logic.{⊎-elim}
+use mathlib.Core.Bool.{true, _&&_, _||_, not}
 use mathlib.Core.List.{List, [], _∷_}
 use mathlib.Core.Option.{Option, none, some, Option·some-ne-none}
 use lib.Dec.{T, leb}
 use lib.ListN.{getElem?}
 use mir.Facts.{and-yes, yes-and, or-no, and-no, T-not, not-T, T-not-not}
-use Rattle.meaning.specs.Lists.{every, holds, first, firstOf}
+use Rattle.meaning.specs.Lists.{firstOf}
 use Rattle.meaning.specs.Limits.{maxForms}
 use Rattle.meaning.specs.Schema.{Schema, knownType, typeFault, relationshipFault}
-use Rattle.meaning.specs.Register.{Register, isUnder, instances, objectFault, linkFault}
-use Rattle.meaning.specs.Forms.{Form, truth, wellTyped, formCount, Rule, Book, faultyRule, ruleFault}
-use Rattle.meaning.specs.Meaning.{meaning, broken, ruleHolds, bookHolds}
-use Rattle.meaning.specs.Events.{Event, Lent, Refusal, after, batchRefusal}
-use Rattle.meaning.specs.Reach.{Change, changeBy, down, moves, quiet, inserted, specialised, broughtIn, selected, Pair, contextPairs, ofRule, selectedPairs}
-use Rattle.meaning.specs.Answers.{Answer, refusalAt, bookRefusal, registerRefusal, refusal, foundAnswer, firstBroken, unlessRefused, fullCheck, checkRefusal, outcomeOf, outcomeUnless, batchCheck}
-use Rattle.meaning.proofs.Lists.{_∈_, decide, first-of-none, every-at, first-keep, holds-some, element-in}
+use Rattle.meaning.specs.Register.{Register, isUnder, objectFault, linkFault}
+use Rattle.meaning.specs.Forms.{wellTyped, formCount, Rule, Book, faultyRule, ruleFault}
+use Rattle.meaning.specs.Meaning.{meaning, broken}
+use Rattle.meaning.specs.Events.{Event, Lent, after}
+use Rattle.meaning.specs.Reach.{Change, changeBy, down, moves, quiet, inserted, specialised, broughtIn, selected}
+use Rattle.meaning.specs.Answers.{refusalAt, bookRefusal, registerRefusal, refusal}
+use Rattle.meaning.proofs.Lists.{decide, first-of-none}
 use Rattle.meaning.proofs.Order.{fault-none}
 use Rattle.meaning.proofs.Schemas.{SchemaFits, schema-fits}
-use Rattle.meaning.proofs.Registers.{RegisterFits, register-fits, fits-register, instance-in}
-use Rattle.meaning.proofs.Steps.{Unrefused, unrefused, end-fits, at-start}
-use Rattle.meaning.proofs.Movement.{keeps-self, unmoved}
+use Rattle.meaning.proofs.Registers.{RegisterFits, register-fits}
+use Rattle.meaning.proofs.Steps.{Unrefused, at-start}
+use Rattle.meaning.proofs.Movement.{unmoved}
 use Rattle.meaning.proofs.Batches.{Kept, leaves, not-brought-in}
 use Rattle.meaning.proofs.Quiet.{quiet-value}
 
@@ -71,7 +70,7 @@ checked k g e =
         let known = and-yes (knownType S (r .context) && wellTyped S (r .context ∷ []) (r .body)) (leb (formCount (r .body)) maxForms) (T-not-not (knownType S (r .context) && wellTyped S (r .context ∷ []) (r .body) && leb (formCount (r .body)) maxForms) (f .1)) in
         and-yes (knownType S (r .context)) (wellTyped S (r .context ∷ []) (r .body)) (known .0) .1
 
-broken-under : (S : Schema) (g : Register) (r : Rule) (s : ℕ) → T (broken S g r s) → T (isUnder S g s (r .context))
+pub broken-under : (S : Schema) (g : Register) (r : Rule) (s : ℕ) → T (broken S g r s) → T (isUnder S g s (r .context))
 unfolding broken
 broken-under S g r s b = and-yes (isUnder S g s (r .context)) (not (meaning S g (r .body) (s ∷ []))) b .0
 
@@ -92,7 +91,7 @@ module _ (S : Schema) (schema : SchemaFits S) (lent : Lent) (g : Register) (fits
       not-turned : T (meaning S g (r .body) (s ∷ [])) → T (meaning S (after S g es) (r .body) (s ∷ []))
       not-turned =
           unmoved c g (Kept S schema lent g fits es ok) (leaves S schema lent g fits es ok) (r .body) (r .context ∷ []) (s ∷ []) typed
-          (keeps-self c g (Kept S schema lent g fits es ok) (leaves S schema lent g fits es ok) s (r .context) h) down n
+          (h, tt) down n
 
   -- Theorem 1, pair by pair.
   pub passed-over : T (broken S (after S g es) r s) → T (not (selected c r s)) → T (broken S g r s)
@@ -119,56 +118,3 @@ module _ (S : Schema) (schema : SchemaFits S) (lent : Lent) (g : Register) (fits
           ⊎-elim (λ i. absurd (quiet-there i (ms .0) (ns .0)))
           (λ i. kept-broken (not-brought-in S schema lent g fits es ok s (r .context) i (ns .1) (bs .0)) (ms .0) b)
           (decide (inserted c s (r .context)))
-
--- ---- the theorems, for every book, register and batch that is not refused
-
-module _ (k : Book) (lent : Lent) (g : Register) (es : List Event) (accepted-book : refusal k g ≡ none) (accepted-batch : batchRefusal (k .schema) lent g es ≡ none) where
-  abbrev S : Schema
-  S = k .schema
-
-  known : Checked k g
-  known = checked k g accepted-book
-
-  ok : Unrefused S lent g es
-  ok = unrefused S lent g es accepted-batch
-
-  -- Theorem 1: nothing is passed over wrongly. (`broken` before the batch says that the object was under the context type.)
-  pub nothing-passed-over : (n : ℕ) (r : Rule) → getElem? (k .rules) n ≡ some r → (s : ℕ) → T (broken S (after S g es) r s) → T (not (selected (changeBy S g es) r s)) → T (broken S g r s)
-  nothing-passed-over n r q s b h = passed-over S (known .schema) lent g (known .register) es ok r (known .typed n r q) s b h
-
-  -- Theorem 4: the register after the batch is not refused.
-  pub after-not-refused : refusal k (after S g es) ≡ none
-  unfolding refusal registerRefusal refusalAt
-  after-not-refused =
-      let rows = fits-register S (after S g es) (end-fits S (known .schema) lent g es (known .register) ok) in
-      rw (known .book, rows .0, rows .1)
-
-  -- a rule that held and is broken at the end has its pair selected
-  broken-selected : T (bookHolds k g) → (p : Pair) → T (ofRule k (λ r. broken S (after S g es) r (p .id)) (p .rule)) → T (ofRule k (λ r. selected (changeBy S g es) r (p .id)) (p .rule))
-  unfolding ofRule bookHolds ruleHolds
-  broken-selected h p b =
-      let f = holds-some (λ r. broken S (after S g es) r (p .id)) (getElem? (k .rules) (p .rule)) b in
-      subst (λ o. T (holds (λ r. selected (changeBy S g es) r (p .id)) o)) (sym (f .1))
-      (⊎-elim (λ s. s) (λ s. absurd (held (f .0) (f .1) (nothing-passed-over (p .rule) (f .0) (f .1) (p .id) (f .2) s)))
-      (decide (selected (changeBy S g es) (f .0) (p .id))))
-    where
-      held : (r : Rule) → getElem? (k .rules) (p .rule) ≡ some r → ¬ T (broken S g r (p .id))
-      held r q b′ =
-          T-not (broken S g r (p .id)) b′
-          (every-at (λ s. not (broken S g r s)) (every-at (ruleHolds S g) h (element-in (k .rules) (p .rule) q))
-          (instance-in S g (p .id) (r .context) (broken-under S g r (p .id) b′)))
-
-  -- Theorem 1, agreement.
-  pub agreement : T (bookHolds k g) → firstBroken k (after S g es) (selectedPairs k (changeBy S g es)) ≡ fullCheck k (after S g es)
-  unfolding fullCheck firstBroken selectedPairs unlessRefused
-  agreement h =
-      rw after-not-refused
-      (ap foundAnswer (first-keep _ _ (contextPairs k (after S g es)) (λ p m. broken-selected h p)))
-
--- The batch check's answer is the full check's of the register after the batch.
-pub batch-agreement : (k : Book) (lent : Lent) (g : Register) (es : List Event) → checkRefusal k lent g es ≡ none → T (bookHolds k g) → (batchCheck k lent g es) .answer ≡ fullCheck k (after (k .schema) g es)
-unfolding batchCheck outcomeUnless outcomeOf checkRefusal
-batch-agreement k lent g es e h =
-    let a = first-of-none (refusal k g) _ e in
-    let b = first-of-none (batchRefusal (k .schema) lent g es) _ (a .1) in
-    rw e (agreement k lent g es (a .0) (b .0) h)

@@ -1,23 +1,23 @@
 -- What the history of a batch that is not refused gives at the leaves of the induction over forms.
 use Prim.Native.Nat.{ℕ, _<_}
-use mathlib.Core.Path.{_≡_, refl, sym, subst, ap, _∙_}
-use mathlib.Core.Logic.{_⊎_, ⊎-elim}
+use mathlib.Core.Path.{_≡_, sym, subst, ap}
+use mathlib.Core.Logic.{⊎-elim}
 use mathlib.Core.Bool.{Bool, _&&_, _||_, not}
-use mathlib.Core.List.{List, [], _∷_}
+use mathlib.Core.List.{List}
 use mathlib.Core.Option.{none}
 use lib.Dec.{T, eqb, eqb→eq}
 use lib.ListN.{getD}
-use mir.Facts.{and-yes, yes-and, and-no, or-no, T-not, not-T}
-use Rattle.meaning.specs.Schema.{Schema, cellsOf, under, nearType, farType}
+use mir.Facts.{and-yes, yes-and, and-no, T-not, not-T}
+use Rattle.meaning.specs.Schema.{Schema, cellsOf, farType}
 use Rattle.meaning.specs.Register.{Link, linkKey, Register, present, isUnder, cellAt, instances, sameLink, hasLink, farEnd, startsAt, farEnds}
-use Rattle.meaning.specs.Forms.{truth, collection}
+use Rattle.meaning.specs.Forms.{truth}
 use Rattle.meaning.specs.Events.{Event, Lent, apply, after, eventRefusal}
-use Rattle.meaning.specs.Reach.{Step, Change, changeBy, someStep, subject, linkNamed, joins, parts, sets, insertsInto, specialisesInto, deletesFrom, generalisesFrom, Direction, up, down, roleMoves, bringsIn, takesOut, allMoves, cellMoves, kindMoves, inserted, specialised}
+use Rattle.meaning.specs.Reach.{Change, changeBy, someStep, subject, linkNamed, joins, parts, sets, insertsInto, specialisesInto, deletesFrom, generalisesFrom, Direction, up, down, roleMoves, bringsIn, takesOut, allMoves, cellMoves, kindMoves, inserted, specialised}
 use Rattle.meaning.specs.Lists.{any}
 use Rattle.meaning.proofs.Lists.{_∈_, or-left, or-right, any-map}
 use Rattle.meaning.proofs.Order.{same-eq}
 use Rattle.meaning.proofs.Schemas.{SchemaFits}
-use Rattle.meaning.proofs.Registers.{RegisterFits, under-present, link-in, instance-in, instance-from, far-in, far-from, far-under, near-present}
+use Rattle.meaning.proofs.Registers.{RegisterFits, under-present, instance-in, instance-from, far-in, far-from, far-under}
 use Rattle.meaning.proofs.Effects.{link-stays, link-was, under-stays, under-was, cell-same, insert-absent, delete-absent}
 use Rattle.meaning.proofs.Monotone.{Unmoved}
 use Rattle.meaning.proofs.Movement.{UnmovedKept, Leaves}

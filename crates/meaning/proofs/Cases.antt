@@ -3,20 +3,19 @@
 -- type too many, is refused here.
 use Prim.Native.Nat.{ℕ, _-_}
 use mathlib.Core.Path.{_≡_, refl}
-use mathlib.Core.Bool.{Bool}
 use mathlib.Core.List.{List, [], _∷_, _++_, map}
-use mathlib.Core.Option.{Option, none, some}
+use mathlib.Core.Option.{none, some}
 use lib.ListN.{length, replicate}
-use lib.IntN.{ℤ, pos, negsuc}
+use lib.IntN.{ℤ, pos}
 use Rattle.meaning.specs.Limits.{cellCount, validId, fitsWord}
 use Rattle.meaning.specs.Schema.{ObjectType, Relationship, Schema, knownType, knownRelationship, typeAt, parentOf, cellsOf, hasParent, climbs, under, knownRole, relationshipAt, sourceType, targetType, nearType, farType, parentFits, faultyType, faultyRelationship, typeFault, relationshipFault}
-use Rattle.meaning.specs.Register.{Object, Link, Register, objectAt, present, isUnder, cellAt, instances, hasLink, farEnds, cellsFit, objectFits, faultyObject, linkFits, faultyLink, objectFault, linkFault}
-use Rattle.meaning.specs.Forms.{Sort, truth, le, ge, gt, and, or, forall, add, Form, compare, connect, quantify, kind, num, cell, size, sum, combine, role, all, select, formCount, memberType, wellTyped, Rule, Book, faultyRule, ruleFault}
+use Rattle.meaning.specs.Register.{Object, Register, objectAt, present, isUnder, cellAt, instances, hasLink, farEnds, cellsFit, objectFits, faultyObject, linkFits, faultyLink, objectFault, linkFault}
+use Rattle.meaning.specs.Forms.{truth, le, ge, gt, and, or, forall, add, Form, compare, connect, quantify, kind, num, cell, size, sum, combine, role, all, select, formCount, memberType, wellTyped, Rule, Book, faultyRule, ruleFault}
 use Rattle.meaning.specs.Meaning.{compared, connected, quantified, combined, total, meaning, broken}
 use Rattle.meaning.specs.Events.{Event, insert, delete, set, join, part, special, general, Lent, linkOf, apply, after, firstMet, linked, needsType, typeNeeded, strictlyAbove, strictlyUnder, hasCell, checks, eventRefusal, refusalFrom, batchRefusal}
-use Rattle.meaning.specs.Reach.{stepsOf, changeBy, someStep, leftOf, rightOf, firstPart, secondPart, sourceOf, secondTerm, roleMoves, bringsIn, takesOut, allMoves, cellMoves, kindMoves, moves, roleOfSelf, quietQuantifier, quietConnective, quietly, quiet, inserted, specialised, broughtIn, selected, Pair, pairOf, pairsFrom, contextPairs, ofRule, selectedPairs}
-use Rattle.meaning.specs.EventList.{EventType, insertOf, deleteOf, setOf, joinOf, partOf, specialOf, generalOf, wordsOf, whereParent, roleLists, allLists, kindLists, lists, contextLists, eventList}
-use Rattle.meaning.specs.Answers.{Answer, accepted, brokenAt, refused, refusalAt, bookRefusal, registerRefusal, refusal, foundAnswer, firstBroken, unlessRefused, listRefusal, checkRefusal, Outcome, registerLeft, outcomeOf, outcomeUnless, batchCheck}
+use Rattle.meaning.specs.Reach.{stepsOf, someStep, leftOf, rightOf, firstPart, secondPart, sourceOf, secondTerm, roleMoves, bringsIn, takesOut, allMoves, cellMoves, kindMoves, moves, roleOfSelf, quietQuantifier, quietConnective, quietly, quiet, inserted, specialised, broughtIn, selected, Pair, pairOf, pairsFrom, contextPairs, ofRule, selectedPairs}
+use Rattle.meaning.specs.EventList.{EventType, insertOf, setOf, joinOf, partOf, specialOf, wordsOf, whereParent, roleLists, allLists, kindLists, lists, contextLists, eventList}
+use Rattle.meaning.specs.Answers.{Answer, accepted, brokenAt, refused, refusalAt, bookRefusal, registerRefusal, refusal, foundAnswer, firstBroken, unlessRefused, listRefusal, checkRefusal, registerLeft, outcomeOf, outcomeUnless, batchCheck}
 
 -- ---- what a case gives and what it must show
 

@@ -1,26 +1,26 @@
 -- What an event that is not refused does to a register that fits its schema: it fits afterwards, and links, types and cells
 -- change only as the reach rules' tests of a step say.
-use Prim.Native.Nat.{ℕ, zero, suc, _<_, _≤_, _-_, min, suc-le-suc}
+use Prim.Native.Nat.{ℕ, _<_, _≤_, _-_, min}
 use mathlib.Core.Path.{_≡_, refl, sym, ap, subst, _∙_}
 use mathlib.Core.Logic.{⊎-elim}
 use mathlib.Core.Bool.{Bool, true, false, _&&_, _||_, not, cond}
-use mathlib.Core.List.{List, [], _∷_, _++_, map, Memᴰ·cast}
+use mathlib.Core.List.{List, [], _∷_, Memᴰ·cast}
 use mathlib.Core.Option.{Option, none, some, Option·map, Option·none-ne-some, Option·some-ne-none, Option·some-injective}
-use native.Mathlib.Nat.{add-sub-of-le, lt-of-lt-of-le, le-refl, le-trans}
+use native.Mathlib.Nat.{add-sub-of-le, lt-of-lt-of-le, le-trans}
 use native.Mathlib.Omega.{arith}
 use lib.Dec.{T, ltb, eqb, eqb-refl}
-use lib.ListN.{length, getD, take, drop, replicate, set as replaceAt, length-append, length-replicate, length-set, length-map, List·getD-append}
+use lib.ListN.{length, getD, take, drop, replicate, length-append, length-replicate, length-set, length-map, List·getD-append}
 use lib.Seq.{length-take-le, drop-set-lt, drop-at, drop-drop, getD-take, getD-set-other}
 use lib.IntN.{ℤ, pos}
 use mir.Facts.{and-yes, yes-and, or-no, T-not, not-T, T-not-not, eqb-yes, yes-eqb, eqb-no, ltb-yes, leb-no}
-use Rattle.meaning.specs.Lists.{every, keep, first, before, same, place}
+use Rattle.meaning.specs.Lists.{every, keep, place}
 use Rattle.meaning.specs.Limits.{cellCount, maxObjects, validId, fitsWord}
 use Rattle.meaning.specs.Schema.{Schema, knownType, knownRelationship, cellsOf, under, sourceType, targetType}
 use Rattle.meaning.specs.Register.{Object, Link, Register, objectKey, linkKey, objectAt, present, isUnder, cellAt, sameLink, hasLink, isZero, objectFits, linkFits}
 use Rattle.meaning.specs.Events.{Event, insert, delete, set, join, part, special, general, Lent, linkOf, newObject, clearedFrom, withCell, withType, withHigherType, amended, apply, Check, _when_, firstMet, linked, needsType, typeNeeded, strictlyAbove, strictlyUnder, hasCell, checks, eventRefusal}
 use Rattle.meaning.specs.Reach.{subject, linkNamed, joins, parts, sets, insertsInto, specialisesInto, deletesFrom, generalisesFrom}
-use Rattle.meaning.proofs.Lists.{_∈_, Ascending, not-sub, decide, first-absent, first-keep, first-map, every-drop, every-take, every-append, every-replicate, every-set, holds-some, cond-yes, cond-no, any-none, keep-in, keep-from, length-keep, first-some, ascending-keep, ascending-map}
-use Rattle.meaning.proofs.Order.{Before, same-eq, same-refl, same-swap, first-place, length-place, place-from, place-other, place-has, place-ascending}
+use Rattle.meaning.proofs.Lists.{_∈_, Ascending, not-sub, decide, first-absent, first-keep, first-map, every-drop, every-take, every-append, every-replicate, every-set, holds-some, cond-yes, cond-no, any-none, keep-in, keep-from, length-keep, ascending-keep, ascending-map}
+use Rattle.meaning.proofs.Order.{Before, same-refl, same-swap, first-place, length-place, place-from, place-other, place-has, place-ascending}
 use Rattle.meaning.proofs.Schemas.{SchemaFits, under-trans, under-cells}
 use Rattle.meaning.proofs.Registers.{RegisterFits, object-parts, object-whole, object-at, ascending-found, under-present, link-in, link-has, link-parts, link-whole}
 
@@ -42,6 +42,26 @@ not-met ((n when met) ∷ checks) e = step met (λ q. not-met checks q) e
 clear : (S : Schema) (lent : Lent) (g : Register) (e : Event) → eventRefusal S lent g e ≡ none → Clear (checks S lent g e)
 unfolding eventRefusal
 clear S lent g e ok = not-met (checks S lent g e) ok
+
+-- What refusal 11 leaves of a special or a general: the object's type is strictly above the new one, or strictly under it.
+abbrev pub EventFits : Schema → Register → Event → Type 0
+EventFits S g (insert id t) = Unit {0}
+EventFits S g (delete id) = Unit {0}
+EventFits S g (set id k v) = Unit {0}
+EventFits S g (join r a b) = Unit {0}
+EventFits S g (part r a b) = Unit {0}
+EventFits S g (special id t) = T (strictlyAbove S g id t)
+EventFits S g (general id t) = T (strictlyUnder S g id t)
+
+pub event-fits : (S : Schema) (lent : Lent) (g : Register) (e : Event) → eventRefusal S lent g e ≡ none → EventFits S g e
+unfolding checks
+event-fits S lent g (insert id t) ok = tt
+event-fits S lent g (delete id) ok = tt
+event-fits S lent g (set id k v) ok = tt
+event-fits S lent g (join r a b) ok = tt
+event-fits S lent g (part r a b) ok = tt
+event-fits S lent g (special id t) ok = T-not-not (strictlyAbove S g id t) (clear S lent g (special id t) ok .1 .1 .0)
+event-fits S lent g (general id t) ok = T-not-not (strictlyUnder S g id t) (clear S lent g (general id t) ok .1 .1 .0)
 
 -- a refusal of what lacks one of two
 both : (a b : Bool) → T (not (not (a && b))) → T a × T b

@@ -3,12 +3,12 @@ use Prim.Native.Nat.{ℕ, zero, suc, _≤_, zero-le, suc-le-suc}
 use mathlib.Core.Path.{_≡_, refl, sym, ap, subst, _∙_}
 use mathlib.Core.Logic.{_⊎_, inl, inr, ⊎-elim}
 use mathlib.Core.Bool.{Bool, true, false, _&&_, _||_, not, cond}
-use mathlib.Core.List.{List, [], _∷_, _++_, map, List·Memᴰ, List·Memᴰ·head, List·Memᴰ·tail, List·Memᴰ·not-nil, List·Memᴰ·cases-cons, Memᴰ·cast, Memᴰ·append-left, Memᴰ·append-right, List·Memᴰ·append-cases}
+use mathlib.Core.List.{List, [], _∷_, _++_, map, List·Memᴰ, List·Memᴰ·head, List·Memᴰ·tail, List·Memᴰ·not-nil, List·Memᴰ·cases-cons, List·Memᴰ·append-cases}
 use mathlib.Core.Option.{Option, none, some, Option·map, Option·none-ne-some, Option·some-injective}
-use native.Mathlib.Nat.{le-trans, le-suc, le-refl}
+use native.Mathlib.Nat.{le-trans, le-suc}
 use lib.Dec.{T}
 use lib.ListN.{length, take, drop, replicate, getElem?, set as replaceAt}
-use mir.Facts.{and-yes, yes-and, or-yes, or-no, T-not, not-T}
+use mir.Facts.{and-yes, yes-and, or-yes, T-not, not-T}
 use Rattle.meaning.specs.Lists.{any, every, keep, first, holds, firstOf}
 
 -- ---- membership
@@ -154,6 +154,9 @@ module _ {A : Type 0} where
   pub holds-some : (p : A → Bool) (o : Option A) → T (holds p o) → (x : A) × (o ≡ some x) × T (p x)
   holds-some p none t = absurd t
   holds-some p (some x) t = (x, refl, t)
+
+  pub some-holds : (p : A → Bool) {o : Option A} {x : A} → o ≡ some x → T (p x) → T (holds p o)
+  some-holds p e t = subst (λ o. T (holds p o)) (sym e) t
 
   pub element-in : (l : List A) (n : ℕ) {x : A} → getElem? l n ≡ some x → x ∈ l
   element-in [] n {x} e = absurd (Option·none-ne-some x e)

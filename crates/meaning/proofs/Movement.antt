@@ -1,26 +1,23 @@
 -- The induction over forms, once for all sorts and both directions: a form that the reach rules do not move in a direction has
 -- a value at the end that has not moved in that direction. What a batch gives at the leaves (role, all, cell, kind) is assumed
 -- here, as `Leaves`.
-use Prim.Native.Nat.{ℕ, suc, _<_, _+_}
-use mathlib.Core.Path.{_≡_, refl, sym, subst, subst₂, ap, _∙_}
-use mathlib.Core.Logic.{_⊎_, ⊎-elim}
+use Prim.Native.Nat.{ℕ, _<_}
+use mathlib.Core.Path.{_≡_, refl, subst}
 use mathlib.Core.Bool.{Bool, not, _||_, _&&_}
-use mathlib.Core.List.{List, [], _∷_, _++_}
-use native.Mathlib.Nat.{eq-or-lt-of-le, le-of-suc-le-suc}
-use native.Mathlib.Numerals.{add-one}
+use mathlib.Core.List.{List}
 use lib.Dec.{T, ltb, ltb→lt}
 use lib.IntN.{ℤ}
 use lib.Signed.{≤ℤ-refl}
-use lib.ListN.{length, length-append, List·getD-append}
-use lib.Seq.{getD-append-seam, getD-at}
+use lib.ListN.{length}
 use mir.Facts.{and-yes, or-no}
 use Rattle.meaning.specs.Lists.{any}
 use Rattle.meaning.specs.Schema.{Schema, cellsOf, under, knownType, knownRole, nearType, farType}
 use Rattle.meaning.specs.Register.{Register, isUnder, cellAt, instances, farEnds}
 use Rattle.meaning.specs.Forms.{Sort, truth, number, collection, Form, compare, negate, connect, quantify, kind, num, cell, size, sum, combine, role, all, select, bind, variable, memberType, wellTyped}
-use Rattle.meaning.specs.Meaning.{Value, meaning}
+use Rattle.meaning.specs.Meaning.{meaning}
 use Rattle.meaning.specs.Reach.{Change, Direction, up, down, opposite, Passing, same, reversed, either, through, leftOf, rightOf, firstPart, secondPart, sourceOf, secondTerm, roleMoves, allMoves, cellMoves, kindMoves, moves}
 use Rattle.meaning.proofs.Lists.{_∈_, any-none, keep-from}
+use Rattle.meaning.proofs.Variables.{Each, each-at, each-bind}
 use Rattle.meaning.proofs.Registers.{RegisterFits}
 use Rattle.meaning.proofs.Monotone.{Unmoved, Through, through-none, connective-unmoved, negation-unmoved, arithmetic-unmoved, quantifier-unmoved, select-unmoved, size-unmoved, sum-unmoved}
 use Rattle.meaning.proofs.Comparisons.{comparison-unmoved}
@@ -67,32 +64,6 @@ module _ (c : Change) (first : Register) (Kept : ℕ → ℕ → Type 0) (leaves
   abbrev S : Schema
   S = c .schema
 
-  -- each variable is kept in its type
-  pub record Keeps (ts vs : List ℕ) : Type 0 where
-    pub lengths : length vs ≡ length ts
-    pub each : (v : ℕ) → v < length ts → Kept (variable vs v) (variable ts v)
-
-  pub keeps-self : (x t : ℕ) → Kept x t → Keeps (t ∷ []) (x ∷ [])
-  keeps-self x t h = record { lengths = refl; each = at }
-    where
-      at : (v : ℕ) → v < 1 → Kept (variable (x ∷ []) v) (variable (t ∷ []) v)
-      at ℕ.zero l = h
-      at (suc v) l = absurd (native.Mathlib.Nat.not-suc-le-zero (le-of-suc-le-suc l))
-
-  -- a member of a collection as the new variable
-  pub keeps-bind : (ts vs : List ℕ) (x t : ℕ) → Keeps ts vs → Kept x t → Keeps (bind ts t) (bind vs x)
-  keeps-bind ts vs x t k h = record { lengths = simp length-append (ap (λ n. n + 1) (k .lengths)); each = at }
-    where
-      at : (v : ℕ) → v < length (bind ts t) → Kept (variable (bind vs x) v) (variable (bind ts t) v)
-      at v l =
-          ⊎-elim
-          (λ (e : v ≡ length ts).
-          rw e (subst₂ Kept (sym (getD-at vs x [] 0 (length ts) (k .lengths))) (sym (getD-append-seam ts t [] 0)) h))
-          (λ (m : v < length ts).
-          subst₂ Kept (sym (List·getD-append vs (x ∷ []) 0 v (subst (λ n. v < n) (sym (k .lengths)) m)))
-          (sym (List·getD-append ts (t ∷ []) 0 v m)) (k .each v m))
-          (eq-or-lt-of-le (le-of-suc-le-suc (subst (λ n. v < n) (length-append ts (t ∷ []) ∙ add-one (length ts)) l)))
-
   -- what is claimed of a form that is not moved in direction d
   abbrev Claim : (s : Sort) → Form s → List ℕ → List ℕ → Direction → Type 0
   Claim truth f ts vs d = Unmoved truth d (meaning S first f vs) (meaning S (c .end) f vs)
@@ -103,7 +74,7 @@ module _ (c : Change) (first : Register) (Kept : ℕ → ℕ → Type 0) (leaves
   over-members : (p : Passing) (e : Form collection) (ts vs : List ℕ) (at : ℕ → Bool) (d : Direction) → ((d′ : Direction) → T (not (moves c e vs d′)) → Claim collection e ts vs d′) → T (not (through _||_ p (moves c e vs) d || any at (meaning S (c .end) e vs))) → (Through p (λ d′. Unmoved collection d′ (meaning S first e vs) (meaning S (c .end) e vs)) d × ((x : ℕ) → x ∈ meaning S first e vs → x ∈ meaning S (c .end) e vs → Kept x (memberType S ts e))) × ((x : ℕ) → x ∈ meaning S (c .end) e vs → T (not (at x)))
   over-members p e ts vs at d f n = part-and-members p (moves c e vs) _ _ at (meaning S (c .end) e vs) d f n
 
-  pub unmoved : {s : Sort} (f : Form s) (ts vs : List ℕ) → T (wellTyped S ts f) → Keeps ts vs → (d : Direction) → T (not (moves c f vs d)) → Claim s f ts vs d
+  pub unmoved : {s : Sort} (f : Form s) (ts vs : List ℕ) → T (wellTyped S ts f) → Each Kept vs ts → (d : Direction) → T (not (moves c f vs d)) → Claim s f ts vs d
   unfolding moves meaning wellTyped memberType
   unmoved (compare o a b) ts vs w k d n =
       let ws = and-yes (wellTyped S ts a) (wellTyped S ts b) w in
@@ -117,14 +88,14 @@ module _ (c : Change) (first : Register) (Kept : ℕ → ℕ → Type 0) (leaves
   unmoved (quantify q e b) ts vs w k d n =
       let ws = and-yes (wellTyped S ts e) (wellTyped S (bind ts (memberType S ts e)) b) w in
       let h = over-members (sourceOf q) e ts vs (λ x. moves c b (bind vs x) d) d (unmoved e ts vs (ws .0) k) n in
-      quantifier-unmoved q d _ _ _ _ (h .0 .0) (λ x m m′. unmoved b (bind ts (memberType S ts e)) (bind vs x) (ws .1) (keeps-bind ts vs x (memberType S ts e) k (h .0 .1 x m m′)) d (h .1 x m′))
+      quantifier-unmoved q d _ _ _ _ (h .0 .0) (λ x m m′. unmoved b (bind ts (memberType S ts e)) (bind vs x) (ws .1) (each-bind Kept vs ts x (memberType S ts e) k (h .0 .1 x m m′)) d (h .1 x m′))
   unmoved (kind v t) ts vs w k d n =
       let ws = and-yes (ltb v (length ts)) (knownType S t) w in
-      leaves .kind-unmoved d (variable vs v) (variable ts v) t (k .each v (ltb→lt v (length ts) (ws .0))) n
+      leaves .kind-unmoved d (variable vs v) (variable ts v) t (each-at Kept vs ts k v (ltb→lt v (length ts) (ws .0))) n
   unmoved (num z) ts vs w k d n = equal-unmoved d z z refl
   unmoved (cell v j) ts vs w k d n =
       let ws = and-yes (ltb v (length ts)) (ltb j (cellsOf S (variable ts v))) w in
-      equal-unmoved d _ _ (leaves .cell-unmoved (variable vs v) (variable ts v) j (k .each v (ltb→lt v (length ts) (ws .0))) (ltb→lt j (cellsOf S (variable ts v)) (ws .1)) n)
+      equal-unmoved d _ _ (leaves .cell-unmoved (variable vs v) (variable ts v) j (each-at Kept vs ts k v (ltb→lt v (length ts) (ws .0))) (ltb→lt j (cellsOf S (variable ts v)) (ws .1)) n)
   unmoved (size e) ts vs w k d n =
       size-unmoved d _ _ (members-ascend S first (leaves .first-fits) e vs) (members-ascend S (c .end) (leaves .end-fits) e vs) (unmoved e ts vs w k d n .0)
   unmoved (sum e j) ts vs w k d n =
@@ -138,11 +109,11 @@ module _ (c : Change) (first : Register) (Kept : ℕ → ℕ → Type 0) (leaves
       arithmetic-unmoved o d _ _ _ _ (h .0) (h .1)
   unmoved (role v r) ts vs w k d n =
       let ws = and-yes (ltb v (length ts) && knownRole S r) (under S (variable ts v) (nearType S r)) w in
-      leaves .role-unmoved d (variable vs v) (variable ts v) r (k .each v (ltb→lt v (length ts) (and-yes (ltb v (length ts)) (knownRole S r) (ws .0) .0))) (ws .1) n
+      leaves .role-unmoved d (variable vs v) (variable ts v) r (each-at Kept vs ts k v (ltb→lt v (length ts) (and-yes (ltb v (length ts)) (knownRole S r) (ws .0) .0))) (ws .1) n
   unmoved (all t) ts vs w k d n = leaves .all-unmoved d t n
   unmoved (select e b) ts vs w k d n =
       let ws = and-yes (wellTyped S ts e) (wellTyped S (bind ts (memberType S ts e)) b) w in
       let h = over-members same e ts vs (λ x. moves c b (bind vs x) d) d (unmoved e ts vs (ws .0) k) n in (
-        select-unmoved d _ _ _ _ (h .0 .0) (λ x m m′. unmoved b (bind ts (memberType S ts e)) (bind vs x) (ws .1) (keeps-bind ts vs x (memberType S ts e) k (h .0 .1 x m m′)) d (h .1 x m′)),
+        select-unmoved d _ _ _ _ (h .0 .0) (λ x m m′. unmoved b (bind ts (memberType S ts e)) (bind vs x) (ws .1) (each-bind Kept vs ts x (memberType S ts e) k (h .0 .1 x m m′)) d (h .1 x m′)),
         λ x m m′. h .0 .1 x (keep-from _ _ m .0) (keep-from _ _ m′ .0),
       )

@@ -31,10 +31,10 @@ module _ (x y : ℕ) (xs ys : List ℕ) where
       step (inl h) = inl (ltb-yes h)
       step (inr h) = let r = and-yes (eqb x y) (before xs ys) h in inr (eqb-yes (r .0), r .1)
 
-  before-head : x < y → T (before (x ∷ xs) (y ∷ ys))
+  pub before-head : x < y → T (before (x ∷ xs) (y ∷ ys))
   before-head h = or-left (ltb x y) (eqb x y && before xs ys) (yes-ltb h)
 
-  before-tail : x ≡ y → T (before xs ys) → T (before (x ∷ xs) (y ∷ ys))
+  pub before-tail : x ≡ y → T (before xs ys) → T (before (x ∷ xs) (y ∷ ys))
   before-tail e t = or-right (ltb x y) (eqb x y && before xs ys) (yes-and (eqb x y) (before xs ys) (yes-eqb e) t)
 
 pub before-irreflexive : (x : List ℕ) → ¬ T (before x x)

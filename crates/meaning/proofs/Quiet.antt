@@ -1,24 +1,23 @@
 -- An object that the batch inserted has no links but joined ones. So where no role of it gains, a quiet body is true there.
 use Prim.Native.Nat.{ℕ}
 use mathlib.Core.Path.{_≡_, refl, ap, subst}
-use mathlib.Core.Logic.{_⊎_, ⊎-elim}
-use mathlib.Core.Bool.{Bool, true, false, _&&_, _||_, not}
+use mathlib.Core.Logic.{⊎-elim}
+use mathlib.Core.Bool.{Bool, true, false, _||_, not}
 use mathlib.Core.List.{List, [], _∷_}
-use lib.Dec.{T, eqb, eqb→eq}
-use lib.ListN.{length}
+use lib.Dec.{T, eqb→eq}
 use mir.Facts.{and-yes, yes-and, or-yes, or-no, T-not, not-T}
-use Rattle.meaning.specs.Lists.{any, every}
+use Rattle.meaning.specs.Lists.{any}
 use Rattle.meaning.specs.Schema.{Schema}
 use Rattle.meaning.specs.Register.{Link, Register, present, hasLink, startsAt, farEnds}
-use Rattle.meaning.specs.Forms.{truth, collection, Connective, and, or, xor, implies, Quantifier, forall, exists, Form, compare, negate, connect, quantify, kind, role, all, select, variable}
+use Rattle.meaning.specs.Forms.{truth, collection, Connective, and, or, xor, implies, Quantifier, forall, exists, Form, compare, negate, connect, quantify, kind, role, all, select, bind, variable}
 use Rattle.meaning.specs.Meaning.{connected, quantified, meaning}
 use Rattle.meaning.specs.Events.{Event, Lent, after}
-use Rattle.meaning.specs.Reach.{Change, changeBy, someStep, subject, insertsInto, Direction, up, down, opposite, through, firstPart, secondPart, sourceOf, roleMoves, moves, roleOfSelf, quietQuantifier, quietConnective, quietly, inserted}
-use Rattle.meaning.proofs.Lists.{_∈_, or-left, or-right, no-or, not-and-left, not-and-right, not-not, any-cases, every-of}
+use Rattle.meaning.specs.Reach.{Change, changeBy, someStep, insertsInto, Direction, up, down, opposite, through, firstPart, secondPart, sourceOf, roleMoves, moves, roleOfSelf, quietQuantifier, quietConnective, quietly, inserted}
+use Rattle.meaning.proofs.Lists.{_∈_, or-left, or-right, no-or, not-and-left, not-and-right, not-not, any-cases, every-of, keep-from}
 use Rattle.meaning.proofs.Schemas.{SchemaFits}
 use Rattle.meaning.proofs.Registers.{RegisterFits, far-from, near-present}
 use Rattle.meaning.proofs.Effects.{insert-absent}
-use Rattle.meaning.proofs.Steps.{Throughout, EachStep, Unrefused, throughout-map, throughout-both, each-side, each-both, each-map, step-none, fits-throughout, each-fit}
+use Rattle.meaning.proofs.Steps.{Throughout, Unrefused, throughout-map, throughout-both, each-side, each-both, each-map, step-none, fits-throughout, each-fit}
 use Rattle.meaning.proofs.Batches.{about, no-gain}
 
 -- the value is w
@@ -105,7 +104,10 @@ module _ (S : Schema) (schema-fits : SchemaFits S) (lent : Lent) (g : Register) 
       let self : variable (x ∷ []) v ≡ x = ap (variable (x ∷ [])) (eqb→eq v 0 h) in
       no-members r (subst (λ z. T (not (roleMoves c r z up))) self n) y (subst (λ z. y ∈ farEnds (after S g es) r z) self m)
   self-empty (all u) h n y m = absurd h
-  self-empty (select k b) h n y m = absurd h
+  -- `roleOfSelf` has no select; a select of nothing would be as empty
+  self-empty (select k b) h n y m =
+      let inner : T (roleOfSelf k) = search in
+      self-empty k inner (or-no (moves c k (x ∷ []) up) _ n .0) y (keep-from (λ z. meaning S (after S g es) b (bind (x ∷ []) z)) _ m .0)
 
   pub quiet-value : (f : Form truth) (w : Bool) → T (quietly f w) → T (not (moves c f (x ∷ []) (against w))) → Is w (meaning S (after S g es) f (x ∷ []))
   unfolding quietly moves meaning

@@ -1,19 +1,19 @@
 -- What a register without refusal 5 is, and how its objects, links and collections are found in it.
 use Prim.Native.Nat.{ℕ, _<_}
-use mathlib.Core.Path.{_≡_, refl, sym, ap, subst, _∙_}
+use mathlib.Core.Path.{_≡_, sym, subst, _∙_}
 use mathlib.Core.Logic.{⊎-elim}
 use mathlib.Core.Bool.{Bool, true, false, _&&_, cond}
-use mathlib.Core.List.{List, [], _∷_, List·Memᴰ·not-nil, List·Memᴰ·cases-cons, Memᴰ·cast}
-use mathlib.Core.Option.{Option, none, some}
+use mathlib.Core.List.{List, [], _∷_, Memᴰ·cast}
+use mathlib.Core.Option.{none, some}
 use native.Mathlib.Nat.{ne-of-lt}
 use lib.Dec.{T, ltb, eqb, eqb-refl}
 use lib.ListN.{length, getD, drop}
-use mir.Facts.{and-yes, yes-and, or-yes, T-not, ltb-yes, eqb-yes, yes-eqb}
-use Rattle.meaning.specs.Lists.{every, keep, first, holds, before}
+use mir.Facts.{and-yes, yes-and, or-yes, ltb-yes, eqb-yes, yes-eqb}
+use Rattle.meaning.specs.Lists.{every, keep, before}
 use Rattle.meaning.specs.Limits.{cellCount, validId, fitsWord}
 use Rattle.meaning.specs.Schema.{Schema, knownType, knownRelationship, cellsOf, relationshipOf, forward, sourceType, targetType, farType, under}
 use Rattle.meaning.specs.Register.{Object, Link, Register, objectKey, linkKey, objectAt, present, isUnder, instances, sameLink, hasLink, nearEnd, farEnd, startsAt, farEnds, isZero, cellsFit, objectFits, faultyObject, linkFits, faultyLink, objectFault, linkFault}
-use Rattle.meaning.proofs.Lists.{_∈_, Ascending, first-only, ascending-one, holds-some, any-of, any-cases, keep-in, keep-from, first-some, first-none, ascending-keep, map-in, map-from, ascending-map}
+use Rattle.meaning.proofs.Lists.{_∈_, Ascending, first-only, ascending-one, holds-some, any-of, any-cases, keep-in, keep-from, first-some, ascending-keep, map-in, map-from, ascending-map}
 use Rattle.meaning.proofs.Order.{Before, before-irreflexive, same-eq, same-refl, rows-fit, fits-rows}
 
 pub record RegisterFits (S : Schema) (g : Register) : Type 0 where

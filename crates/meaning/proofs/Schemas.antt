@@ -4,7 +4,7 @@ use mathlib.Core.Path.{_≡_, refl, sym, ap, subst, _∙_}
 use mathlib.Core.Logic.{_⊎_, inl, inr, ⊎-elim}
 use mathlib.Core.Bool.{Bool, true, not, _&&_}
 use mathlib.Core.List.{List, [], _∷_}
-use mathlib.Core.Option.{Option, none, some, Option·some-injective}
+use mathlib.Core.Option.{none, some, Option·some-injective}
 use native.Mathlib.Nat.{le-refl, le-trans, le-of-eq}
 use native.Mathlib.Omega.{arith}
 use lib.Dec.{T, ltb, leb, eqb, eqb-refl}
@@ -13,7 +13,7 @@ use mir.Facts.{and-yes, or-yes, T-not, T-not-not, ltb-yes, leb-yes, eqb-yes, yes
 use Rattle.meaning.specs.Lists.{holds}
 use Rattle.meaning.specs.Limits.{cellCount}
 use Rattle.meaning.specs.Schema.{ObjectType, Schema, typeAt, parentOf, cellsOf, hasParent, climbs, under, parentFits, faultyType, typeFault}
-use Rattle.meaning.proofs.Lists.{or-left, or-right}
+use Rattle.meaning.proofs.Lists.{holds-some, some-holds, or-left, or-right}
 use Rattle.meaning.proofs.Order.{fault-none}
 
 pub record SchemaFits (S : Schema) : Type 0 where
@@ -21,23 +21,15 @@ pub record SchemaFits (S : Schema) : Type 0 where
   pub parent-cells : (t p : ℕ) → parentOf S t ≡ some p → cellsOf S p ≤ cellsOf S t
   pub cells-bound : (t : ℕ) → cellsOf S t ≤ 8
 
-module _ {A : Type 0} where
-  getD-cases : (l : List A) (n : ℕ) (d : A) → (getElem? l n ≡ some (getD l n d)) ⊎ (getD l n d ≡ d)
-  getD-cases [] n d = inr refl
-  getD-cases (x ∷ xs) zero d = inl refl
-  getD-cases (x ∷ xs) (suc n) d = getD-cases xs n d
+getD-cases : {A : Type 0} (l : List A) (n : ℕ) (d : A) → (getElem? l n ≡ some (getD l n d)) ⊎ (getD l n d ≡ d)
+getD-cases [] n d = inr refl
+getD-cases (x ∷ xs) zero d = inl refl
+getD-cases (x ∷ xs) (suc n) d = getD-cases xs n d
 
-  pub holds-some : (p : A → Bool) (o : Option A) → T (holds p o) → (x : A) × (o ≡ some x) × T (p x)
-  holds-some p none t = absurd t
-  holds-some p (some x) t = (x, refl, t)
-
-  pub some-holds : (p : A → Bool) {o : Option A} {x : A} → o ≡ some x → T (p x) → T (holds p o)
-  some-holds p e t = subst (λ o. T (holds p o)) (sym e) t
-
--- a type that the schema lacks has no parent and no cell, so it fits too
 typeFits : Schema → ℕ → ObjectType → Bool
 typeFits S n t = parentFits S n t && leb (t .cells) cellCount
 
+-- a type that the schema lacks has no parent and no cell, so it fits too
 type-fits : (S : Schema) → typeFault S ≡ none → (t : ℕ) → T (typeFits S t (typeAt S t))
 unfolding typeFault faultyType typeFits typeAt parentFits
 type-fits S e t =

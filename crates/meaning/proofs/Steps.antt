@@ -1,20 +1,23 @@
 -- A batch that is not refused, event by event: what holds of every register on its way, and of every step.
-use Prim.Native.Nat.{ℕ, suc}
+use Prim.Native.Nat.{ℕ, suc, _≤_}
 use mathlib.Core.Path.{_≡_, refl, sym, subst, _∙_}
-use mathlib.Core.Bool.{Bool, not, _||_}
-use mathlib.Core.List.{List, [], _∷_}
+use mathlib.Core.Logic.{⊎-elim}
+use mathlib.Core.Bool.{Bool, not}
+use mathlib.Core.List.{List, [], _∷_, List·Memᴰ·not-nil, List·Memᴰ·cases-cons}
 use mathlib.Core.Option.{none, Option·map, map-eq-none-iff}
 use lib.Dec.{T}
+use lib.ListN.{length}
 use mir.Facts.{or-no}
 use Rattle.meaning.specs.Lists.{any}
+use Rattle.meaning.specs.Limits.{maxObjects}
 use Rattle.meaning.specs.Schema.{Schema}
-use Rattle.meaning.specs.Register.{Register, objectFault, linkFault}
-use Rattle.meaning.specs.Events.{Event, Lent, Refusal, apply, after, eventRefusal, refusalFrom, batchRefusal}
+use Rattle.meaning.specs.Register.{Register}
+use Rattle.meaning.specs.Events.{Event, Lent, apply, after, eventRefusal, refusalFrom, batchRefusal}
 use Rattle.meaning.specs.Reach.{Step, Change, stepsOf, changeBy, someStep}
-use Rattle.meaning.proofs.Lists.{no-or, first-of-none}
+use Rattle.meaning.proofs.Lists.{_∈_, no-or, first-of-none}
 use Rattle.meaning.proofs.Schemas.{SchemaFits}
-use Rattle.meaning.proofs.Registers.{RegisterFits, fits-register}
-use Rattle.meaning.proofs.Effects.{apply-fits}
+use Rattle.meaning.proofs.Registers.{RegisterFits}
+use Rattle.meaning.proofs.Effects.{EventFits, event-fits, apply-fits, objects-limit}
 
 -- P holds of the register that each event meets, and of the one at the end.
 abbrev pub Throughout : (Register → Type 0) → Schema → Register → List Event → Type 0
@@ -25,6 +28,12 @@ Throughout P S g (e ∷ es) = P g × Throughout P S (apply S e g) es
 abbrev pub EachStep : (Register → Event → Type 0) → Schema → Register → List Event → Type 0
 EachStep Q S g [] = Unit {0}
 EachStep Q S g (e ∷ es) = Q g e × EachStep Q S (apply S e g) es
+
+abbrev pub StepFits : Schema → Step → Type 0
+StepFits S s = EventFits S (s .met) (s .event)
+
+abbrev pub StepsFit : Change → Type 0
+StepsFit c = (s : Step) → s ∈ c .steps → StepFits (c .schema) s
 
 -- no event of the batch is refused
 abbrev pub Unrefused : Schema → Lent → Register → List Event → Type 0
@@ -125,3 +134,18 @@ module _ (S : Schema) where
     pub each-fit : (g : Register) (es : List Event) → RegisterFits S g → Unrefused S lent g es → EachStep (λ g′ e. RegisterFits S g′ × (eventRefusal S lent g′ e ≡ none)) S g es
     each-fit g [] f u = tt
     each-fit g (e ∷ es) f u = ((f, u .0), each-fit (apply S e g) es (apply-fits S schema-fits lent g f e (u .0)) (u .1))
+
+    -- the limit on objects is kept
+    pub limit-kept : (g : Register) (es : List Event) → RegisterFits S g → Unrefused S lent g es → length (g .objects) ≤ maxObjects → length ((after S g es) .objects) ≤ maxObjects
+    unfolding after
+    limit-kept g [] f u h = h
+    limit-kept g (e ∷ es) f u h =
+        limit-kept (apply S e g) es (apply-fits S schema-fits lent g f e (u .0)) (u .1) (objects-limit S schema-fits lent g f e (u .0) h)
+
+  -- what refusal 11 leaves of each step
+  pub steps-fit : (lent : Lent) (g : Register) (es : List Event) → Unrefused S lent g es → StepsFit (changeBy S g es)
+  unfolding stepsOf
+  steps-fit lent g [] u s m = absurd (List·Memᴰ·not-nil m)
+  steps-fit lent g (e ∷ es) u s m =
+      ⊎-elim (λ (q : s ≡ record { event = e; met = g }). subst (StepFits S) (sym q) (event-fits S lent g e (u .0)))
+      (λ n. steps-fit lent (apply S e g) es (u .1) s n) (List·Memᴰ·cases-cons m)

@@ -1,7 +1,7 @@
 -- Document 01, "A full check answers ..", "A batch check answers ..", and "Where each refusal is met" for a book, a register
 -- and a batch: refusals 3, 4, 5, 7 to 13 and 14. (2 and 6 are of the lent tables, 1 of the text.)
 use Prim.Native.Nat.{ℕ, _*_}
-use mathlib.Core.Bool.{Bool, cond}
+use mathlib.Core.Bool.{cond}
 use mathlib.Core.List.{List, []}
 use mathlib.Core.Option.{Option, none, some}
 use lib.Dec.{ltb}
@@ -9,7 +9,7 @@ use lib.ListN.{length}
 use Rattle.meaning.specs.Lists.{first, firstOf}
 use Rattle.meaning.specs.Schema.{Schema, typeFault, relationshipFault}
 use Rattle.meaning.specs.Register.{Register, objectFault, linkFault}
-use Rattle.meaning.specs.Forms.{Rule, Book, ruleFault}
+use Rattle.meaning.specs.Forms.{Book, ruleFault}
 use Rattle.meaning.specs.Meaning.{broken}
 use Rattle.meaning.specs.Events.{Event, Lent, Refusal, batchRefusal}
 use Rattle.meaning.specs.Reach.{Change, changeBy, Pair, contextPairs, ofRule, selectedPairs}

@@ -1,6 +1,6 @@
 -- Document 01, "Event list of a rule": the same rules without objects, and when a listed event type occurs.
 use Prim.Native.Nat.{ℕ}
-use mathlib.Core.Bool.{Bool, true, false, _&&_, cond}
+use mathlib.Core.Bool.{Bool, _&&_, cond}
 use mathlib.Core.List.{List, [], _∷_, _++_, foldr}
 use lib.Dec.{eqb}
 use Rattle.meaning.specs.Lists.{any, place}

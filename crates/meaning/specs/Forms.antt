@@ -1,6 +1,6 @@
 -- Document 01, "Text", "Body forms": the forms of a rule's body over their sort, and which bodies are well typed (refusal 4).
 use Prim.Native.Nat.{ℕ, suc, _+_}
-use mathlib.Core.Bool.{Bool, true, false, _&&_, not}
+use mathlib.Core.Bool.{Bool, _&&_, not}
 use mathlib.Core.List.{List, [], _∷_, _++_}
 use mathlib.Core.Option.{Option}
 use lib.Dec.{ltb, leb}

@@ -2,7 +2,6 @@
 use Prim.Native.Nat.{ℕ, suc}
 use mathlib.Core.Bool.{Bool, true, false, _&&_, _||_, not}
 use mathlib.Core.List.{List, [], _∷_, _++_, map}
-use mathlib.Core.Option.{Option}
 use lib.Dec.{eqb}
 use lib.ListN.{getElem?}
 use Rattle.meaning.specs.Lists.{any, keep, holds}

@@ -1,0 +1,319 @@
+-- Theorem 2: a rule none of whose listed event types occurs has no selected pair. A rule's event list ascends.
+use Prim.Native.Nat.{ℕ}
+use mathlib.Core.Path.{_≡_, refl, sym, ap, subst, _∙_}
+use mathlib.Core.Logic.{_⊎_, inl, inr, ⊎-elim}
+use mathlib.Core.Bool.{Bool, false, _&&_, _||_, not, cond}
+use mathlib.Core.List.{List, [], _∷_, _++_, foldr, List·Memᴰ·head, List·Memᴰ·tail, Memᴰ·cast, Memᴰ·append-left, Memᴰ·append-right}
+use lib.Dec.{T, ltb, eqb}
+use lib.ListN.{length, getD}
+use mir.Facts.{and-yes, yes-and, or-yes, T-not, not-T, ltb-yes, eqb-yes}
+use Rattle.meaning.specs.Lists.{any, place}
+use Rattle.meaning.specs.Schema.{Schema, cellsOf, hasParent, under, relationshipOf}
+use Rattle.meaning.specs.Register.{Link, Register, objectAt, isUnder, nearEnd, startsAt, hasLink}
+use Rattle.meaning.specs.Forms.{Sort, truth, collection, Form, compare, negate, connect, quantify, kind, num, cell, size, sum, combine, role, all, select, bind, variable, memberType, wellTyped, Rule}
+use Rattle.meaning.specs.Meaning.{meaning}
+use Rattle.meaning.specs.Events.{Event, insert, delete, set, join, part, special, general, strictlyAbove, strictlyUnder}
+use Rattle.meaning.specs.Reach.{Step, Change, subject, linkNamed, joins, parts, sets, insertsInto, specialisesInto, deletesFrom, generalisesFrom, someStep, Direction, up, down, opposite, Passing, same, reversed, either, through, leftOf, rightOf, firstPart, secondPart, sourceOf, secondTerm, roleMoves, bringsIn, takesOut, allMoves, cellMoves, kindMoves, moves, quiet, inserted, specialised, broughtIn, selected}
+use Rattle.meaning.specs.EventList.{EventType, insertOf, deleteOf, setOf, joinOf, partOf, specialOf, generalOf, wordsOf, whereParent, roleLists, allLists, kindLists, lists, contextLists, eventList, occurs, touched}
+use Rattle.meaning.proofs.Lists.{_∈_, holds-some, or-left, or-right, decide, cond-yes, cond-no, any-of, any-cases, keep-from, Ascending}
+use Rattle.meaning.proofs.Order.{Before, place-other, place-has, place-ascending}
+use Rattle.meaning.proofs.Schemas.{SchemaFits, under-refl, under-linear, under-top}
+use Rattle.meaning.proofs.Variables.{Each, each-at, each-bind}
+use Rattle.meaning.proofs.Effects.{EventFits}
+use Rattle.meaning.proofs.Steps.{StepsFit}
+use Rattle.meaning.proofs.Registers.{RegisterFits, instance-from, far-from, far-under}
+
+-- ---- a special or a general does not enter or leave a type without a parent
+
+module _ (S : Schema) (fits : SchemaFits S) where
+  -- Above w there are a and t, and a is not under t: so t is under a, and not a itself.
+  has-parent : (w a t : ℕ) → T (under S w a) → T (under S w t) → T (not (under S a t)) → T (hasParent S t)
+  has-parent w a t p q n =
+      ⊎-elim (λ h. h)
+      (λ top. absurd (T-not (under S a t) (below top (under-linear S fits w a t p q)) n))
+      (decide (hasParent S t))
+    where
+      below : T (not (hasParent S t)) → T (under S a t) ⊎ T (under S t a) → T (under S a t)
+      below top (inl h) = h
+      below top (inr h) = subst (λ x. T (under S x t)) (under-top S fits t a top h) (under-refl S t)
+
+  module _ (t : ℕ) (g : Register) where
+    special-parent : (e : Event) → EventFits S g e → T (specialisesInto S t g e) → T (hasParent S t)
+    unfolding strictlyAbove isUnder
+    special-parent (insert id u) f h = absurd h
+    special-parent (delete id) f h = absurd h
+    special-parent (set id k v) f h = absurd h
+    special-parent (join r a b) f h = absurd h
+    special-parent (part r a b) f h = absurd h
+    special-parent (special id u) f h =
+        let r = and-yes (under S u t) (not (isUnder S g id t)) h in
+        let o = holds-some (λ o. under S u (o .type) && not (eqb u (o .type))) (objectAt g id) f in
+        let w = o .0 .type in
+        has-parent u w t (and-yes (under S u w) (not (eqb u w)) (o .2) .0) (r .0) (rw (o .1) at (r .1))
+    special-parent (general id u) f h = absurd h
+
+    general-parent : (e : Event) → EventFits S g e → T (generalisesFrom S t g e) → T (hasParent S t)
+    unfolding strictlyUnder isUnder
+    general-parent (insert id u) f h = absurd h
+    general-parent (delete id) f h = absurd h
+    general-parent (set id k v) f h = absurd h
+    general-parent (join r a b) f h = absurd h
+    general-parent (part r a b) f h = absurd h
+    general-parent (special id u) f h = absurd h
+    general-parent (general id u) f h =
+        let r = and-yes (isUnder S g id t) (not (under S u t)) h in
+        let o = holds-some (λ o. under S (o .type) u && not (eqb u (o .type))) (objectAt g id) f in
+        let w = o .0 .type in
+        has-parent w u t (and-yes (under S w u) (not (eqb u w)) (o .2) .0) (rw (o .1) at (r .0)) (r .1)
+
+-- ---- the values of the variables, by their types
+
+-- each variable is under its type
+abbrev Typed : Schema → Register → List ℕ → List ℕ → Type 0
+Typed S g = Each (λ x t. T (isUnder S g x t))
+
+module _ (S : Schema) (g : Register) where
+  pub member-under : RegisterFits S g → (k : Form collection) (vs ts : List ℕ) (x : ℕ) → x ∈ meaning S g k vs → T (isUnder S g x (memberType S ts k))
+  unfolding meaning memberType
+  member-under f (role v r) vs ts x m =
+      let l = far-from g r (variable vs v) x m in
+      rw (l .3) (far-under S g f r (variable vs v) (l .0) (l .1) (l .2))
+  member-under f (all t) vs ts x m = instance-from S g f x t m
+  member-under f (select k b) vs ts x m = member-under f k vs ts x (keep-from (λ y. meaning S g b (bind vs y)) (meaning S g k vs) m .0)
+
+-- ---- the event list
+
+-- the event type of three words: no two have the same
+ofWords : List ℕ → EventType
+ofWords w =
+    let t = getD w 1 0 in
+    let kinds = insertOf t ∷ deleteOf t ∷ setOf t (getD w 2 0) ∷ joinOf t ∷ partOf t ∷ specialOf t ∷ generalOf t ∷ [] in
+    getD kinds (getD w 0 0) (insertOf t)
+
+of-words : (e : EventType) → ofWords (wordsOf e) ≡ e
+unfolding ofWords wordsOf
+of-words (insertOf t) = refl
+of-words (deleteOf t) = refl
+of-words (setOf t k) = refl
+of-words (joinOf r) = refl
+of-words (partOf r) = refl
+of-words (specialOf t) = refl
+of-words (generalOf t) = refl
+
+pub three-words : (e : EventType) → length (wordsOf e) ≡ 3
+unfolding wordsOf
+three-words (insertOf t) = refl
+three-words (deleteOf t) = refl
+three-words (setOf t k) = refl
+three-words (joinOf r) = refl
+three-words (partOf r) = refl
+three-words (specialOf t) = refl
+three-words (generalOf t) = refl
+
+placed-ascends : (l : List EventType) → Ascending (Before wordsOf) (foldr (place wordsOf) [] l)
+placed-ascends [] = tt
+placed-ascends (x ∷ xs) = place-ascending wordsOf 3 three-words x (foldr (place wordsOf) [] xs) (placed-ascends xs)
+
+placed : {e : EventType} {l : List EventType} → e ∈ l → e ∈ foldr (place wordsOf) [] l
+placed {e} (List·Memᴰ·head {x = x} {xs = xs} q) =
+    let z = place-has wordsOf 3 three-words x (foldr (place wordsOf) [] xs) in
+    Memᴰ·cast (q ∙ sym (of-words x) ∙ ap ofWords (sym (z .2)) ∙ of-words (z .0)) (z .1)
+placed (List·Memᴰ·tail {x = x} {xs = xs} m) = place-other wordsOf x (foldr (place wordsOf) [] xs) (placed m)
+
+pub event-list-ascends : (S : Schema) (r : Rule) → Ascending (Before wordsOf) (eventList S r)
+unfolding eventList
+event-list-ascends S r = placed-ascends (lists S (r .body) (r .context ∷ []) down ++ contextLists S r)
+
+-- ---- theorem 2
+
+starts-relationship : (r u : ℕ) (l : Link) → T (startsAt r u l) → T (eqb (l .relationship) (relationshipOf r))
+starts-relationship r u l t = and-yes (eqb (l .relationship) (relationshipOf r)) (eqb (nearEnd r l) u) t .0
+
+module _ (c : Change) where
+  abbrev S : Schema
+  S = c .schema
+
+  -- some event type of the list occurs
+  abbrev occur : List EventType → Bool
+  occur = any (occurs c)
+
+  occur-either : (a b : Bool) (l k : List EventType) → (T a → T (occur l)) → (T b → T (occur k)) → T (a || b) → T (occur (l ++ k))
+  occur-either a b l k f g t = step (or-yes a b t)
+    where
+      step : T a ⊎ T b → T (occur (l ++ k))
+      step (inl u) = let e = any-cases (occurs c) l (f u) in any-of (occurs c) (Memᴰ·append-left k (e .1)) (e .2)
+      step (inr u) = let e = any-cases (occurs c) k (g u) in any-of (occurs c) (Memᴰ·append-right l (e .1)) (e .2)
+
+  one-listed : (e : EventType) → T (occurs c e) → T (occur (e ∷ []))
+  one-listed e = or-left (occurs c e) false
+
+  where-parent : (t : ℕ) (e : EventType) → T (hasParent S t) → T (occurs c e) → T (occur (whereParent S t e))
+  unfolding whereParent
+  where-parent t e h o = rw (cond-yes (hasParent S t) (e ∷ []) [] h) (one-listed e o)
+
+  -- ---- steps
+
+  step-of : (did : Register → Event → Bool) → T (someStep c did) → (s : Step) × s ∈ c .steps × T (did (s .met) (s .event))
+  unfolding someStep
+  step-of did = any-cases (λ (s : Step). did (s .met) (s .event)) (c .steps)
+
+  of-step : (did : Register → Event → Bool) {s : Step} → s ∈ c .steps → T (did (s .met) (s .event)) → T (someStep c did)
+  unfolding someStep
+  of-step did = any-of (λ (s : Step). did (s .met) (s .event))
+
+  some-either : (a b : Register → Event → Bool) → T (someStep c (λ g e. a g e || b g e)) → T (someStep c a || someStep c b)
+  some-either a b t =
+      let s = step-of (λ g e. a g e || b g e) t in
+      ⊎-elim (λ h. or-left (someStep c a) (someStep c b) (of-step a (s .1) h)) (λ h. or-right (someStep c a) (someStep c b) (of-step b (s .1) h))
+      (or-yes (a (s .0 .met) (s .0 .event)) (b (s .0 .met) (s .0 .event)) (s .2))
+
+  some-first : (a : Register → Event → Bool) (b : Event → Bool) → T (someStep c (λ g e. a g e && b e)) → T (someStep c a)
+  some-first a b t =
+      let s = step-of (λ g e. a g e && b e) t in
+      of-step a (s .1) (and-yes (a (s .0 .met) (s .0 .event)) (b (s .0 .event)) (s .2) .0)
+
+  some-second : (a b d : Event → Bool) → ((e : Event) → T (b e) → T (d e)) → T (someStep c (λ g e. a e && b e)) → T (someStep c (λ g e. a e && d e))
+  some-second a b d f t =
+      let s = step-of (λ g e. a e && b e) t in
+      let e = s .0 .event in
+      let r = and-yes (a e) (b e) (s .2) in
+      of-step (λ g e. a e && d e) (s .1) (yes-and (a e) (d e) (r .0) (f e (r .1)))
+
+  -- ---- what moves a role or a cell is listed
+
+  role-listed : (r u : ℕ) (d : Direction) → T (roleMoves c r u d) → T (occur (roleLists r d))
+  unfolding roleMoves roleLists occurs
+  role-listed r u up h =
+      one-listed (joinOf (relationshipOf r))
+      (some-second joins (λ e. startsAt r u (linkNamed e) && hasLink (c .end) (linkNamed e)) _
+      (λ e t. starts-relationship r u (linkNamed e) (and-yes (startsAt r u (linkNamed e)) (hasLink (c .end) (linkNamed e)) t .0))
+      h)
+  role-listed r u down h =
+      one-listed (partOf (relationshipOf r))
+      (some-second parts (λ e. startsAt r u (linkNamed e)) _ (λ e. starts-relationship r u (linkNamed e)) h)
+
+  cell-listed : (u t k : ℕ) → T (isUnder S (c .end) u t) → T (cellMoves c u k) → T (occurs c (setOf t k))
+  unfolding cellMoves occurs
+  cell-listed u t k h =
+      some-second (sets k) (λ e. eqb (subject e) u) (λ e. isUnder S (c .end) (subject e) t)
+      (λ e q. subst (λ x. T (isUnder S (c .end) x t)) (sym (eqb-yes q)) h)
+
+  -- ---- what moves a form is listed, by what moves its parts
+
+  -- by the ids and the types of the variables
+  abbrev Listed : {s : Sort} → Form s → List ℕ → List ℕ → Type 0
+  Listed f vs ts = (d : Direction) → T (moves c f vs d) → T (occur (lists S f ts d))
+
+  through-listed : {s : Sort} (x : Passing) (f : Form s) (vs ts : List ℕ) → Listed f vs ts → (d : Direction) → T (through _||_ x (moves c f vs) d) → T (occur (through _++_ x (lists S f ts) d))
+  through-listed same f vs ts h d = h d
+  through-listed reversed f vs ts h d = h (opposite d)
+  through-listed either f vs ts h d = occur-either (moves c f vs up) (moves c f vs down) (lists S f ts up) (lists S f ts down) (h up) (h down)
+
+  -- a form of two parts
+  parts-listed : {s u : Sort} (x y : Passing) (a : Form s) (b : Form u) (vs ts : List ℕ) → (T (wellTyped S ts a) → Listed a vs ts) → (T (wellTyped S ts b) → Listed b vs ts) → T (wellTyped S ts a && wellTyped S ts b) → (d : Direction) → T (through _||_ x (moves c a vs) d || through _||_ y (moves c b vs) d) → T (occur (through _++_ x (lists S a ts) d ++ through _++_ y (lists S b ts) d))
+  parts-listed x y a b vs ts f g w d =
+      let typed = and-yes (wellTyped S ts a) (wellTyped S ts b) w in
+      occur-either (through _||_ x (moves c a vs) d) (through _||_ y (moves c b vs) d) (through _++_ x (lists S a ts) d) (through _++_ y (lists S b ts) d)
+      (through-listed x a vs ts (f (typed .0)) d) (through-listed y b vs ts (g (typed .1)) d)
+
+  -- ---- selection
+
+  pub selected-cases : (r : Rule) (s : ℕ) → T (selected c r s) → T (isUnder S (c .end) s (r .context)) × T (moves c (r .body) (s ∷ []) down || broughtIn c r s)
+  unfolding selected
+  selected-cases r s = and-yes (isUnder S (c .end) s (r .context)) (moves c (r .body) (s ∷ []) down || broughtIn c r s)
+
+  module _ (schema-fits : SchemaFits S) (end-fits : RegisterFits S (c .end)) (steps-fit : StepsFit c) where
+    special-listed : (t : ℕ) → T (occurs c (specialOf t)) → T (occur (whereParent S t (specialOf t)))
+    unfolding occurs
+    special-listed t h =
+        let s = step-of (specialisesInto S t) h in
+        where-parent t (specialOf t) (special-parent S schema-fits t (s .0 .met) (s .0 .event) (steps-fit (s .0) (s .1)) (s .2)) h
+
+    general-listed : (t : ℕ) → T (occurs c (generalOf t)) → T (occur (whereParent S t (generalOf t)))
+    unfolding occurs
+    general-listed t h =
+        let s = step-of (generalisesFrom S t) h in
+        where-parent t (generalOf t) (general-parent S schema-fits t (s .0 .met) (s .0 .event) (steps-fit (s .0) (s .1)) (s .2)) h
+
+    all-listed : (t : ℕ) (d : Direction) → T (allMoves c t d) → T (occur (allLists S t d))
+    unfolding allMoves bringsIn takesOut allLists occurs
+    all-listed t up h =
+        occur-either (occurs c (insertOf t)) (occurs c (specialOf t)) (insertOf t ∷ []) (whereParent S t (specialOf t))
+        (one-listed (insertOf t)) (special-listed t)
+        (some-either (insertsInto S t) (specialisesInto S t)
+        (some-first (λ g e. insertsInto S t g e || specialisesInto S t g e) (λ e. isUnder S (c .end) (subject e) t) h))
+    all-listed t down h =
+        occur-either (occurs c (deleteOf t)) (occurs c (generalOf t)) (deleteOf t ∷ []) (whereParent S t (generalOf t))
+        (one-listed (deleteOf t)) (general-listed t)
+        (some-either (deletesFrom S t) (generalisesFrom S t) h)
+
+    kind-listed : (u t : ℕ) (d : Direction) → T (kindMoves c u t d) → T (occur (kindLists S t d))
+    unfolding kindMoves kindLists occurs
+    kind-listed u t up h =
+        let entered = someStep c (λ g e. specialisesInto S t g e && eqb (subject e) u) in
+        special-listed t (some-first (specialisesInto S t) (λ e. eqb (subject e) u) (and-yes entered (isUnder S (c .end) u t) h .0))
+    kind-listed u t down h = general-listed t (some-first (generalisesFrom S t) (λ e. eqb (subject e) u) h)
+
+    -- a form over a collection: by the collection, or at one of its members
+    members-listed : (x : Passing) (k : Form collection) (vs ts : List ℕ) (m : ℕ → Bool) (l : List EventType) → Listed k vs ts → ((u : ℕ) → T (isUnder S (c .end) u (memberType S ts k)) → T (m u) → T (occur l)) → (d : Direction) → T (through _||_ x (moves c k vs) d || any m (meaning S (c .end) k vs)) → T (occur (through _++_ x (lists S k ts) d ++ l))
+    members-listed x k vs ts m l f g d =
+        occur-either (through _||_ x (moves c k vs) d) (any m (meaning S (c .end) k vs)) (through _++_ x (lists S k ts) d) l
+        (through-listed x k vs ts f d)
+        (λ t. let u = any-cases m (meaning S (c .end) k vs) t in g (u .0) (member-under S (c .end) end-fits k vs ts (u .0) (u .1)) (u .2))
+
+    -- the same, with a body that has a variable for the member
+    body-listed : (x : Passing) (k : Form collection) (b : Form truth) (vs ts : List ℕ) → Typed S (c .end) vs ts → (T (wellTyped S ts k) → Listed k vs ts) → ((us ws : List ℕ) → Typed S (c .end) us ws → T (wellTyped S ws b) → Listed b us ws) → T (wellTyped S ts k && wellTyped S (bind ts (memberType S ts k)) b) → (d : Direction) → T (through _||_ x (moves c k vs) d || any (λ u. moves c b (bind vs u) d) (meaning S (c .end) k vs)) → T (occur (through _++_ x (lists S k ts) d ++ lists S b (bind ts (memberType S ts k)) d))
+    body-listed x k b vs ts v f g w d =
+        let member = memberType S ts k in
+        let typed = and-yes (wellTyped S ts k) (wellTyped S (bind ts member) b) w in
+        members-listed x k vs ts (λ u. moves c b (bind vs u) d) (lists S b (bind ts member) d) (f (typed .0))
+        (λ u h. g (bind vs u) (bind ts member) (each-bind _ vs ts u member v h) (typed .1) d) d
+
+    moves-listed : {s : Sort} (f : Form s) (vs ts : List ℕ) → Typed S (c .end) vs ts → T (wellTyped S ts f) → Listed f vs ts
+    unfolding wellTyped moves lists
+    moves-listed (compare o a b) vs ts v w = parts-listed (leftOf o) (rightOf o) a b vs ts (moves-listed a vs ts v) (moves-listed b vs ts v) w
+    moves-listed (negate a) vs ts v w = through-listed reversed a vs ts (moves-listed a vs ts v w)
+    moves-listed (connect o a b) vs ts v w = parts-listed (firstPart o) (secondPart o) a b vs ts (moves-listed a vs ts v) (moves-listed b vs ts v) w
+    moves-listed (quantify q k b) vs ts v w = body-listed (sourceOf q) k b vs ts v (moves-listed k vs ts v) (moves-listed b) w
+    moves-listed (kind x u) vs ts v w = kind-listed (variable vs x) u
+    moves-listed (num n) vs ts v w = λ d t. absurd t
+    moves-listed (cell x k) vs ts v w =
+        let known = and-yes (ltb x (length ts)) (ltb k (cellsOf S (variable ts x))) w .0 in
+        let within = each-at _ vs ts v x (ltb-yes known) in
+        λ d t. one-listed (setOf (variable ts x) k) (cell-listed (variable vs x) (variable ts x) k within t)
+    moves-listed (size k) vs ts v w = moves-listed k vs ts v w
+    moves-listed (sum k n) vs ts v w =
+        let member = memberType S ts k in
+        members-listed either k vs ts (λ u. cellMoves c u n) (setOf member n ∷ [])
+        (moves-listed k vs ts v (and-yes (wellTyped S ts k) (ltb n (cellsOf S member)) w .0))
+        (λ u h t. one-listed (setOf member n) (cell-listed u member n h t))
+    moves-listed (combine o a b) vs ts v w = parts-listed same (secondTerm o) a b vs ts (moves-listed a vs ts v) (moves-listed b vs ts v) w
+    moves-listed (role x r) vs ts v w = role-listed r (variable vs x)
+    moves-listed (all u) vs ts v w = all-listed u
+    moves-listed (select k b) vs ts v w = body-listed same k b vs ts v (moves-listed k vs ts v) (moves-listed b) w
+
+    context-listed : (r : Rule) (s : ℕ) → T (broughtIn c r s) → T (occur (contextLists S r))
+    unfolding broughtIn contextLists inserted specialised occurs
+    context-listed r s =
+        let t = r .context in
+        let calm = quiet (r .body) in
+        occur-either (inserted c s t && not calm) (specialised c s t) (cond calm [] (insertOf t ∷ [])) (whereParent S t (specialOf t))
+        (λ h.
+        let u = and-yes (inserted c s t) (not calm) h in
+        rw (cond-no calm [] (insertOf t ∷ []) (u .1))
+        (one-listed (insertOf t) (some-first (insertsInto S t) (λ e. eqb (subject e) s) (u .0))))
+        (λ h. special-listed t (some-first (specialisesInto S t) (λ e. eqb (subject e) s) h))
+
+    selected-touched : (r : Rule) → T (wellTyped S (r .context ∷ []) (r .body)) → (s : ℕ) → T (selected c r s) → T (touched c r)
+    unfolding touched eventList
+    selected-touched r w s t =
+        let sel = selected-cases r s t in
+        let listed = lists S (r .body) (r .context ∷ []) down in
+        let e =
+        any-cases (occurs c) (listed ++ contextLists S r)
+        (occur-either (moves c (r .body) (s ∷ []) down) (broughtIn c r s) listed (contextLists S r)
+        (moves-listed (r .body) (s ∷ []) (r .context ∷ []) (sel .0, tt) w down) (context-listed r s) (sel .1)) in
+        any-of (occurs c) (placed (e .1)) (e .2)
+
+    pub untouched : (r : Rule) → T (wellTyped S (r .context ∷ []) (r .body)) → T (not (touched c r)) → (s : ℕ) → T (not (selected c r s))
+    untouched r w n s = not-T (selected c r s) (λ t. T-not (touched c r) (selected-touched r w s t) n)
