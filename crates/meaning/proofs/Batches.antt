@@ -1,35 +1,25 @@
 -- What the history of a batch that is not refused gives at the leaves of the induction over forms.
 use Prim.Native.Nat.{ℕ, _<_}
-use mathlib.Core.Path.{_≡_, sym, subst, ap}
+use mathlib.Core.Path.{_≡_, sym, subst}
 use mathlib.Core.Logic.{⊎-elim}
 use mathlib.Core.Bool.{Bool, _&&_, _||_, not}
 use mathlib.Core.List.{List}
 use mathlib.Core.Option.{none}
 use lib.Dec.{T, eqb, eqb→eq}
-use lib.ListN.{getD}
 use mir.Facts.{and-yes, yes-and, and-no, T-not, not-T}
 use Rattle.meaning.specs.Schema.{Schema, cellsOf, farType}
-use Rattle.meaning.specs.Register.{Link, linkKey, Register, present, isUnder, cellAt, instances, sameLink, hasLink, farEnd, startsAt, farEnds}
+use Rattle.meaning.specs.Register.{Link, Register, present, isUnder, cellAt, instances, sameLink, hasLink, farEnd, startsAt, farEnds}
 use Rattle.meaning.specs.Forms.{truth}
 use Rattle.meaning.specs.Events.{Event, Lent, apply, after, eventRefusal}
 use Rattle.meaning.specs.Reach.{Change, changeBy, someStep, subject, linkNamed, joins, parts, sets, insertsInto, specialisesInto, deletesFrom, generalisesFrom, Direction, up, down, roleMoves, bringsIn, takesOut, allMoves, cellMoves, kindMoves, inserted, specialised}
 use Rattle.meaning.specs.Lists.{any}
 use Rattle.meaning.proofs.Lists.{_∈_, or-left, or-right, any-map}
-use Rattle.meaning.proofs.Order.{same-eq}
 use Rattle.meaning.proofs.Schemas.{SchemaFits}
-use Rattle.meaning.proofs.Registers.{RegisterFits, under-present, instance-in, instance-from, far-in, far-from, far-under}
+use Rattle.meaning.proofs.Registers.{RegisterFits, same-link, under-present, instance-in, instance-from, far-in, far-from, far-under}
 use Rattle.meaning.proofs.Effects.{link-stays, link-was, under-stays, under-was, cell-same, insert-absent, delete-absent}
 use Rattle.meaning.proofs.Monotone.{Unmoved}
 use Rattle.meaning.proofs.Movement.{UnmovedKept, Leaves}
 use Rattle.meaning.proofs.Steps.{Throughout, EachStep, Unrefused, at-start, at-end, throughout-map, throughout-both, each-side, each-both, each-map, unchanged, forwards, backwards, no-step, fits-throughout, each-fit}
-
--- the same link: what is true of one is true of the other
-same-link : (P : Link → Type 0) (l k : Link) → T (sameLink l k) → P l → P k
-same-link P l k t p = subst P link-eq p
-  where
-    link-eq : l ≡ k
-    link-eq =
-        ap {B = Link} (λ q. record { relationship = getD q 0 0; source = getD q 1 0; target = getD q 2 0 }) (same-eq (linkKey l) (linkKey k) t)
 
 -- the event did so to the object x
 abbrev pub about : (Register → Event → Bool) → ℕ → Register → Event → Bool
@@ -91,7 +81,7 @@ module _ (S : Schema) (schema-fits : SchemaFits S) (lent : Lent) (g : Register) 
       (λ g′ e t.
       let ts = and-yes (joins e) (sameLink l (linkNamed e)) t in
       yes-and (joins e) _ (ts .0)
-      (yes-and (startsAt r x (linkNamed e)) _ (same-link (λ k. T (startsAt r x k)) l (linkNamed e) (ts .1) s) (same-link (λ k. T (hasLink (after S g es) k)) l (linkNamed e) (ts .1) h)))
+      (yes-and (startsAt r x (linkNamed e)) _ (subst (λ k. T (startsAt r x k)) (same-link l (linkNamed e) (ts .1)) s) (subst (λ k. T (hasLink (after S g es) k)) (same-link l (linkNamed e) (ts .1)) h)))
       n)
       h
 
@@ -103,7 +93,7 @@ module _ (S : Schema) (schema-fits : SchemaFits S) (lent : Lent) (g : Register) 
       (some-narrow c (λ g′ e. parts e && startsAt r x (linkNamed e)) (names parts l)
       (λ g′ e t.
       let ts = and-yes (parts e) (sameLink l (linkNamed e)) t in
-      yes-and (parts e) _ (ts .0) (same-link (λ k. T (startsAt r x k)) l (linkNamed e) (ts .1) s))
+      yes-and (parts e) _ (ts .0) (subst (λ k. T (startsAt r x k)) (same-link l (linkNamed e) (ts .1)) s))
       n)
       h
 

@@ -1,43 +1,31 @@
 -- Document 01, theorem 5: by the limits no number that a rule computes passes 2 to the 47th.
-use Prim.Native.Nat.{ℕ, zero, suc, _+_, _*_, _^_, _≤_, zero-le}
+use Prim.Native.Nat.{ℕ, _+_, _*_, _^_, _≤_, zero-le}
 use mathlib.Core.Path.{_≡_, refl}
-use mathlib.Core.Bool.{Bool, _&&_}
 use mathlib.Core.List.{List, [], _∷_, map}
 use mathlib.Core.Option.{Option, none, some}
 use native.Mathlib.Nat.{le-trans}
 use native.Mathlib.Omega.{arith}
-use lib.Dec.{T, eqb, lit≤}
-use lib.ListN.{length, getD, drop}
+use lib.Dec.{T, lit≤}
+use lib.ListN.{length, getD}
 use lib.IntN.{ℤ, pos, natAbs}
 use lib.Signed.{natAbs-le}
 use mir.Facts.{and-yes, ltb-yes}
-use Rattle.meaning.specs.Lists.{every}
-use Rattle.meaning.specs.Limits.{cellCount, validId, fitsWord}
-use Rattle.meaning.specs.Schema.{Schema, knownType, cellsOf}
-use Rattle.meaning.specs.Register.{Object, Register, objectAt, cellAt, isZero, cellsFit, objectFits}
+use Rattle.meaning.specs.Limits.{fitsWord}
+use Rattle.meaning.specs.Schema.{Schema}
+use Rattle.meaning.specs.Register.{Object, Register, objectAt, cellAt}
 use Rattle.meaning.specs.Forms.{number, Arithmetic, add, sub, Form, num, cell, size, sum, combine, variable, formCount, wellTyped}
 use Rattle.meaning.specs.Meaning.{combined, total, meaning}
+use Rattle.meaning.proofs.Lists.{every-getD}
 use Rattle.meaning.proofs.Integers.{natAbs-add, natAbs-sub}
-use Rattle.meaning.proofs.Registers.{RegisterFits, object-at}
+use Rattle.meaning.proofs.Registers.{RegisterFits, object-parts, object-at}
 use Rattle.meaning.proofs.Collections.{members-count}
 
 word-size : (n : ℤ) → T (fitsWord n) → natAbs n ≤ 2 ^ 31
 unfolding fitsWord
 word-size n t = natAbs-le n (ltb-yes t)
 
-every-getD : {A : Type 0} (p : A → Bool) (l : List A) (k : ℕ) (d : A) → T (every p l) → T (p d) → T (p (getD l k d))
-every-getD p [] k d t u = u
-every-getD p (x ∷ xs) zero d t u = and-yes (p x) (every p xs) t .0
-every-getD p (x ∷ xs) (suc k) d t u = every-getD p xs k d (and-yes (p x) (every p xs) t .1) u
-
-cells-fit : (S : Schema) (o : Object) → T (objectFits S o) → T (every fitsWord (o .cells))
-unfolding objectFits cellsFit
-cells-fit S o t =
-    let cells = and-yes (validId (o .id) && knownType S (o .type)) (cellsFit S o) t .1 in
-    let words = and-yes (eqb (length (o .cells)) cellCount && every fitsWord (o .cells)) (every isZero (drop (cellsOf S (o .type)) (o .cells))) cells .0 in
-    and-yes (eqb (length (o .cells)) cellCount) (every fitsWord (o .cells)) words .1
-
-total-size : (f : ℕ → ℤ) → ((x : ℕ) → natAbs (f x) ≤ 2 ^ 31) → (l : List ℕ) → natAbs (total (map f l)) ≤ length l * 2 ^ 31
+-- the sum of n numbers of a word
+pub total-size : (f : ℕ → ℤ) → ((x : ℕ) → natAbs (f x) ≤ 2 ^ 31) → (l : List ℕ) → natAbs (total (map f l)) ≤ length l * 2 ^ 31
 unfolding total
 total-size f h [] = zero-le
 total-size f h (x ∷ xs) = omega (arith, natAbs-add (f x) (total (map f xs)), h x, total-size f h xs)
@@ -56,7 +44,7 @@ module _ (S : Schema) (g : Register) (fits : RegisterFits S g) where
       step none e = zero-le
       step (some o) e =
           word-size (getD (o .cells) k (pos 0))
-          (every-getD fitsWord (o .cells) k (pos 0) (cells-fit S o (fits .objects-fit o (object-at g x e .0))) tt)
+          (every-getD fitsWord (o .cells) k (pos 0) (object-parts S o (fits .objects-fit o (object-at g x e .0)) .cells-word) tt)
 
   module _ (few : length (g .objects) ≤ 1024) where
     -- a form adds at most 2^41 of its own: the sum of 1024 cells

@@ -1,21 +1,17 @@
 -- The collections of a register that fits its schema: their members ascend, are there, and are no more than its objects.
 use Prim.Native.Nat.{ℕ, _≤_, _<_}
-use mathlib.Core.Path.{_≡_, refl, sym, subst}
-use mathlib.Core.Logic.{⊎-elim}
-use mathlib.Core.Bool.{false, true, _&&_}
+use mathlib.Core.Path.{sym, subst}
+use mathlib.Core.Bool.{true}
 use mathlib.Core.List.{List, map}
-use mathlib.Core.Option.{Option, none, some}
 use native.Mathlib.Nat.{lt-irrefl, lt-trans}
-use lib.Dec.{T, ltb, eqb}
+use lib.Dec.{T}
 use lib.ListN.{length, length-map}
-use mir.Facts.{and-yes, or-yes, ltb-yes}
-use Rattle.meaning.specs.Lists.{holds}
 use Rattle.meaning.specs.Schema.{Schema, farType}
 use Rattle.meaning.specs.Register.{Object, Register, objectKey, objectAt, present, farEnd}
 use Rattle.meaning.specs.Forms.{collection, Form, role, all, select, bind, variable}
 use Rattle.meaning.specs.Meaning.{meaning}
-use Rattle.meaning.proofs.Lists.{_∈_, keep-from, Ascending, ascending-keep, ascending-shorter, map-in, ascending-map}
-use Rattle.meaning.proofs.Order.{Before}
+use Rattle.meaning.proofs.Lists.{_∈_, holds-some, keep-from, Ascending, ascending-keep, ascending-shorter, map-in, ascending-map}
+use Rattle.meaning.proofs.Order.{Before, before-one}
 use Rattle.meaning.proofs.Registers.{RegisterFits, object-at, under-present, instance-from, instances-ascend, far-from, far-ends-ascend, far-under}
 
 abbrev idOf : Object → ℕ
@@ -23,18 +19,9 @@ idOf o = o .id
 
 id-in : (g : Register) (x : ℕ) → T (present g x) → x ∈ map idOf (g .objects)
 unfolding present
-id-in g x t = step (objectAt g x) refl t
-  where
-    step : (found : Option Object) → objectAt g x ≡ found → T (holds (λ o. true) found) → x ∈ map idOf (g .objects)
-    step none e t = absurd t
-    step (some o) e t =
-        let r = object-at g x e in
-        subst (λ y. y ∈ map idOf (g .objects)) (r .1) (map-in idOf (r .0))
-
-id-before : (o p : Object) → Before objectKey o p → idOf o < idOf p
-id-before o p t =
-    ⊎-elim ltb-yes (λ u. absurd (and-yes (eqb (o .id) (p .id)) false u .1))
-    (or-yes (ltb (o .id) (p .id)) (eqb (o .id) (p .id) && false) t)
+id-in g x t =
+    let r = object-at g x (holds-some (λ o. true) (objectAt g x) t .1) in
+    subst (λ y. y ∈ map idOf (g .objects)) (r .1) (map-in idOf (r .0))
 
 module _ (S : Schema) (g : Register) (fits : RegisterFits S g) where
   pub members-ascend : (c : Form collection) (vs : List ℕ) → Ascending _<_ (meaning S g c vs)
@@ -56,5 +43,5 @@ module _ (S : Schema) (g : Register) (fits : RegisterFits S g) where
       rw (← length-map (g .objects) idOf)
       (ascending-shorter _<_ lt-irrefl (λ x y z. lt-trans) (meaning S g c vs) (map idOf (g .objects))
       (members-ascend c vs)
-      (ascending-map idOf (Before objectKey) _<_ (g .objects) (λ o p m n t. id-before o p t) (fits .objects-ascend))
+      (ascending-map idOf (Before objectKey) _<_ (g .objects) (λ o p m n. before-one (o .id) (p .id)) (fits .objects-ascend))
       (λ x m. id-in g x (member-present c vs x m)))

@@ -7,7 +7,7 @@ use mathlib.Core.List.{List, [], _∷_, _++_, map, List·Memᴰ, List·Memᴰ·h
 use mathlib.Core.Option.{Option, none, some, Option·map, Option·none-ne-some, Option·some-injective}
 use native.Mathlib.Nat.{le-trans, le-suc}
 use lib.Dec.{T}
-use lib.ListN.{length, take, drop, replicate, getElem?, set as replaceAt}
+use lib.ListN.{length, getD, take, drop, replicate, getElem?, set as replaceAt}
 use mir.Facts.{and-yes, yes-and, or-yes, T-not, not-T}
 use Rattle.meaning.specs.Lists.{any, every, keep, first, holds, firstOf}
 
@@ -279,6 +279,11 @@ module _ {A : Type 0} (p : A → Bool) where
 -- ---- what every element passes, after a change of the list
 
 module _ {A : Type 0} (p : A → Bool) where
+  pub every-getD : (l : List A) (k : ℕ) (d : A) → T (every p l) → T (p d) → T (p (getD l k d))
+  every-getD [] k d t u = u
+  every-getD (x ∷ xs) zero d t u = and-yes (p x) (every p xs) t .0
+  every-getD (x ∷ xs) (suc k) d t u = every-getD xs k d (and-yes (p x) (every p xs) t .1) u
+
   pub every-drop : (n : ℕ) (l : List A) → T (every p l) → T (every p (drop n l))
   every-drop zero l t = t
   every-drop (suc n) [] t = tt

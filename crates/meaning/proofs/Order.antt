@@ -6,7 +6,7 @@ use mathlib.Core.Logic.{_⊎_, inl, inr, ⊎-elim}
 use mathlib.Core.Bool.{Bool, true, false, _&&_, not, cond}
 use mathlib.Core.List.{List, [], _∷_, List·Memᴰ·head, List·Memᴰ·tail, List·Memᴰ·not-nil, List·Memᴰ·cases-cons, List·Memᴰ·eq-of-singleton}
 use mathlib.Core.Option.{Option, none, some, Option·none-ne-some, Option·some-injective}
-use native.Mathlib.Nat.{add-zero, zero-add, eq-or-lt-of-le, le-refl, lt-irrefl, suc-inj}
+use native.Mathlib.Nat.{add-zero, zero-add, eq-or-lt-of-le, le-refl, lt-irrefl, ne-of-lt, suc-inj}
 use native.Mathlib.Omega.{arith}
 use lib.Dec.{T, ltb, eqb, eqb-refl}
 use lib.ListN.{length, getElem?}
@@ -36,6 +36,18 @@ module _ (x y : ℕ) (xs ys : List ℕ) where
 
   pub before-tail : x ≡ y → T (before xs ys) → T (before (x ∷ xs) (y ∷ ys))
   before-tail e t = or-right (ltb x y) (eqb x y && before xs ys) (yes-and (eqb x y) (before xs ys) (yes-eqb e) t)
+
+pub before-one : (x y : ℕ) → T (before (x ∷ []) (y ∷ [])) → x < y
+before-one x y t = ⊎-elim (λ (u : T (ltb x y)). ltb-yes u) (λ u. absurd (and-yes (eqb x y) false u .1)) (or-yes (ltb x y) (eqb x y && false) t)
+
+pub before-last : (x y : ℕ) (k l : List ℕ) → x ≡ y → T (before (x ∷ k) (y ∷ l)) → T (before k l)
+before-last x y k l e t =
+    ⊎-elim (λ (u : T (ltb x y)). absurd (ne-of-lt (ltb-yes u) e)) (λ u. and-yes (eqb x y) (before k l) u .1) (or-yes (ltb x y) (eqb x y && before k l) t)
+
+pub before-first : (x y u v : ℕ) → u ≡ v → T (before (x ∷ u ∷ []) (y ∷ v ∷ [])) → x < y
+before-first x y u v e t =
+    ⊎-elim (λ (h : T (ltb x y)). ltb-yes h) (λ h. absurd (ne-of-lt (before-one u v (and-yes (eqb x y) (before (u ∷ []) (v ∷ [])) h .1)) e))
+    (or-yes (ltb x y) (eqb x y && before (u ∷ []) (v ∷ [])) t)
 
 pub before-irreflexive : (x : List ℕ) → ¬ T (before x x)
 before-irreflexive [] t = t

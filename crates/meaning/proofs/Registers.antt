@@ -1,20 +1,18 @@
 -- What a register without refusal 5 is, and how its objects, links and collections are found in it.
 use Prim.Native.Nat.{ℕ, _<_}
 use mathlib.Core.Path.{_≡_, sym, subst, _∙_}
-use mathlib.Core.Logic.{⊎-elim}
 use mathlib.Core.Bool.{Bool, true, false, _&&_, cond}
 use mathlib.Core.List.{List, [], _∷_, Memᴰ·cast}
 use mathlib.Core.Option.{none, some}
-use native.Mathlib.Nat.{ne-of-lt}
-use lib.Dec.{T, ltb, eqb, eqb-refl}
+use lib.Dec.{T, eqb, eqb-refl}
 use lib.ListN.{length, getD, drop}
-use mir.Facts.{and-yes, yes-and, or-yes, ltb-yes, eqb-yes, yes-eqb}
+use mir.Facts.{and-yes, yes-and, eqb-yes, yes-eqb}
 use Rattle.meaning.specs.Lists.{every, keep, before}
 use Rattle.meaning.specs.Limits.{cellCount, validId, fitsWord}
 use Rattle.meaning.specs.Schema.{Schema, knownType, knownRelationship, cellsOf, relationshipOf, forward, sourceType, targetType, farType, under}
 use Rattle.meaning.specs.Register.{Object, Link, Register, objectKey, linkKey, objectAt, present, isUnder, instances, sameLink, hasLink, nearEnd, farEnd, startsAt, farEnds, isZero, cellsFit, objectFits, faultyObject, linkFits, faultyLink, objectFault, linkFault}
 use Rattle.meaning.proofs.Lists.{_∈_, Ascending, first-only, ascending-one, holds-some, any-of, any-cases, keep-in, keep-from, first-some, ascending-keep, map-in, map-from, ascending-map}
-use Rattle.meaning.proofs.Order.{Before, before-irreflexive, same-eq, same-refl, rows-fit, fits-rows}
+use Rattle.meaning.proofs.Order.{Before, before-one, before-last, before-first, before-irreflexive, same-eq, same-refl, rows-fit, fits-rows}
 
 pub record RegisterFits (S : Schema) (g : Register) : Type 0 where
   pub objects-ascend : Ascending (Before objectKey) (g .objects)
@@ -92,14 +90,14 @@ under-present S g x t u = rw (holds-some (λ o. under S (o .type) t) (objectAt g
 
 -- ---- links
 
+pub same-link : (l k : Link) → T (sameLink l k) → l ≡ k
+same-link l k t =
+    let e = same-eq (linkKey l) (linkKey k) t in
+    λ i. record { relationship = getD (e i) 0 0; source = getD (e i) 1 0; target = getD (e i) 2 0 }
+
 pub link-in : (g : Register) (l : Link) → T (hasLink g l) → l ∈ g .links
 unfolding hasLink
-link-in g l t =
-    let r = any-cases (sameLink l) (g .links) t in
-    Memᴰ·cast (of-key (r .0) (same-eq (linkKey l) (linkKey (r .0)) (r .2))) (r .1)
-  where
-    of-key : (k : Link) → linkKey l ≡ linkKey k → l ≡ k
-    of-key k e = λ i. record { relationship = getD (e i) 0 0; source = getD (e i) 1 0; target = getD (e i) 2 0 }
+link-in g l t = let r = any-cases (sameLink l) (g .links) t in Memᴰ·cast (same-link l (r .0) (r .2)) (r .1)
 
 pub link-has : (g : Register) (l : Link) → l ∈ g .links → T (hasLink g l)
 unfolding hasLink
@@ -120,19 +118,6 @@ instance-from S g r x t m =
     let o = map-from (λ (o : Object). o .id) (keep (λ o. under S (o .type) t) (g .objects)) m in
     let k = keep-from (λ o. under S (o .type) t) (g .objects) (o .1) in
     rw (o .2) (rw (object-found S g r (k .0)) (k .1))
-
--- the order of keys that differ in one number
-before-one : (x y : ℕ) → T (before (x ∷ []) (y ∷ [])) → x < y
-before-one x y t = ⊎-elim (λ (u : T (ltb x y)). ltb-yes u) (λ u. absurd (and-yes (eqb x y) false u .1)) (or-yes (ltb x y) (eqb x y && false) t)
-
-before-last : (x y : ℕ) (k l : List ℕ) → x ≡ y → T (before (x ∷ k) (y ∷ l)) → T (before k l)
-before-last x y k l e t =
-    ⊎-elim (λ (u : T (ltb x y)). absurd (ne-of-lt (ltb-yes u) e)) (λ u. and-yes (eqb x y) (before k l) u .1) (or-yes (ltb x y) (eqb x y && before k l) t)
-
-before-first : (x y u v : ℕ) → u ≡ v → T (before (x ∷ u ∷ []) (y ∷ v ∷ [])) → x < y
-before-first x y u v e t =
-    ⊎-elim (λ (h : T (ltb x y)). ltb-yes h) (λ h. absurd (ne-of-lt (before-one u v (and-yes (eqb x y) (before (u ∷ []) (v ∷ [])) h .1)) e))
-    (or-yes (ltb x y) (eqb x y && before (u ∷ []) (v ∷ [])) t)
 
 pub instances-ascend : (S : Schema) (g : Register) → RegisterFits S g → (t : ℕ) → Ascending _<_ (instances S g t)
 unfolding instances

@@ -184,12 +184,12 @@ module _ (c : Change) where
   role-listed : (r u : ℕ) (d : Direction) → T (roleMoves c r u d) → T (occur (roleLists r d))
   unfolding roleMoves roleLists occurs
   role-listed r u up h =
-      one-listed (joinOf (relationshipOf r))
+      any-of (occurs c) {l = roleLists r up} (List·Memᴰ·head refl)
       (some-second joins (λ e. startsAt r u (linkNamed e) && hasLink (c .end) (linkNamed e)) _
       (λ e t. starts-relationship r u (linkNamed e) (and-yes (startsAt r u (linkNamed e)) (hasLink (c .end) (linkNamed e)) t .0))
       h)
   role-listed r u down h =
-      one-listed (partOf (relationshipOf r))
+      any-of (occurs c) {l = roleLists r down} (List·Memᴰ·head refl)
       (some-second parts (λ e. startsAt r u (linkNamed e)) _ (λ e. starts-relationship r u (linkNamed e)) h)
 
   cell-listed : (u t k : ℕ) → T (isUnder S (c .end) u t) → T (cellMoves c u k) → T (occurs c (setOf t k))
