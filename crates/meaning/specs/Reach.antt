@@ -193,14 +193,15 @@ unfoldable pub roleMoves : Change → ℕ → ℕ → Direction → Bool
 roleMoves c r u up = someStep c (λ g e. joins e && (startsAt r u (linkNamed e) && hasLink (c .end) (linkNamed e)))
 roleMoves c r u down = someStep c (λ g e. parts e && startsAt r u (linkNamed e))
 
--- "`all t`: gain if an insert or special brought in an object that is under t at the end; loss if a delete or general took one
--- out."
+-- "an insert or special brought in an object", "a delete or general took one out"
 unfoldable pub bringsIn : Schema → ℕ → Register → Event → Bool
 bringsIn S t g e = insertsInto S t g e || specialisesInto S t g e
 
 unfoldable pub takesOut : Schema → ℕ → Register → Event → Bool
 takesOut S t g e = deletesFrom S t g e || generalisesFrom S t g e
 
+-- "`all t`: gain if an insert or special brought in an object that is under t at the end; loss if a delete or general took one
+-- out."
 unfoldable pub allMoves : Change → ℕ → Direction → Bool
 allMoves c t up = someStep c (λ g e. bringsIn (c .schema) t g e && isUnder (c .schema) (c .end) (subject e) t)
 allMoves c t down = someStep c (takesOut (c .schema) t)
@@ -217,7 +218,10 @@ kindMoves c u t down = someStep c (λ g e. generalisesFrom (c .schema) t g e && 
 
 -- ---- the forms
 
--- Whether a form may move in a direction, by the ids that its variables stand for. "Members are always those at the end."
+-- Whether a form may move in a direction, by the ids that its variables stand for. "`not` reverses"; "`num`: never. `size`: rises by
+-- gain, falls by loss. `sum`: either way by gain, loss or a set of that cell at a member." "`select c b`: gain if c gains or b may turn
+-- true at a member of c; loss if c loses or b may turn false at one. Members are always those at the end." `forall` and `exists`
+-- turn by their collection, "or if b may turn" the same way "at a member".
 unfoldable pub moves : {s : Sort} → Change → Form s → List ℕ → Direction → Bool
 moves c (compare o a b) vs d = through _||_ (leftOf o) (moves c a vs) d || through _||_ (rightOf o) (moves c b vs) d
 moves c (negate a) vs d = through _||_ reversed (moves c a vs) d
@@ -279,11 +283,12 @@ inserted c s t = someStep c (λ g e. insertsInto (c .schema) t g e && eqb (subje
 unfoldable pub specialised : Change → ℕ → ℕ → Bool
 specialised c s t = someStep c (λ g e. specialisesInto (c .schema) t g e && eqb (subject e) s)
 
--- "Pair (rule, s) is selected when s is under the context type at the end and: the body may turn false at s; or an insert
--- brought s into the context type and the body is not quiet; or a special did."
+-- "an insert brought s into the context type and the body is not quiet; or a special did"
 unfoldable pub broughtIn : Change → Rule → ℕ → Bool
 broughtIn c r s = (inserted c s (r .context) && not (quiet (r .body))) || specialised c s (r .context)
 
+-- "Pair (rule, s) is selected when s is under the context type at the end and: the body may turn false at s; or" it was brought in
+-- so.
 unfoldable pub selected : Change → Rule → ℕ → Bool
 selected c r s = isUnder (c .schema) (c .end) s (r .context) && (moves c (r .body) (s ∷ []) down || broughtIn c r s)
 
