@@ -1,0 +1,85 @@
+-- The columns of the tables. A row that is not used is not read.
+use Prim.Native.Nat.{ℕ, _+_, _*_, _-_, _^_}
+use mathlib.Core.Bool.{Bool, cond}
+use mathlib.Core.List.{List, [], _∷_}
+use mathlib.Core.Option.{Option, none, some}
+use lib.Dec.{eqb}
+use lib.ListN.{getD}
+use lib.IntN.{ℤ}
+use Rattle.meaning.specs.Limits.{maxForms, cellCount}
+use Rattle.meaning.specs.Schema.{ObjectType, Relationship, Schema}
+use Rattle.meaning.specs.Register.{Object, Link, Register}
+use Rattle.meaning.specs.Forms.{Rule, Book}
+use Rattle.meaning.specs.Events.{Event, insert, delete, set, join, part, special, general, linkOf}
+use Rattle.rows.specs.Rows.{wordAt, readRows, signed}
+use Rattle.tables.specs.Bodies.{bodyRow, readBody}
+
+-- the word that stands for no parent
+abbrev pub noParent : ℕ
+noParent = 2 ^ 32 - 1
+
+-- types: parent, cells
+unfoldable pub typeRow : List ℕ → ℕ → ObjectType
+typeRow t i =
+    record
+      { parent = cond (eqb (wordAt t 2 i 0) noParent) none (some (wordAt t 2 i 0))
+      ; cells = wordAt t 2 i 1 }
+
+-- relationships: source type, target type
+unfoldable pub relationshipRow : List ℕ → ℕ → Relationship
+relationshipRow t i = record { source = wordAt t 2 i 0; target = wordAt t 2 i 1 }
+
+-- rules: context type, number of body rows. Rule n's body stands from row 64 n of the bodies on.
+unfoldable pub ruleRow : List ℕ → List ℕ → ℕ → Rule
+ruleRow rules bodies i =
+    record
+      { context = wordAt rules 2 i 0
+      ; body = readBody (λ j. bodyRow bodies (i * maxForms + j)) (wordAt rules 2 i 1) }
+
+-- objects: id, type, eight cells
+unfoldable pub objectRow : List ℕ → ℕ → Object
+objectRow t i =
+    record
+      { id = wordAt t 10 i 0
+      ; type = wordAt t 10 i 1
+      ; cells = readRows (λ k. signed (wordAt t 10 i (2 + k))) cellCount }
+
+-- links: relationship, source id, target id
+unfoldable pub linkRow : List ℕ → ℕ → Link
+linkRow t i = linkOf (wordAt t 3 i 0) (wordAt t 3 i 1) (wordAt t 3 i 2)
+
+-- An event that is no event of document 01: refusal 7 meets it, since no id is 0.
+abbrev pub noEvent : Event
+noEvent = delete 0
+
+-- events: kind, in document 01's order from 0, and three fields; "a field that its row does not use is 0, else .. 7 is met there"
+unfoldable pub eventOf : ℕ → ℕ → ℕ → ℕ → Event
+eventOf kind x y z =
+    getD
+    (cond (eqb z 0) (insert x y) noEvent
+    ∷ cond (eqb y 0) (cond (eqb z 0) (delete x) noEvent) noEvent
+    ∷ set x y (signed z)
+    ∷ join x y z
+    ∷ part x y z
+    ∷ cond (eqb z 0) (special x y) noEvent
+    ∷ cond (eqb z 0) (general x y) noEvent
+    ∷ [])
+    kind noEvent
+
+unfoldable pub eventRow : List ℕ → ℕ → Event
+eventRow t i = eventOf (wordAt t 4 i 0) (wordAt t 4 i 1) (wordAt t 4 i 2) (wordAt t 4 i 3)
+
+-- The schema, the book, the register and the batch of tables with so many used rows.
+abbrev pub schemaOf : ℕ → List ℕ → ℕ → List ℕ → Schema
+schemaOf typeCount types relationshipCount relationships =
+    record { types = readRows (typeRow types) typeCount; relationships = readRows (relationshipRow relationships) relationshipCount }
+
+abbrev pub rulesOf : ℕ → List ℕ → List ℕ → List Rule
+rulesOf ruleCount rules bodies = readRows (ruleRow rules bodies) ruleCount
+
+abbrev pub registerOf : ℕ → List ℕ → ℕ → List ℕ → Register
+registerOf objectCount objects linkCount links =
+    record { objects = readRows (objectRow objects) objectCount; links = readRows (linkRow links) linkCount }
+
+abbrev pub eventsOf : ℕ → List ℕ → List Event
+eventsOf eventCount events = readRows (eventRow events) eventCount
