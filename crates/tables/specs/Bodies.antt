@@ -129,10 +129,11 @@ noReading i = record { start = i; sound = false; form = part number (num (pos 0)
 unfoldable pub readingOf : Option Operator → BodyRow → ℕ → Reading → Reading → Reading
 readingOf none r i first second = noReading i
 readingOf (some o) r i first second =
-    record
-      { start = startOf ((shapeOf o) .parts) i (first .start) (second .start)
-      ; sound = partsFit ((shapeOf o) .parts) i first second && fieldsFit ((shapeOf o) .fields) r
-      ; form = formOf o r (first .form) (second .form) }
+    record {
+      start = startOf ((shapeOf o) .parts) i (first .start) (second .start);
+      sound = partsFit ((shapeOf o) .parts) i first second && fieldsFit ((shapeOf o) .fields) r;
+      form = formOf o r (first .form) (second .form);
+    }
 
 -- The reading at row i. Its second part ends at the row before it, and its first part before that one's start. Any fuel above i serves.
 unfoldable pub readAt : ℕ → (ℕ → BodyRow) → ℕ → Reading

@@ -21,9 +21,10 @@ noParent = 2 ^ 32 - 1
 -- types: parent, cells
 unfoldable pub typeRow : List ℕ → ℕ → ObjectType
 typeRow t i =
-    record
-      { parent = cond (eqb (wordAt t 2 i 0) noParent) none (some (wordAt t 2 i 0))
-      ; cells = wordAt t 2 i 1 }
+    record {
+      parent = cond (eqb (wordAt t 2 i 0) noParent) none (some (wordAt t 2 i 0));
+      cells = wordAt t 2 i 1;
+    }
 
 -- relationships: source type, target type
 unfoldable pub relationshipRow : List ℕ → ℕ → Relationship
@@ -32,17 +33,19 @@ relationshipRow t i = record { source = wordAt t 2 i 0; target = wordAt t 2 i 1 
 -- rules: context type, number of body rows. Rule n's body stands from row 64 n of the bodies on.
 unfoldable pub ruleRow : List ℕ → List ℕ → ℕ → Rule
 ruleRow rules bodies i =
-    record
-      { context = wordAt rules 2 i 0
-      ; body = readBody (λ j. bodyRow bodies (i * maxForms + j)) (wordAt rules 2 i 1) }
+    record {
+      context = wordAt rules 2 i 0;
+      body = readBody (λ j. bodyRow bodies (i * maxForms + j)) (wordAt rules 2 i 1);
+    }
 
 -- objects: id, type, eight cells
 unfoldable pub objectRow : List ℕ → ℕ → Object
 objectRow t i =
-    record
-      { id = wordAt t 10 i 0
-      ; type = wordAt t 10 i 1
-      ; cells = readRows (λ k. signed (wordAt t 10 i (2 + k))) cellCount }
+    record {
+      id = wordAt t 10 i 0;
+      type = wordAt t 10 i 1;
+      cells = readRows (λ k. signed (wordAt t 10 i (2 + k))) cellCount;
+    }
 
 -- links: relationship, source id, target id
 unfoldable pub linkRow : List ℕ → ℕ → Link

@@ -65,9 +65,10 @@ pub record Tables : Type 0 where
 
 abbrev pub bookOf : Tables → Book
 bookOf t =
-    record
-      { schema = schemaOf (t .typeCount) (t .types) (t .relationshipCount) (t .relationships)
-      ; rules = rulesOf (t .ruleCount) (t .rules) (t .bodies) }
+    record {
+      schema = schemaOf (t .typeCount) (t .types) (t .relationshipCount) (t .relationships);
+      rules = rulesOf (t .ruleCount) (t .rules) (t .bodies);
+    }
 
 abbrev pub registerIn : Tables → Register
 registerIn t = registerOf (t .objectCount) (t .objects) (t .linkCount) (t .links)
