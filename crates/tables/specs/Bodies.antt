@@ -135,13 +135,15 @@ readingOf (some o) r i first second =
       form = formOf o r (first .form) (second .form);
     }
 
--- The reading at row i. Its second part ends at the row before it, and its first part before that one's start. Any fuel above i serves.
+-- The reading at row i. Its second part ends at the row before it, and its first part before that one's start. Row 0 has no parts.
+-- Any fuel above i serves.
 unfoldable pub readAt : ℕ → (ℕ → BodyRow) → ℕ → Reading
 readAt zero rows i = noReading i
-readAt (suc fuel) rows i =
-    let second = readAt fuel rows (i - 1) in
+readAt (suc fuel) rows zero = readingOf (operatorOf ((rows 0) .code)) (rows 0) 0 (noReading 0) (noReading 0)
+readAt (suc fuel) rows (suc i) =
+    let second = readAt fuel rows i in
     let first = readAt fuel rows (second .start - 1) in
-    readingOf (operatorOf ((rows i) .code)) (rows i) i first second
+    readingOf (operatorOf ((rows (suc i)) .code)) (rows (suc i)) (suc i) first second
 
 -- "lent body rows that are exactly one whole form": n rows, the last of which is a truth that starts at the first
 unfoldable pub wholeBody : (ℕ → BodyRow) → ℕ → Bool
