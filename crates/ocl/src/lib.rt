@@ -1,0 +1,2 @@
+// The evaluators of rule bodies over lent tables, and the full check.
+pub const SELF: u32 = 0;
