@@ -49,6 +49,7 @@ later-next a (y ∷ ys) s x e = step (ltb a y) refl (later-next a ys (s .1)) e
     skips q =
         cond-no (ltb x y) (y ∷ later x ys) (later x ys) (not-T (ltb x y) (λ t. lt-irrefl x (subst (λ z. x < z) (sym q) (ltb-yes t))))
         ∙ later-all x ys (λ z m. subst (λ w. w < z) (sym q) (s .0 z m))
+
     step : (b : Bool) → ltb a y ≡ b → ((z : ℕ) → nextAfter a ys ≡ some z → later a ys ≡ z ∷ later z ys) → cond b (some y) (nextAfter a ys) ≡ some x → cond b (y ∷ later a ys) (later a ys) ≡ x ∷ later x (y ∷ ys)
     step true t below q =
         let e′ : x ≡ y = sym (Option·some-injective y x q) in

@@ -1,1 +1,5 @@
 pub mod Place
+pub mod Meet
+pub mod Zeros
+pub mod Shift
+pub mod Parts

@@ -1,8 +1,8 @@
 -- The rows of a table as a list of words, and a word as a signed number.
 use Prim.Native.Nat.{ℕ, zero, suc, _+_, _-_, _*_, _/_, _%_, _^_}
-use mathlib.Core.Bool.{Bool, cond}
+use mathlib.Core.Bool.{Bool, true, _&&_, cond}
 use mathlib.Core.List.{List, [], _∷_, _++_}
-use lib.Dec.{ltb, eqb}
+use lib.Dec.{ltb, leb, eqb}
 use lib.ListN.{length, getD, take, drop, replicate}
 use lib.IntN.{ℤ, pos, negsuc}
 
@@ -25,6 +25,55 @@ wholeRows t width = eqb (length t % width) 0
 -- how many whole rows a slice has
 abbrev pub rowsLent : List ℕ → ℕ → ℕ
 rowsLent t width = length t / width
+
+-- ---- rows that are not used
+
+abbrev pub allZero : List ℕ → Bool
+allZero [] = true
+allZero (w ∷ ws) = eqb w 0 && allZero ws
+
+-- every word past the used rows is 0
+abbrev pub zeroPast : List ℕ → ℕ → ℕ → Bool
+zeroPast t width used = allZero (drop (used * width) t)
+
+-- the used rows, and zeros past them
+unfoldable pub clearedPast : List ℕ → ℕ → ℕ → List ℕ
+clearedPast t width used = take (used * width) t ++ replicate (length t - used * width) 0
+
+-- ---- words and rows put in their place; where they do not fit, nothing is written
+
+-- dst with the first n words of src in front
+unfoldable pub copied : List ℕ → List ℕ → ℕ → List ℕ
+copied dst src n = cond (leb n (length dst) && leb n (length src)) (take n src ++ drop n dst) dst
+
+-- t with a row's words in its place
+unfoldable pub withRow : List ℕ → ℕ → ℕ → List ℕ → List ℕ
+withRow t width row words =
+    let a = row * width in
+    cond (eqb (length words) width && leb (a + width) (length t)) (take a t ++ words ++ drop (a + width) t) t
+
+-- all words `by` places on, after zeros, as many as there were; and as many places back, before zeros
+unfoldable pub shiftedUp : List ℕ → ℕ → List ℕ
+shiftedUp t by = take (length t) (replicate by 0 ++ t)
+
+unfoldable pub shiftedDown : List ℕ → ℕ → List ℕ
+shiftedDown t by = drop by (t ++ replicate by 0)
+
+-- the used rows from row `at` on stand one row on, and row `at` is zeros; for this there is a row past the used ones
+unfoldable pub withGap : List ℕ → ℕ → ℕ → ℕ → List ℕ
+withGap t width at used =
+    let a = at * width in
+    let e = (used + 1) * width in
+    cond (leb at used && leb e (length t)) (take a t ++ replicate width 0 ++ take (used * width - a) (drop a t) ++ drop e t) t
+
+-- row `at` is not among the used rows: those after it stand one row back, and the last used row is zeros
+unfoldable pub withoutRow : List ℕ → ℕ → ℕ → ℕ → List ℕ
+withoutRow t width at used =
+    let a = at * width in
+    let e = used * width in
+    cond (ltb at used && leb e (length t)) (take a t ++ take (e - (a + width)) (drop (a + width) t) ++ replicate width 0 ++ drop e t) t
+
+-- ---- signed words
 
 -- a word's signed value: two's complement
 abbrev pub signed : ℕ → ℤ

@@ -1,7 +1,6 @@
 // Rows of 32-bit words: the only place that does row arithmetic.
 ghost use mathlib.Core.Path.{_≡_};
-ghost use Prim.Native.Nat.{_<_};
-ghost use Rattle.rows.specs.Rows.{wordAt, wholeRows, rowsLent};
+ghost use Rattle.rows.specs.Rows.{wordAt, wholeRows, rowsLent, zeroPast, copied, withRow, shiftedUp, shiftedDown, withGap, withoutRow, clearedPast};
 
 // The word in a column of a row; 0 past the end.
 pub fn word(t: &[u32], width: u32, row: u32, column: u32) -> u32
@@ -11,10 +10,137 @@ pub fn word(t: &[u32], width: u32, row: u32, column: u32) -> u32
     if at < t.len() { t[at] } else { 0 }
 }
 
-// Whether the slice is whole rows.
+// Whether the slice is whole rows; of width 0, whether it is empty.
 pub fn whole(t: &[u32], width: u32) -> bool
-    requires { ⌜ 0 < width ⌝ }
     ensures { λ r. ⌜ r ≡ wholeRows (now (t .entry)) width ⌝ }
 {
+    if width == 0 {
+        return t.len() == 0;
+    }
     t.len() % (width as usize) == 0
+}
+
+// How many whole rows the slice has; of width 0, none.
+pub fn rows_lent(t: &[u32], width: u32) -> usize
+    ensures { λ r. ⌜ r ≡ rowsLent (now (t .entry)) width ⌝ }
+{
+    if width == 0 {
+        return 0;
+    }
+    t.len() / (width as usize)
+}
+
+// Whether every word past the used rows is 0.
+pub fn zero_past(t: &[u32], width: u32, used: u32) -> bool
+    ensures { λ r. ⌜ r ≡ zeroPast (now (t .entry)) width used ⌝ }
+{
+    let mut i = (used as usize) * (width as usize);
+    while i < t.len() {
+        if t[i] != 0 {
+            return false;
+        }
+        i += 1;
+    }
+    true
+}
+
+// Copies the first n words of src to dst, where both have them.
+pub fn copy_words(dst: &mut [u32], src: &[u32], n: usize)
+    ensures { λ _. ⌜ now (dst .exit) ≡ copied (now (dst .entry)) (now (src .entry)) n ⌝ }
+{
+    if dst.len() < n {
+        return;
+    }
+    if src.len() < n {
+        return;
+    }
+    let mut i = 0;
+    while i < n {
+        dst[i] = src[i];
+        i += 1;
+    }
+}
+
+// Puts a row's words in their place, where they are as many as the width and the slice has the row.
+pub fn write_row(t: &mut [u32], width: u32, row: u32, words: &[u32])
+    ensures { λ _. ⌜ now (t .exit) ≡ withRow (now (t .entry)) width row (now (words .entry)) ⌝ }
+{
+    let n = width as usize;
+    let at = (row as usize) * n;
+    if words.len() != n {
+        return;
+    }
+    if t.len() < at + n {
+        return;
+    }
+    copy_words(&mut t[at..], words, n);
+}
+
+// Moves all words up, the last ones out, and puts zeros first.
+fn shift_up(t: &mut [u32], by: usize)
+    ensures { λ _. ⌜ now (t .exit) ≡ shiftedUp (now (t .entry)) by ⌝ }
+{
+    let mut i = t.len();
+    while 0 < i {
+        i -= 1;
+        let w = if i < by { 0 } else { t[i - by] };
+        t[i] = w;
+    }
+}
+
+// Moves all words down, the first ones out, and puts zeros last.
+fn shift_down(t: &mut [u32], by: usize)
+    ensures { λ _. ⌜ now (t .exit) ≡ shiftedDown (now (t .entry)) by ⌝ }
+{
+    let n = t.len();
+    let mut i = 0;
+    while i < n {
+        let w = if by < n - i { t[i + by] } else { 0 };
+        t[i] = w;
+        i += 1;
+    }
+}
+
+// Moves the used rows from `at` on one row up and makes row `at` zeros, where the slice has a row past the used ones.
+pub fn open_gap(t: &mut [u32], width: u32, at: u32, used: u32)
+    ensures { λ _. ⌜ now (t .exit) ≡ withGap (now (t .entry)) width at used ⌝ }
+{
+    let n = width as usize;
+    let end = (used as usize + 1) * n;
+    if used < at {
+        return;
+    }
+    if t.len() < end {
+        return;
+    }
+    let gap = (at as usize) * n;
+    shift_up(&mut t[gap..end], n);
+}
+
+// Takes row `at` out of the used rows: those after it move one row down, and the last used row becomes zeros.
+pub fn close_gap(t: &mut [u32], width: u32, at: u32, used: u32)
+    ensures { λ _. ⌜ now (t .exit) ≡ withoutRow (now (t .entry)) width at used ⌝ }
+{
+    let n = width as usize;
+    let end = (used as usize) * n;
+    if used <= at {
+        return;
+    }
+    if t.len() < end {
+        return;
+    }
+    let start = (at as usize) * n;
+    shift_down(&mut t[start..end], n);
+}
+
+// Makes every word past the used rows 0.
+pub fn clear_past(t: &mut [u32], width: u32, used: u32)
+    ensures { λ _. ⌜ now (t .exit) ≡ clearedPast (now (t .entry)) width used ⌝ }
+{
+    let start = (used as usize) * (width as usize);
+    if t.len() < start {
+        return;
+    }
+    let by = t.len() - start;
+    shift_down(&mut t[start..], by);
 }

@@ -13,6 +13,7 @@ use Rattle.meaning.specs.Events.{Refusal}
 use Rattle.meaning.specs.Answers.{refusal}
 use Rattle.rows.specs.Rows.{wholeRows, rowsLent}
 use Rattle.tables.specs.Columns.{schemaOf, rulesOf, registerOf}
+use Rattle.tables.specs.declared.Counts.{Counts}
 use Rattle.tables.specs.declared.Found.{Found}
 use Rattle.tables.specs.declared.Found.the-variants.{At, Nothing}
 use Rattle.tables.specs.declared.Verdict.{Verdict}
@@ -62,6 +63,23 @@ pub record Tables : Type 0 where
   pub objects : List ℕ
   pub linkCount : ℕ
   pub links : List ℕ
+
+-- the tables of a call, with its counts
+abbrev pub lentTables : Counts → List ℕ → List ℕ → List ℕ → List ℕ → List ℕ → List ℕ → Tables
+lentTables n types relationships rules bodies objects links =
+    record {
+      typeCount = n .types;
+      types = types;
+      relationshipCount = n .relationships;
+      relationships = relationships;
+      ruleCount = n .rules;
+      rules = rules;
+      bodies = bodies;
+      objectCount = n .objects;
+      objects = objects;
+      linkCount = n .links;
+      links = links;
+    }
 
 abbrev pub bookOf : Tables → Book
 bookOf t =

@@ -1,4 +1,13 @@
-// What the checks of lent tables answer.
+// What the checks of lent tables are given and what they answer.
+
+// How many rows of each lent table are used.
+pub struct Counts {
+    pub types: u32,
+    pub relationships: u32,
+    pub rules: u32,
+    pub objects: u32,
+    pub links: u32,
+}
 
 // A place or an id, if there is one.
 pub enum Found {

@@ -3,14 +3,12 @@ use native.Mathlib.Omega.{arith}
 use lib.ListN.{List·getD-eq-default}
 use mathlib.Core.Path.{sym}
 use borrow.Author.Needs.{needs}
-use Rattle.rows.proofs.Place.{place-bound}
+use Rattle.rows.proofs.Place.{place-bound, place-fits}
 use Rattle.rows.proofs.word.Statement.{statement}
 use Rattle.rows.proofs.word.Tie as tie
-use Rattle.rows.proofs.word.Reads as reads
-use Rattle.rows.proofs.word.Lts as lts
 
 mul-at : tie.Need-mul-at
-mul-at c = record { fits = omega (arith, place-bound (c .args .row) (c .args .width) (c .fits .row .fits) (c .fits .width .fits)) }
+mul-at c = place-fits (c .fits .row) (c .fits .width)
 
 add-at : tie.Need-add-at
 add-at c = record { fits = omega (arith, place-bound (c .args .row) (c .args .width) (c .fits .row .fits) (c .fits .width .fits)) }

@@ -1,0 +1,67 @@
+-- `checks::any_broken` meets its contract.
+use Rattle.tables.specs.Refusals.{tablesOf}
+use borrow.Author.Needs.{needs}
+use Rattle.checks.proofs.any_broken.Statement.{statement}
+use Rattle.checks.proofs.any_broken.Tie as tie
+use Rattle.checks.proofs.any_broken.Reads as reads
+use Rattle.checks.proofs.any_broken.Lts as lts
+use Rattle.checks.proofs.not_whole.Reads as not-whole-reads
+use Rattle.checks.proofs.or.Reads as or-reads
+
+not-whole-requires : tie.Need-not-whole-requires
+not-whole-requires c κs = search needs
+
+not-whole-requires-2 : tie.Need-not-whole-requires-2
+not-whole-requires-2 c κs = search needs
+
+not-whole-requires-3 : tie.Need-not-whole-requires-3
+not-whole-requires-3 c κs = search needs
+
+not-whole-requires-4 : tie.Need-not-whole-requires-4
+not-whole-requires-4 c κs = search needs
+
+not-whole-requires-5 : tie.Need-not-whole-requires-5
+not-whole-requires-5 c κs = search needs
+
+not-whole-requires-6 : tie.Need-not-whole-requires-6
+not-whole-requires-6 c κs = search needs
+
+or-requires : tie.Need-or-requires
+or-requires c κs = search needs
+
+or-requires-2 : tie.Need-or-requires-2
+or-requires-2 c κs = search needs
+
+or-requires-3 : tie.Need-or-requires-3
+or-requires-3 c κs = search needs
+
+or-requires-4 : tie.Need-or-requires-4
+or-requires-4 c κs = search needs
+
+or-requires-5 : tie.Need-or-requires-5
+or-requires-5 c κs = search needs
+
+or-requires-6 : tie.Need-or-requires-6
+or-requires-6 c κs = search needs
+
+returns : tie.Need-returns
+unfolding tablesOf
+returns c n = cc
+
+pub any-broken-spec : {M : Type 1} → statement M
+any-broken-spec =
+    tie.close
+    (tie.spec
+    not-whole-requires
+    not-whole-requires-2
+    not-whole-requires-3
+    not-whole-requires-4
+    not-whole-requires-5
+    not-whole-requires-6
+    or-requires
+    or-requires-2
+    or-requires-3
+    or-requires-4
+    or-requires-5
+    or-requires-6
+    returns)

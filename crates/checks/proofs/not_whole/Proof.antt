@@ -1,0 +1,18 @@
+-- `checks::not_whole` meets its contract.
+use mathlib.Core.Path.{ap}
+use mathlib.Core.Bool.{not}
+use borrow.Author.Needs.{needs}
+use Rattle.checks.proofs.not_whole.Statement.{statement}
+use Rattle.checks.proofs.not_whole.Tie as tie
+use Rattle.checks.proofs.not_whole.Reads as reads
+use Rattle.checks.proofs.not_whole.Lts as lts
+use Rattle.rows.proofs.whole.Reads as whole-reads
+
+whole-requires : tie.Need-whole-requires
+whole-requires c κs = search needs
+
+returns : tie.Need-returns
+returns c = ap not (c .whole .ensures)
+
+pub not-whole-spec : {M : Type 1} → statement M
+not-whole-spec = tie.close (tie.spec whole-requires returns)

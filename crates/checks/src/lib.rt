@@ -1,0 +1,71 @@
+// Every check of a lent book and register, in the order of document 01's table of refusals.
+use tables::Counts;
+ghost use mathlib.Core.Path.{_≡_};
+ghost use mathlib.Core.Bool.{_||_, not};
+ghost use Rattle.meaning.specs.Lists.{any};
+ghost use Rattle.rows.specs.Rows.{wholeRows};
+ghost use Rattle.tables.specs.Refusals.{overfull, broken, tablesOf, lentTables};
+ghost use Rattle.tables.specs.declared.Counts.{Counts};
+
+// 2: whether more rows are used than the limit allows or the slice has.
+fn too_many(t: &[u32], width: u32, used: usize, limit: usize) -> bool
+    ensures { λ r. ⌜ r ≡ overfull (record { words = now (t .entry); width = width; used = used; limit = limit }) ⌝ }
+{
+    if limit < used {
+        return true;
+    }
+    rows::rows_lent(t, width) < used
+}
+
+fn or(a: bool, b: bool) -> bool
+    ensures { λ r. ⌜ r ≡ (a || b) ⌝ }
+{
+    if a { true } else { b }
+}
+
+// 2, of every table of a book and a register. A rule has 64 body rows.
+fn any_too_many(
+    n: Counts,
+    types: &[u32],
+    relationships: &[u32],
+    rules: &[u32],
+    bodies: &[u32],
+    objects: &[u32],
+    links: &[u32],
+) -> bool
+    ensures { λ r. ⌜ r ≡ any overfull (tablesOf (lentTables n (now (types .entry)) (now (relationships .entry)) (now (rules .entry)) (now (bodies .entry)) (now (objects .entry)) (now (links .entry)))) ⌝ }
+{
+    let a = too_many(types, 2, n.types as usize, 32);
+    let b = too_many(relationships, 2, n.relationships as usize, 32);
+    let c = too_many(rules, 2, n.rules as usize, 32);
+    let d = too_many(bodies, 4, (n.rules as usize) * 64, 2048);
+    let e = too_many(objects, 10, n.objects as usize, 1024);
+    let f = too_many(links, 3, n.links as usize, 4096);
+    or(a, or(b, or(c, or(d, or(e, or(f, false))))))
+}
+
+fn not_whole(t: &[u32], width: u32) -> bool
+    ensures { λ r. ⌜ r ≡ not (wholeRows (now (t .entry)) width) ⌝ }
+{
+    !rows::whole(t, width)
+}
+
+// 6: whether a table of a book or a register is not whole rows.
+fn any_broken(
+    types: &[u32],
+    relationships: &[u32],
+    rules: &[u32],
+    bodies: &[u32],
+    objects: &[u32],
+    links: &[u32],
+) -> bool
+    ensures { λ r. ⌜ ((n : Counts) → r ≡ any broken (tablesOf (lentTables n (now (types .entry)) (now (relationships .entry)) (now (rules .entry)) (now (bodies .entry)) (now (objects .entry)) (now (links .entry))))) ⌝ }
+{
+    let a = not_whole(types, 2);
+    let b = not_whole(relationships, 2);
+    let c = not_whole(rules, 2);
+    let d = not_whole(bodies, 4);
+    let e = not_whole(objects, 10);
+    let f = not_whole(links, 3);
+    or(a, or(b, or(c, or(d, or(e, or(f, false))))))
+}

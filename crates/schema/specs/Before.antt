@@ -1,0 +1,7 @@
+-- The row before a row of a table that is read by row numbers.
+use Prim.Native.Nat.{ℕ, zero, suc}
+use mathlib.Core.Option.{Option, none, some}
+
+abbrev pub rowBefore : {A : Type 0} → (ℕ → A) → ℕ → Option A
+rowBefore read zero = none
+rowBefore read (suc i) = some (read i)
