@@ -1,25 +1,31 @@
 -- What `allZero` says of each word.
-use mathlib.Core.Path.{_≡_, refl}
-use mathlib.Core.Bool.{Bool, true, false, _&&_, false≢true}
+use mathlib.Core.Path.{_≡_, refl, sym, ap, _∙_}
+use mathlib.Core.Bool.{Bool, true, false, _&&_}
 use mathlib.Core.List.{List, [], _∷_}
-use Prim.Native.Nat.{ℕ, zero, suc, _+_, _<_}
+use Prim.Native.Nat.{ℕ, zero, suc, _+_, _-_, _*_, _≤_, _<_}
 use native.Mathlib.Numerals.{add-one}
-use borrow.Author.Tests.{eqb-true}
-use lib.Dec.{eqb}
+use native.Mathlib.Nat.{add-sub-of-le}
+use lib.Dec.{T, eqb, eqb→eq}
 use lib.ListN.{length, getD, drop}
-use lib.Seq.{drop-cons}
-use Rattle.rows.specs.Rows.{allZero}
+use lib.Seq.{drop-cons, getD-drop}
+use Rattle.rows.specs.Rows.{allZero, zeroPast}
 
 -- one word at a time
 pub zero-step : (t : List ℕ) (i : ℕ) → i < length t → allZero (drop i t) ≡ eqb (getD t i 0) 0 && allZero (drop (i + 1) t)
 zero-step t i h = rw (add-one, drop-cons t i 0)
 
-both : (a b : Bool) → a && b ≡ true → (a ≡ true) × (b ≡ true)
-both true b h = (refl, h)
-both false b h = absurd (false≢true h)
+both : (a b : Bool) → T (a && b) → T a × T b
+both true b h = (tt, h)
+both false b h = absurd h
 
 -- each word is 0, also past the end
-pub zero-at : (l : List ℕ) (k : ℕ) → allZero l ≡ true → getD l k 0 ≡ 0
+pub zero-at : (l : List ℕ) (k : ℕ) → T (allZero l) → getD l k 0 ≡ 0
 zero-at [] k h = refl
-zero-at (w ∷ ws) zero h = eqb-true w 0 (both (eqb w 0) (allZero ws) h .0)
+zero-at (w ∷ ws) zero h = eqb→eq w 0 (both (eqb w 0) (allZero ws) h .0)
 zero-at (w ∷ ws) (suc k) h = zero-at ws k (both (eqb w 0) (allZero ws) h .1)
+
+-- a word past the used rows
+pub zero-past : (t : List ℕ) (width used k : ℕ) → T (zeroPast t width used) → used * width ≤ k → getD t k 0 ≡ 0
+zero-past t width used k h l =
+    ap (λ (n : ℕ). getD t n 0) (sym (add-sub-of-le l)) ∙ sym (getD-drop (used * width) t (k - used * width) 0)
+    ∙ zero-at (drop (used * width) t) (k - used * width) h

@@ -1,0 +1,717 @@
+-- A body's rows and its form determine each other: the reading of specs/Bodies is the inverse of `writeForm`.
+use Prim.Native.Nat.{ℕ, zero, suc, _+_, _-_, _*_, _^_, _≤_, _<_, zero-le}
+use mathlib.Core.Path.{_≡_, refl, sym, ap, ap₂, subst, fun-ext, _∙_}
+use mathlib.Core.Bool.{Bool, true, false, _&&_, not, cond}
+use mathlib.Core.List.{List, [], _∷_, _++_}
+use mathlib.Core.Option.{Option, none, some, Option·none-ne-some, Option·some-injective}
+use native.Mathlib.Nat.{le-refl, le-trans, add-zero, zero-add, add-suc, suc-add, add-assoc, sub-self, not-suc-le-zero}
+use native.Mathlib.Numerals.{add-one, add-two, add-three, add-four}
+use native.Mathlib.Omega.{arith}
+use lib.Dec.{T, ltb, leb, eqb}
+use lib.ListN.{length, getD, getElem?, take, drop, length-append}
+use lib.Seq.{take-at, drop-at, drop-cons, take-length}
+use lib.IntN.{ℤ, pos, negsuc}
+use mir.Facts.{and-yes, yes-and, ltb-yes, leb-yes, eqb-yes, yes-ltb, yes-leb, no-ltb}
+use borrow.Author.Tests.{lt-ltb}
+use Rattle.meaning.specs.Limits.{maxForms, fitsWord}
+use Rattle.meaning.specs.Forms.{Sort, truth, number, collection, le, lt, eq, ne, ge, gt, and, or, xor, implies, forall, exists, add, sub, Form, compare, negate, connect, quantify, kind, num, cell, size, sum, combine, role, all, select, formCount}
+use Rattle.meaning.proofs.Lists.{cond-yes, cond-no}
+use Rattle.rows.specs.Rows.{signed, wordOf}
+use Rattle.tables.specs.Codes.{Operator, comparing, negating, connecting, quantifying, kindOf, literal, cellOf, sizeOf, sumOf, combining, roleOf, allOf, selecting, operators, operatorOf, codeOf, shapeOf}
+use Rattle.tables.specs.Bodies.{rowWords, writeForm, BodyRow, bodyRow, Part, part, sortOf, sameSort, asTruth, asNumber, asCollection, Reading, formOf, startOf, reads, partsFit, fieldsFit, noReading, readingOf, readAt, wholeBody, readBody}
+
+-- ---- a word as a signed number, and back
+
+pub word-signed : (w : ℕ) → w < 2 ^ 32 → wordOf (signed w) ≡ w
+word-signed w h = step (ltb w (2 ^ 31)) refl
+  where
+    step : (b : Bool) → ltb w (2 ^ 31) ≡ b → wordOf (cond b (pos w) (negsuc (2 ^ 32 - 1 - w))) ≡ w
+    step true e = refl
+    step false e = omega arith
+
+pub signed-word : (z : ℤ) → T (fitsWord z) → signed (wordOf z) ≡ z
+unfolding fitsWord
+signed-word (pos n) t = cond-yes (ltb n (2 ^ 31)) (pos n) _ t
+signed-word (negsuc n) t =
+    let h : n < 2 ^ 31 = ltb-yes t in
+    let w = 2 ^ 32 - 1 - n in
+    let high : 2 ^ 31 ≤ w = omega arith in
+    cond-no (ltb w (2 ^ 31)) (pos w) (negsuc (2 ^ 32 - 1 - w)) (no-ltb high) ∙ ap negsuc (omega arith)
+
+T-true : (b : Bool) → T b → b ≡ true
+T-true true t = refl
+T-true false t = absurd t
+
+-- ---- start and fuel
+
+start-bound : (o : Option Operator) (r : BodyRow) (i : ℕ) (f s : Reading) → f .start ≤ i → s .start ≤ i → (readingOf o r i f s) .start ≤ i
+unfolding readingOf startOf
+start-bound none r i f s h k = le-refl i
+start-bound (some o) r i f s h k = by-parts ((shapeOf o) .parts)
+  where
+    by-parts : (parts : List Sort) → startOf parts i (f .start) (s .start) ≤ i
+    by-parts [] = le-refl i
+    by-parts (p ∷ []) = k
+    by-parts (p ∷ q ∷ more) = h
+
+-- a form starts at or before the row where it ends
+pub start-le : (n : ℕ) (rows : ℕ → BodyRow) (i : ℕ) → (readAt n rows i) .start ≤ i
+unfolding readAt
+start-le zero rows i = le-refl i
+start-le (suc n) rows zero = start-bound (operatorOf ((rows 0) .code)) (rows 0) 0 (noReading 0) (noReading 0) (le-refl 0) (le-refl 0)
+start-le (suc n) rows (suc i) =
+    let s = readAt n rows i in
+    let f = readAt n rows (s .start - 1) in
+    let k : s .start ≤ i = start-le n rows i in
+    let h : f .start ≤ s .start - 1 = start-le n rows (s .start - 1) in
+    start-bound (operatorOf ((rows (suc i)) .code)) (rows (suc i)) (suc i) f s (omega arith) (omega arith)
+
+-- Any fuel above the row serves.
+pub fuel : (n m : ℕ) (rows : ℕ → BodyRow) (i : ℕ) → i < n → i < m → readAt n rows i ≡ readAt m rows i
+unfolding readAt
+fuel zero m rows i h k = absurd (not-suc-le-zero h)
+fuel (suc n) zero rows i h k = absurd (not-suc-le-zero k)
+fuel (suc n) (suc m) rows zero h k = refl
+fuel (suc n) (suc m) rows (suc i) h k =
+    let s = readAt n rows i in
+    let low : s .start ≤ i = start-le n rows i in
+    let second : s ≡ readAt m rows i = fuel n m rows i (omega arith) (omega arith) in
+    let first = fuel n m rows (s .start - 1) (omega arith) (omega arith) ∙ ap (λ (r : Reading). readAt m rows (r .start - 1)) second in
+    ap₂ (readingOf (operatorOf ((rows (suc i)) .code)) (rows (suc i)) (suc i)) first second
+
+-- A row's reading is made of the readings of its parts, at any fuel above the row. Row 0 has no parts.
+pub read-zero : (n : ℕ) (rows : ℕ → BodyRow) → 0 < n → readAt n rows 0 ≡ readingOf (operatorOf ((rows 0) .code)) (rows 0) 0 (noReading 0) (noReading 0)
+unfolding readAt
+read-zero n rows h = fuel n 1 rows 0 h (le-refl 1)
+
+pub read-suc : (n : ℕ) (rows : ℕ → BodyRow) (i : ℕ) → suc i < n → let second = readAt n rows i in readAt n rows (suc i) ≡ readingOf (operatorOf ((rows (suc i)) .code)) (rows (suc i)) (suc i) (readAt n rows (second .start - 1)) second
+unfolding readAt
+read-suc n rows i h = fuel n (suc n) rows (suc i) h (omega arith)
+
+-- ---- the reading that ends before a row
+
+-- what is read of the rows before row e; of no row there is no reading
+unfoldable pub ending : (ℕ → BodyRow) → ℕ → Reading
+ending rows zero = noReading 0
+ending rows (suc i) = readAt (suc i) rows i
+
+pub ending-start : (rows : ℕ → BodyRow) (e : ℕ) → (ending rows e) .start ≤ e
+unfolding ending
+ending-start rows zero = zero-le
+ending-start rows (suc i) = let h = start-le (suc i) rows i in omega arith
+
+-- the reading at a row, at any fuel above it
+pub ending-read : (n : ℕ) (rows : ℕ → BodyRow) (i : ℕ) → i < n → readAt n rows i ≡ ending rows (suc i)
+unfolding ending
+ending-read n rows i h = fuel n (suc i) rows i h (omega arith)
+
+-- the same start, and the same form if it is one
+pub record Agree (a b : Reading) : Type 0 where
+  pub starts : a .start ≡ b .start
+  pub sounds : a .sound ≡ b .sound
+  pub forms : T (a .sound) → a .form ≡ b .form
+
+agree-eq : {a b : Reading} → a ≡ b → Agree a b
+agree-eq {a} {b} e = record { starts = ap (λ (r : Reading). r .start) e; sounds = ap (λ (r : Reading). r .sound) e; forms = λ t. ap (λ (r : Reading). r .form) e }
+
+-- what agrees with a form is that form
+pub agree-sound : {a b : Reading} → Agree a b → T (a .sound) → a ≡ b
+agree-sound e t = λ i. record { start = e .starts i; sound = e .sounds i; form = e .forms t i }
+
+abbrev single : List Sort → Bool
+single [] = true
+single (p ∷ []) = true
+single (p ∷ q ∷ more) = false
+
+-- an operator of at most one part does not look at the first
+form-single : (o : Operator) (r : BodyRow) (a b c : Part) → T (single ((shapeOf o) .parts)) → formOf o r a c ≡ formOf o r b c
+unfolding formOf shapeOf
+form-single (comparing o) r a b c t = absurd t
+form-single negating r a b c t = refl
+form-single (connecting o) r a b c t = absurd t
+form-single (quantifying q) r a b c t = absurd t
+form-single kindOf r a b c t = refl
+form-single literal r a b c t = refl
+form-single cellOf r a b c t = refl
+form-single sizeOf r a b c t = refl
+form-single sumOf r a b c t = refl
+form-single (combining o) r a b c t = absurd t
+form-single roleOf r a b c t = refl
+form-single allOf r a b c t = refl
+form-single selecting r a b c t = absurd t
+
+-- what the fit of one part, and of two, says
+only-fits : (p : Sort) (i : ℕ) (f s : Reading) → T (partsFit (p ∷ []) i f s) → (0 < i) × T (reads p s)
+unfolding partsFit
+only-fits p i f s t = let r = and-yes (ltb 0 i) (reads p s) t in (ltb-yes (r .0), r .1)
+
+both-fit : (p q : Sort) (more : List Sort) (i : ℕ) (f s : Reading) → T (partsFit (p ∷ q ∷ more) i f s) → (0 < i) × T (reads q s) × (0 < s .start) × T (reads p f)
+unfolding partsFit
+both-fit p q more i f s t =
+    let a = and-yes (ltb 0 i && reads q s && ltb 0 (s .start)) (reads p f) t in
+    let b = and-yes (ltb 0 i && reads q s) (ltb 0 (s .start)) (a .0) in
+    let c = and-yes (ltb 0 i) (reads q s) (b .0) in
+    (ltb-yes (c .0), c .1, ltb-yes (b .1), a .1)
+
+-- where the second part starts at row 0, no first part is looked at
+module _ (i : ℕ) (f g s : Reading) (none-before : s .start ≡ 0) (first : f .start ≡ g .start) where
+  parts-blind : (parts : List Sort) → partsFit parts i f s ≡ partsFit parts i g s
+  unfolding partsFit
+  parts-blind [] = refl
+  parts-blind (p ∷ []) = refl
+  parts-blind (p ∷ q ∷ more) = rw none-before (nothing (ltb 0 i && reads q s) (reads p f) ∙ sym (nothing (ltb 0 i && reads q s) (reads p g)))
+    where
+      nothing : (a b : Bool) → (a && false && b) ≡ false
+      nothing true b = refl
+      nothing false b = refl
+
+  fits-single : (parts : List Sort) → T (partsFit parts i f s) → T (single parts)
+  unfolding partsFit
+  fits-single [] t = tt
+  fits-single (p ∷ []) t = tt
+  fits-single (p ∷ q ∷ more) t = let h = both-fit p q more i f s t .2 in absurd (omega arith)
+
+  reading-blind : (o : Option Operator) (r : BodyRow) → Agree (readingOf o r i f s) (readingOf o r i g s)
+  unfolding readingOf
+  reading-blind none r = agree-eq refl
+  reading-blind (some o) r =
+      let parts = (shapeOf o) .parts in
+      let fields = fieldsFit ((shapeOf o) .fields) r in
+      record {
+        starts = ap (λ n. startOf parts i n (s .start)) first;
+        sounds = ap (λ b. b && fields) (parts-blind parts);
+        forms = λ t. form-single o r (f .form) (g .form) (s .form) (fits-single parts (and-yes (partsFit parts i f s) fields t .0));
+      }
+
+-- row i after the forms before it: the second part ends before row i, and the first before the start of the second
+abbrev pub next : (ℕ → BodyRow) → ℕ → Reading
+next rows i = readingOf (operatorOf ((rows i) .code)) (rows i) i (ending rows ((ending rows i) .start)) (ending rows i)
+
+pub ending-step : (rows : ℕ → BodyRow) (i : ℕ) → Agree (ending rows (suc i)) (next rows i)
+unfolding ending readAt
+ending-step rows zero = agree-eq refl
+ending-step rows (suc i) = by-start ((ending rows (suc i)) .start) refl
+  where
+    by-start : (m : ℕ) → (ending rows (suc i)) .start ≡ m → Agree (ending rows (suc (suc i))) (next rows (suc i))
+    by-start zero e =
+        let s = readAt (suc i) rows i in
+        let f = readAt (suc i) rows (s .start - 1) in
+        let h : f .start ≤ s .start - 1 = start-le (suc i) rows (s .start - 1) in
+        let k : (ending rows (s .start)) .start ≤ s .start = ending-start rows (s .start) in
+        reading-blind (suc i) f (ending rows (s .start)) s e (omega arith) (operatorOf ((rows (suc i)) .code)) (rows (suc i))
+    by-start (suc k) e =
+        let s = readAt (suc i) rows i in
+        let low : s .start ≤ i = start-le (suc i) rows i in
+        let row : s .start - 1 ≡ k = omega arith in
+        let first = ap (readAt (suc i) rows) row ∙ ending-read (suc i) rows k (omega arith) ∙ ap (ending rows) (sym e) in
+        agree-eq (ap (λ f. readingOf (operatorOf ((rows (suc i)) .code)) (rows (suc i)) (suc i) f s) first)
+
+-- ---- what a form that ends before a row is made of
+
+-- the parts of row i's form, if its operator has them
+abbrev pub secondPart : (ℕ → BodyRow) → ℕ → Reading
+secondPart rows i = ending rows i
+
+abbrev pub firstPart : (ℕ → BodyRow) → ℕ → Reading
+firstPart rows i = ending rows ((ending rows i) .start)
+
+-- row i ends a form
+pub record Node (rows : ℕ → BodyRow) (i : ℕ) : Type 0 where
+  pub operator : Operator
+  pub coded : operatorOf ((rows i) .code) ≡ some operator
+  pub parts : T (partsFit ((shapeOf operator) .parts) i (firstPart rows i) (secondPart rows i))
+  pub fields : T (fieldsFit ((shapeOf operator) .fields) (rows i))
+  pub start : (ending rows (suc i)) .start ≡ startOf ((shapeOf operator) .parts) i ((firstPart rows i) .start) ((secondPart rows i) .start)
+  pub form : (ending rows (suc i)) .form ≡ formOf operator (rows i) ((firstPart rows i) .form) ((secondPart rows i) .form)
+
+pub node : (rows : ℕ → BodyRow) (i : ℕ) → T ((ending rows (suc i)) .sound) → Node rows i
+unfolding readingOf
+node rows i t =
+    by-code (operatorOf ((rows i) .code)) refl (agree-sound (ending-step rows i) t)
+  where
+    by-code : (o : Option Operator) → operatorOf ((rows i) .code) ≡ o → ending rows (suc i) ≡ readingOf o (rows i) i (firstPart rows i) (secondPart rows i) → Node rows i
+    by-code none e made = absurd (subst (λ (r : Reading). T (r .sound)) made t)
+    by-code (some o) e made =
+        let f = firstPart rows i in
+        let s = secondPart rows i in
+        let fit = and-yes (partsFit ((shapeOf o) .parts) i f s) (fieldsFit ((shapeOf o) .fields) (rows i)) (subst (λ (r : Reading). T (r .sound)) made t) in
+        record {
+          operator = o;
+          coded = e;
+          parts = fit .0;
+          fields = fit .1;
+          start = ap (λ (r : Reading). r .start) made;
+          form = ap (λ (r : Reading). r .form) made;
+        }
+
+-- ---- operators and their codes
+
+numbered : ℕ → List Operator → Bool
+numbered n [] = true
+numbered n (o ∷ os) = eqb (codeOf o) n && numbered (suc n) os
+
+code-from : (n : ℕ) (os : List Operator) → T (numbered n os) → (k : ℕ) (o : Operator) → getElem? os k ≡ some o → codeOf o ≡ n + k
+unfolding numbered
+code-from n [] t k o e = absurd (Option·none-ne-some o e)
+code-from n (p ∷ os) t zero o e =
+    ap codeOf (sym (Option·some-injective p o e)) ∙ eqb-yes (and-yes (eqb (codeOf p) n) (numbered (suc n) os) t .0) ∙ sym (add-zero n)
+code-from n (p ∷ os) t (suc k) o e =
+    code-from (suc n) os (and-yes (eqb (codeOf p) n) (numbered (suc n) os) t .1) k o e ∙ suc-add n k ∙ sym (add-suc n k)
+
+-- an operator's code is its place in `operators`
+pub code-of : (k : ℕ) (o : Operator) → operatorOf k ≡ some o → codeOf o ≡ k
+unfolding operatorOf operators numbered codeOf
+code-of k o e = code-from 0 operators tt k o e ∙ zero-add k
+
+pub operator-of : (o : Operator) → operatorOf (codeOf o) ≡ some o
+unfolding operatorOf operators codeOf
+operator-of (comparing o) = elim o [ le ↦ refl | lt ↦ refl | eq ↦ refl | ne ↦ refl | ge ↦ refl | gt ↦ refl ]
+operator-of negating = refl
+operator-of (connecting o) = elim o [ and ↦ refl | or ↦ refl | xor ↦ refl | implies ↦ refl ]
+operator-of (quantifying q) = elim q [ forall ↦ refl | exists ↦ refl ]
+operator-of kindOf = refl
+operator-of literal = refl
+operator-of cellOf = refl
+operator-of sizeOf = refl
+operator-of sumOf = refl
+operator-of (combining o) = elim o [ add ↦ refl | sub ↦ refl ]
+operator-of roleOf = refl
+operator-of allOf = refl
+operator-of selecting = refl
+
+-- ---- the words of rows
+
+abbrev rowList : BodyRow → List ℕ
+rowList r = r .code ∷ r .x ∷ r .y ∷ r .z ∷ []
+
+-- the words of n rows from row o on
+same-sort : (s : Sort) → T (sameSort s s)
+same-sort truth = tt
+same-sort number = tt
+same-sort collection = tt
+
+unfoldable pub wordsFrom : (ℕ → BodyRow) → ℕ → ℕ → List ℕ
+wordsFrom rows o zero = []
+wordsFrom rows o (suc n) = rowList (rows o) ++ wordsFrom rows (suc o) n
+
+module _ (rows : ℕ → BodyRow) where
+  pub length-words : (o n : ℕ) → length (wordsFrom rows o n) ≡ n * 4
+  unfolding wordsFrom
+  length-words o zero = refl
+  length-words o (suc n) = let h = length-words (suc o) n in omega arith
+
+  pub words-split : (o m n : ℕ) → wordsFrom rows o (m + n) ≡ wordsFrom rows o m ++ wordsFrom rows (o + m) n
+  unfolding wordsFrom
+  words-split o zero n = rw (zero-add, add-zero) refl
+  words-split o (suc m) n = rw (suc-add m n) (ap (λ w. rowList (rows o) ++ w) (words-split (suc o) m n ∙ ap (λ k. wordsFrom rows (suc o) m ++ wordsFrom rows k n) (suc-add o m ∙ sym (add-suc o m))))
+
+  -- one row more
+  words-snoc : (o n : ℕ) → wordsFrom rows o (suc n) ≡ wordsFrom rows o n ++ rowList (rows (o + n))
+  unfolding wordsFrom
+  words-snoc o n = ap (wordsFrom rows o) (sym (add-one n)) ∙ words-split o n 1
+
+-- lists put together of parts of the same lengths have the same parts
+halves : {A : Type 0} (a b c d : List A) → length a ≡ length c → a ++ b ≡ c ++ d → (a ≡ c) × (b ≡ d)
+halves a b c d l e = (
+  sym (take-at a b (length c) l) ∙ ap (take (length c)) e ∙ take-at c d (length c) refl,
+  sym (drop-at a b (length c) l) ∙ ap (drop (length c)) e ∙ drop-at c d (length c) refl,
+)
+
+-- the last of the rows, and those before it
+last-row : (rows : ℕ → BodyRow) (o n : ℕ) (w v : List ℕ) → length w ≡ n * 4 → wordsFrom rows o (suc n) ≡ w ++ v → (wordsFrom rows o n ≡ w) × (rowList (rows (o + n)) ≡ v)
+last-row rows o n w v l e = halves (wordsFrom rows o n) (rowList (rows (o + n))) w v (length-words rows o n ∙ sym l) (sym (words-snoc rows o n) ∙ e)
+
+row-after : (w : List ℕ) (o : Operator) (x y n : ℕ) → length w ≡ n * 4 → length (w ++ rowWords o x y) ≡ suc n * 4
+row-after w o x y n e = let h = length-append w (rowWords o x y) in omega arith
+
+rows-after : (v w : List ℕ) (o : Operator) (m n : ℕ) → length v ≡ m * 4 → length w ≡ n * 4 → length (v ++ w ++ rowWords o 0 0) ≡ suc (m + n) * 4
+rows-after v w o m n d e = row-after (v ++ w) o 0 0 (m + n) (let h = length-append v w in omega arith)
+
+unfoldable pub writePart : Part → List ℕ
+writePart (part s f) = writeForm f
+
+unfoldable pub partCount : Part → ℕ
+partCount (part s f) = formCount f
+
+-- a row of four words for each form
+pub length-form : {s : Sort} (f : Form s) → length (writeForm f) ≡ formCount f * 4
+unfolding writeForm formCount
+length-form (compare o a b) = rows-after (writeForm a) (writeForm b) _ (formCount a) (formCount b) (length-form a) (length-form b)
+length-form (negate a) = row-after (writeForm a) _ _ _ (formCount a) (length-form a)
+length-form (connect o a b) = rows-after (writeForm a) (writeForm b) _ (formCount a) (formCount b) (length-form a) (length-form b)
+length-form (quantify q c b) = rows-after (writeForm c) (writeForm b) _ (formCount c) (formCount b) (length-form c) (length-form b)
+length-form (kind v t) = refl
+length-form (num n) = refl
+length-form (cell v k) = refl
+length-form (size c) = row-after (writeForm c) _ _ _ (formCount c) (length-form c)
+length-form (sum c k) = row-after (writeForm c) _ _ _ (formCount c) (length-form c)
+length-form (combine o a b) = rows-after (writeForm a) (writeForm b) _ (formCount a) (formCount b) (length-form a) (length-form b)
+length-form (role v r) = refl
+length-form (all t) = refl
+length-form (select c b) = rows-after (writeForm c) (writeForm b) _ (formCount c) (formCount b) (length-form c) (length-form b)
+
+length-part : (p : Part) → length (writePart p) ≡ partCount p * 4
+unfolding writePart partCount
+length-part (part s f) = length-form f
+
+truth-words : (p : Part) → T (sameSort truth (sortOf p)) → writePart p ≡ writeForm (asTruth p)
+unfolding writePart sortOf asTruth
+truth-words (part truth f) t = refl
+truth-words (part number f) t = absurd t
+truth-words (part collection f) t = absurd t
+
+number-words : (p : Part) → T (sameSort number (sortOf p)) → writePart p ≡ writeForm (asNumber p)
+unfolding writePart sortOf asNumber
+number-words (part truth f) t = absurd t
+number-words (part number f) t = refl
+number-words (part collection f) t = absurd t
+
+collection-words : (p : Part) → T (sameSort collection (sortOf p)) → writePart p ≡ writeForm (asCollection p)
+unfolding writePart sortOf asCollection
+collection-words (part truth f) t = absurd t
+collection-words (part number f) t = absurd t
+collection-words (part collection f) t = refl
+
+-- the words of an operator's parts, and that they are of their sorts
+abbrev partsWords : List Sort → Part → Part → List ℕ
+partsWords [] a b = []
+partsWords (p ∷ []) a b = writePart b
+partsWords (p ∷ q ∷ more) a b = writePart a ++ writePart b
+
+abbrev sorted : List Sort → Part → Part → Type 0
+sorted [] a b = Unit {0}
+sorted (p ∷ []) a b = T (sameSort p (sortOf b))
+sorted (p ∷ q ∷ more) a b = T (sameSort p (sortOf a)) × T (sameSort q (sortOf b))
+
+-- a row's words, of which its operator uses n fields
+abbrev used : ℕ → BodyRow → List ℕ
+used zero r = 0 ∷ 0 ∷ 0 ∷ []
+used (suc zero) r = r .x ∷ 0 ∷ 0 ∷ []
+used (suc (suc n)) r = r .x ∷ r .y ∷ 0 ∷ []
+
+write-node : (o : Operator) (r : BodyRow) (a b : Part) → sorted ((shapeOf o) .parts) a b → r .x < 2 ^ 32 → writePart (formOf o r a b) ≡ partsWords ((shapeOf o) .parts) a b ++ codeOf o ∷ used ((shapeOf o) .fields) r
+unfolding shapeOf formOf writePart writeForm
+write-node (comparing o) r a b t w = ap₂ (λ x y. x ++ y ++ rowWords (comparing o) 0 0) (sym (number-words a (t .0))) (sym (number-words b (t .1)))
+write-node negating r a b t w = ap (λ x. x ++ rowWords negating 0 0) (sym (truth-words b t))
+write-node (connecting o) r a b t w = ap₂ (λ x y. x ++ y ++ rowWords (connecting o) 0 0) (sym (truth-words a (t .0))) (sym (truth-words b (t .1)))
+write-node (quantifying q) r a b t w = ap₂ (λ x y. x ++ y ++ rowWords (quantifying q) 0 0) (sym (collection-words a (t .0))) (sym (truth-words b (t .1)))
+write-node kindOf r a b t w = refl
+write-node literal r a b t w = ap (λ x. rowWords literal x 0) (word-signed (r .x) w)
+write-node cellOf r a b t w = refl
+write-node sizeOf r a b t w = ap (λ x. x ++ rowWords sizeOf 0 0) (sym (collection-words b t))
+write-node sumOf r a b t w = ap (λ x. x ++ rowWords sumOf (r .x) 0) (sym (collection-words b t))
+write-node (combining o) r a b t w = ap₂ (λ x y. x ++ y ++ rowWords (combining o) 0 0) (sym (number-words a (t .0))) (sym (number-words b (t .1)))
+write-node roleOf r a b t w = refl
+write-node allOf r a b t w = refl
+write-node selecting r a b t w = ap₂ (λ x y. x ++ y ++ rowWords selecting 0 0) (sym (collection-words a (t .0))) (sym (truth-words b (t .1)))
+
+used-all : (n : ℕ) (r : BodyRow) → T (fieldsFit n r) → used n r ≡ r .x ∷ r .y ∷ r .z ∷ []
+unfolding fieldsFit
+used-all zero r t =
+    let a = and-yes (eqb (r .x) 0 && eqb (r .y) 0) (eqb (r .z) 0) t in
+    let b = and-yes (eqb (r .x) 0) (eqb (r .y) 0) (a .0) in
+    let x : r .x ≡ 0 = eqb-yes (b .0) in
+    let y : r .y ≡ 0 = eqb-yes (b .1) in
+    let z : r .z ≡ 0 = eqb-yes (a .1) in
+    rw (x, y, z)
+used-all (suc zero) r t =
+    let a = and-yes (eqb (r .y) 0) (eqb (r .z) 0) t in
+    let y : r .y ≡ 0 = eqb-yes (a .0) in
+    let z : r .z ≡ 0 = eqb-yes (a .1) in
+    rw (y, z)
+used-all (suc (suc n)) r t = let z : r .z ≡ 0 = eqb-yes t in rw z
+
+-- ---- write after read
+
+sorted-parts : (parts : List Sort) (i : ℕ) (f s : Reading) → T (partsFit parts i f s) → sorted parts (f .form) (s .form)
+sorted-parts [] i f s t = tt
+sorted-parts (p ∷ []) i f s t = and-yes (s .sound) (sameSort p (sortOf (s .form))) (only-fits p i f s t .1) .1
+sorted-parts (p ∷ q ∷ more) i f s t =
+    let r = both-fit p q more i f s t in
+    (and-yes (f .sound) (sameSort p (sortOf (f .form))) (r .3) .1, and-yes (s .sound) (sameSort q (sortOf (s .form))) (r .1) .1)
+
+module _ (rows : ℕ → BodyRow) where
+  -- the words from the start of a form up to row e are those of the form
+  abbrev Written : ℕ → Type 0
+  Written e = T ((ending rows e) .sound) → wordsFrom rows ((ending rows e) .start) (e - (ending rows e) .start) ≡ writePart ((ending rows e) .form)
+
+  parts-written : (i : ℕ) → ((e : ℕ) → e ≤ i → Written e) → (parts : List Sort) → T (partsFit parts i (firstPart rows i) (secondPart rows i)) → let o = startOf parts i ((firstPart rows i) .start) ((secondPart rows i) .start) in (o ≤ i) × (wordsFrom rows o (i - o) ≡ partsWords parts ((firstPart rows i) .form) ((secondPart rows i) .form))
+  unfolding startOf wordsFrom
+  parts-written i before [] t = (le-refl i, ap (wordsFrom rows i) (sub-self i))
+  parts-written i before (p ∷ []) t =
+      let s = secondPart rows i in
+      (ending-start rows i, before i (le-refl i) (and-yes (s .sound) (sameSort p (sortOf (s .form))) (only-fits p i (firstPart rows i) s t .1) .0))
+  parts-written i before (p ∷ q ∷ more) t =
+      let f = firstPart rows i in
+      let s = secondPart rows i in
+      let r = both-fit p q more i f s t in
+      let low : s .start ≤ i = ending-start rows i in
+      let lower : f .start ≤ s .start = ending-start rows (s .start) in
+      let second = before i (le-refl i) (and-yes (s .sound) (sameSort q (sortOf (s .form))) (r .1) .0) in
+      let first = before (s .start) low (and-yes (f .sound) (sameSort p (sortOf (f .form))) (r .3) .0) in
+      let count : i - f .start ≡ (s .start - f .start) + (i - s .start) = omega arith in
+      let middle : f .start + (s .start - f .start) ≡ s .start = omega arith in (
+        le-trans lower low,
+        ap (wordsFrom rows (f .start)) count
+            ∙ words-split rows (f .start) (s .start - f .start) (i - s .start)
+            ∙ ap₂ (λ x y. x ++ y) first (ap (λ o. wordsFrom rows o (i - s .start)) middle ∙ second),
+      )
+
+  module _ (bounded : (k : ℕ) → (rows k) .x < 2 ^ 32) where
+    written-to : (n e : ℕ) → e ≤ n → Written e
+    unfolding ending
+    written-to zero zero h t = absurd t
+    written-to zero (suc i) h t = absurd (not-suc-le-zero h)
+    written-to (suc n) zero h t = absurd t
+    written-to (suc n) (suc i) h t =
+        let d = node rows i t in
+        let f = firstPart rows i in
+        let s = secondPart rows i in
+        let parts = (shapeOf (d .operator)) .parts in
+        let o = startOf parts i (f .start) (s .start) in
+        let w = parts-written i (λ e k. written-to n e (omega arith)) parts (d .parts) in
+        let low : o ≤ i = w .0 in
+        let count : suc i - o ≡ suc (i - o) = omega arith in
+        let last : o + (i - o) ≡ i = omega arith in
+        let row : codeOf (d .operator) ∷ used ((shapeOf (d .operator)) .fields) (rows i) ≡ rowList (rows i) =
+        ap₂ (λ x y. x ∷ y) (code-of ((rows i) .code) (d .operator) (d .coded)) (used-all ((shapeOf (d .operator)) .fields) (rows i) (d .fields)) in
+        ap (λ k. wordsFrom rows k (suc i - k)) (d .start)
+        ∙ ap (wordsFrom rows o) count
+        ∙ words-snoc rows o (i - o)
+        ∙ ap₂ (λ x j. x ++ rowList (rows j)) (w .1) last
+        ∙ ap (λ y. partsWords parts (f .form) (s .form) ++ y) (sym row)
+        ∙ sym (write-node (d .operator) (rows i) (f .form) (s .form) (sorted-parts parts i f s (d .parts)) (bounded i))
+        ∙ ap writePart (sym (d .form))
+
+    -- A form that ends before row e: the words of its rows are those of the form.
+    pub written-read : (e : ℕ) → Written e
+    written-read e = written-to e e (le-refl e)
+
+    -- it is made of as many forms as it has rows
+    pub count-read : (e : ℕ) → T ((ending rows e) .sound) → (ending rows e) .start + partCount ((ending rows e) .form) ≡ e
+    count-read e t =
+        let o = (ending rows e) .start in
+        let low : o ≤ e = ending-start rows e in
+        let n : (e - o) * 4 ≡ partCount ((ending rows e) .form) * 4 =
+        sym (length-words rows o (e - o)) ∙ ap length (written-read e t) ∙ length-part ((ending rows e) .form) in
+        omega arith
+
+-- ---- whole bodies
+
+last-ending : (rows : ℕ → BodyRow) (i : ℕ) → readAt (suc i) rows (suc i - 1) ≡ ending rows (suc i)
+last-ending rows i = let row : suc i - 1 ≡ i = omega arith in ap (readAt (suc i) rows) row ∙ ending-read (suc i) rows i (le-refl (suc i))
+
+-- n rows are one whole form: at most 64, the last of which ends a truth that starts at the first
+abbrev pub wholeEnding : Reading → ℕ → Bool
+wholeEnding r n = leb n maxForms && reads truth r && eqb (r .start) 0
+
+pub whole-ending : (rows : ℕ → BodyRow) (n : ℕ) → wholeBody rows n ≡ wholeEnding (ending rows n) n
+unfolding wholeBody ending
+whole-ending rows zero = refl
+whole-ending rows (suc i) =
+    ap₂ (λ b (r : Reading). b && leb (suc i) maxForms && reads truth r && eqb (r .start) 0) (lt-ltb 0 (suc i) (omega arith)) (last-ending rows i)
+
+pub body-ending : (rows : ℕ → BodyRow) (n : ℕ) → T (wholeBody rows n) → readBody rows n ≡ asTruth ((ending rows n) .form)
+unfolding readBody wholeBody
+body-ending rows zero t = absurd t
+body-ending rows (suc i) t = cond-yes (wholeBody rows (suc i)) _ (kind 1 0) t ∙ ap (λ (r : Reading). asTruth (r .form)) (last-ending rows i)
+
+pub body-none : (rows : ℕ → BodyRow) (n : ℕ) → T (not (wholeBody rows n)) → readBody rows n ≡ kind 1 0
+unfolding readBody
+body-none rows n t = cond-no (wholeBody rows n) _ (kind 1 0) t
+
+-- what a whole body is
+pub record WholeBody (rows : ℕ → BodyRow) (n : ℕ) : Type 0 where
+  pub few : n ≤ maxForms
+  pub sound : T ((ending rows n) .sound)
+  pub isTruth : T (sameSort truth (sortOf ((ending rows n) .form)))
+  pub start : (ending rows n) .start ≡ 0
+
+pub whole-body : (rows : ℕ → BodyRow) (n : ℕ) → T (wholeBody rows n) → WholeBody rows n
+whole-body rows n t =
+    let r = ending rows n in
+    let a = and-yes (leb n maxForms && reads truth r) (eqb (r .start) 0) (subst T (whole-ending rows n) t) in
+    let b = and-yes (leb n maxForms) (reads truth r) (a .0) in
+    let c = and-yes (r .sound) (sameSort truth (sortOf (r .form))) (b .1) in
+    record { few = leb-yes (b .0); sound = c .0; isTruth = c .1; start = eqb-yes (a .1) }
+
+module _ (rows : ℕ → BodyRow) (bounded : (k : ℕ) → (rows k) .x < 2 ^ 32) (n : ℕ) (whole : T (wholeBody rows n)) where
+  -- The words of a whole body are those of its form ..
+  pub body-words : wordsFrom rows 0 n ≡ writeForm (readBody rows n)
+  body-words =
+      let w = whole-body rows n whole in
+      let r = ending rows n in
+      let count : n - r .start ≡ n = let h = w .start in omega arith in
+      ap₂ (wordsFrom rows) (sym (w .start)) (sym count)
+      ∙ written-read rows bounded n (w .sound)
+      ∙ truth-words (r .form) (w .isTruth)
+      ∙ ap writeForm (sym (body-ending rows n whole))
+
+  -- .. and it is made of as many forms as it has rows.
+  pub body-count : formCount (readBody rows n) ≡ n
+  body-count =
+      let h : n * 4 ≡ formCount (readBody rows n) * 4 = sym (length-words rows 0 n) ∙ ap length body-words ∙ length-form (readBody rows n) in
+      omega arith
+
+-- whole bodies that are read as one form are the same rows
+pub same-bodies : (rows others : ℕ → BodyRow) → ((k : ℕ) → (rows k) .x < 2 ^ 32) → ((k : ℕ) → (others k) .x < 2 ^ 32) → (n m : ℕ) → T (wholeBody rows n) → T (wholeBody others m) → readBody rows n ≡ readBody others m → (n ≡ m) × (wordsFrom rows 0 n ≡ wordsFrom others 0 m)
+same-bodies rows others b c n m s t e = (
+  sym (body-count rows b n s) ∙ ap formCount e ∙ body-count others c m t,
+  body-words rows b n s ∙ ap writeForm e ∙ sym (body-words others c m t),
+)
+
+-- ---- read after write
+
+-- every number of the form is of 32 bits
+unfoldable pub numsFit : {s : Sort} → Form s → Bool
+numsFit (compare o a b) = numsFit a && numsFit b
+numsFit (negate a) = numsFit a
+numsFit (connect o a b) = numsFit a && numsFit b
+numsFit (quantify q c b) = numsFit c && numsFit b
+numsFit (kind v t) = true
+numsFit (num n) = fitsWord n
+numsFit (cell v k) = true
+numsFit (size c) = numsFit c
+numsFit (sum c k) = numsFit c
+numsFit (combine o a b) = numsFit a && numsFit b
+numsFit (role v r) = true
+numsFit (all t) = true
+numsFit (select c b) = numsFit c && numsFit b
+
+module _ (rows : ℕ → BodyRow) where
+  -- the form stands in the rows from row o on, and is read there
+  abbrev Stands : {s : Sort} → ℕ → Form s → Type 0
+  Stands o f = wordsFrom rows o (formCount f) ≡ writeForm f
+
+  abbrev Read : {s : Sort} → ℕ → Form s → Type 0
+  Read {s} o f = ending rows (o + formCount f) ≡ record { start = o; sound = true; form = part s f }
+
+  rowOf : Operator → ℕ → ℕ → BodyRow
+  rowOf o x y = record { code = codeOf o; x = x; y = y; z = 0 }
+
+  -- row i is that of an operator: what is read there by the readings of its parts
+  row-read : (i : ℕ) (op : Operator) (x y : ℕ) (parts : List Sort) (f s : Reading) → (shapeOf op) .parts ≡ parts → firstPart rows i ≡ f → secondPart rows i ≡ s → rowList (rows i) ≡ rowWords op x y → T (partsFit parts i f s) → T (fieldsFit ((shapeOf op) .fields) (rowOf op x y)) → ending rows (suc i) ≡ record { start = startOf parts i (f .start) (s .start); sound = true; form = formOf op (rowOf op x y) (f .form) (s .form) }
+  unfolding readingOf rowOf
+  row-read i op x y parts f s shape first second row there fields =
+      let field : (k : ℕ) → getD (rowList (rows i)) k 0 ≡ getD (rowWords op x y) k 0 = λ k. ap (λ l. getD l k 0) row in
+      let is : rows i ≡ rowOf op x y = λ j. record { code = field 0 j; x = field 1 j; y = field 2 j; z = field 3 j } in
+      let fit = fieldsFit ((shapeOf op) .fields) (rowOf op x y) in
+      let sound : (partsFit ((shapeOf op) .parts) i f s && fit) ≡ true =
+      ap (λ ps. partsFit ps i f s && fit) shape ∙ T-true (partsFit parts i f s && fit) (yes-and (partsFit parts i f s) fit there fields) in
+      let made : next rows i ≡ readingOf (some op) (rowOf op x y) i f s =
+      ap (λ (r : BodyRow). readingOf (operatorOf (r .code)) r i (firstPart rows i) (secondPart rows i)) is
+      ∙ ap (λ p. readingOf p (rowOf op x y) i (firstPart rows i) (secondPart rows i)) (operator-of op)
+      ∙ ap₂ (readingOf (some op) (rowOf op x y) i) first second in
+      let agree = ending-step rows i in
+      agree-sound agree (subst T (sym (agree .sounds ∙ ap (λ (r : Reading). r .sound) made ∙ sound)) tt)
+      ∙ made
+      ∙ (λ j. record { start = startOf (shape j) i (f .start) (s .start); sound = sound j; form = formOf op (rowOf op x y) (f .form) (s .form) })
+
+  sound-pos : (e : ℕ) → T ((ending rows e) .sound) → 0 < e
+  unfolding ending
+  sound-pos zero t = absurd t
+  sound-pos (suc i) t = omega arith
+
+  read-pos : (e : ℕ) {r : Reading} → ending rows e ≡ r → T (r .sound) → 0 < e
+  read-pos e q t = sound-pos e (subst (λ (r : Reading). T (r .sound)) (sym q) t)
+
+  leaf-read : (o : ℕ) (op : Operator) (x y : ℕ) → (shapeOf op) .parts ≡ [] → T (fieldsFit ((shapeOf op) .fields) (rowOf op x y)) → wordsFrom rows o 1 ≡ rowWords op x y → ending rows (o + 1) ≡ record { start = o; sound = true; form = formOf op (rowOf op x y) ((firstPart rows o) .form) ((secondPart rows o) .form) }
+  unfolding wordsFrom startOf partsFit
+  leaf-read o op x y shape fields words =
+      ap (ending rows) (add-one o) ∙ row-read o op x y [] (firstPart rows o) (secondPart rows o) shape refl refl words tt fields
+
+  -- a form with one part, and one with two, by the readings of the parts
+  module _ {s : Sort} (o : ℕ) (op : Operator) (b : Form s) (read : Stands o b → Read o b) where
+    only-read : (x y : ℕ) → (shapeOf op) .parts ≡ s ∷ [] → T (fieldsFit ((shapeOf op) .fields) (rowOf op x y)) → wordsFrom rows o (suc (formCount b)) ≡ writeForm b ++ rowWords op x y → ending rows (o + suc (formCount b)) ≡ record { start = o; sound = true; form = formOf op (rowOf op x y) ((firstPart rows (o + formCount b)) .form) (part s b) }
+    unfolding startOf partsFit sortOf
+    only-read x y shape fields words =
+        let i = o + formCount b in
+        let h = last-row rows o (formCount b) (writeForm b) (rowWords op x y) (length-form b) words in
+        let r = read (h .0) in
+        ap (ending rows) (add-suc o (formCount b))
+        ∙ row-read i op x y (s ∷ []) (firstPart rows i) (record { start = o; sound = true; form = part s b }) shape refl r (h .1)
+        (yes-and (ltb 0 i) (sameSort s s) (yes-ltb (read-pos i r tt)) (same-sort s)) fields
+
+  module _ {s t : Sort} (o : ℕ) (op : Operator) (a : Form s) (b : Form t) (first : Stands o a → Read o a) (second : Stands (o + formCount a) b → Read (o + formCount a) b) where
+    both-read : (shapeOf op) .parts ≡ s ∷ t ∷ [] → T (fieldsFit ((shapeOf op) .fields) (rowOf op 0 0)) → wordsFrom rows o (suc (formCount a + formCount b)) ≡ writeForm a ++ writeForm b ++ rowWords op 0 0 → ending rows (o + suc (formCount a + formCount b)) ≡ record { start = o; sound = true; form = formOf op (rowOf op 0 0) (part s a) (part t b) }
+    unfolding startOf partsFit sortOf
+    both-read shape fields words =
+        let m = formCount a in
+        let n = formCount b in
+        let i = o + (m + n) in
+        let l : length (writeForm a ++ writeForm b) ≡ (m + n) * 4 = let k = length-append (writeForm a) (writeForm b) in omega (arith, length-form a, length-form b) in
+        let h = last-row rows o (m + n) (writeForm a ++ writeForm b) (rowWords op 0 0) l words in
+        let w = halves (wordsFrom rows o m) (wordsFrom rows (o + m) n) (writeForm a) (writeForm b) (length-words rows o m ∙ sym (length-form a)) (sym (words-split rows o m n) ∙ h .0) in
+        let f = first (w .0) in
+        let g : ending rows i ≡ record { start = o + m; sound = true; form = part t b } = ap (ending rows) (sym (add-assoc o m n)) ∙ second (w .1) in
+        ap (ending rows) (add-suc o (m + n))
+        ∙ row-read i op 0 0 (s ∷ t ∷ []) (record { start = o; sound = true; form = part s a }) (record { start = o + m; sound = true; form = part t b }) shape
+        (ap (λ (r : Reading). ending rows (r .start)) g ∙ f) g (h .1)
+        (yes-and (ltb 0 i && sameSort t t && ltb 0 (o + m)) (sameSort s s)
+        (yes-and (ltb 0 i && sameSort t t) (ltb 0 (o + m)) (yes-and (ltb 0 i) (sameSort t t) (yes-ltb (read-pos i g tt)) (same-sort t)) (yes-ltb (read-pos (o + m) f tt)))
+        (same-sort s))
+        fields
+
+  -- A form whose words stand in the rows from row o on is read there.
+  pub read-written : {s : Sort} (f : Form s) (o : ℕ) → T (numsFit f) → Stands o f → Read o f
+  unfolding formCount writeForm numsFit shapeOf formOf fieldsFit rowOf asTruth asNumber asCollection
+  read-written (compare c a b) o t = let r = and-yes (numsFit a) (numsFit b) t in both-read o (comparing c) a b (read-written a o (r .0)) (read-written b (o + formCount a) (r .1)) refl tt
+  read-written (negate a) o t = only-read o negating a (read-written a o t) 0 0 refl tt
+  read-written (connect c a b) o t = let r = and-yes (numsFit a) (numsFit b) t in both-read o (connecting c) a b (read-written a o (r .0)) (read-written b (o + formCount a) (r .1)) refl tt
+  read-written (quantify q c b) o t = let r = and-yes (numsFit c) (numsFit b) t in both-read o (quantifying q) c b (read-written c o (r .0)) (read-written b (o + formCount c) (r .1)) refl tt
+  read-written (kind v u) o t = leaf-read o kindOf v u refl tt
+  read-written (num n) o t = λ e. leaf-read o literal (wordOf n) 0 refl tt e ∙ ap (λ z. record { start = o; sound = true; form = part number (num z) }) (signed-word n t)
+  read-written (cell v k) o t = leaf-read o cellOf v k refl tt
+  read-written (size c) o t = only-read o sizeOf c (read-written c o t) 0 0 refl tt
+  read-written (sum c k) o t = only-read o sumOf c (read-written c o t) k 0 refl tt
+  read-written (combine c a b) o t = let r = and-yes (numsFit a) (numsFit b) t in both-read o (combining c) a b (read-written a o (r .0)) (read-written b (o + formCount a) (r .1)) refl tt
+  read-written (role v r) o t = leaf-read o roleOf v r refl tt
+  read-written (all u) o t = leaf-read o allOf u 0 refl tt
+  read-written (select c b) o t = let r = and-yes (numsFit c) (numsFit b) t in both-read o selecting c b (read-written c o (r .0)) (read-written b (o + formCount c) (r .1)) refl tt
+
+  -- Rows that hold a truth's words are a whole body, and its form is read.
+  module _ (f : Form truth) (n : ℕ) (nums : T (numsFit f)) (count : formCount f ≡ n) (few : n ≤ maxForms) (words : wordsFrom rows 0 n ≡ writeForm f) where
+    truth-read : ending rows n ≡ record { start = 0; sound = true; form = part truth f }
+    truth-read = ap (ending rows) (sym count ∙ sym (zero-add (formCount f))) ∙ read-written f 0 nums (ap (wordsFrom rows 0) count ∙ words)
+
+    pub body-whole : T (wholeBody rows n)
+    unfolding sortOf
+    body-whole =
+        subst T (sym (whole-ending rows n ∙ ap (λ r. wholeEnding r n) truth-read))
+        (yes-and (leb n maxForms && true) true (yes-and (leb n maxForms) true (yes-leb few) tt) tt)
+
+    pub body-read : readBody rows n ≡ f
+    unfolding asTruth
+    body-read = body-ending rows n body-whole ∙ ap (λ (r : Reading). asTruth (r .form)) truth-read
+
+-- ---- the rows of a table
+
+four-words : (t : List ℕ) (j : ℕ) → j + 4 ≤ length t → drop j t ≡ getD t (j + 0) 0 ∷ getD t (j + 1) 0 ∷ getD t (j + 2) 0 ∷ getD t (j + 3) 0 ∷ drop (j + 4) t
+four-words t j h =
+    let next : (k : ℕ) → k < j + 4 → drop k t ≡ getD t k 0 ∷ drop (suc k) t = λ k l. drop-cons t k 0 (omega arith) in
+    rw (add-zero, add-one, add-two, add-three, add-four)
+    (rw (next j (omega arith), next (suc j) (omega arith), next (suc (suc j)) (omega arith), next (suc (suc (suc j))) (omega arith)) refl)
+
+-- the words of rows of a table, from row base on
+pub table-words : (t : List ℕ) (base o n : ℕ) → (base + o + n) * 4 ≤ length t → wordsFrom (λ j. bodyRow t (base + j)) o n ≡ take (n * 4) (drop ((base + o) * 4) t)
+unfolding wordsFrom
+table-words t base o zero h = refl
+table-words t base o (suc n) h =
+    let j = (base + o) * 4 in
+    let later : (base + suc o) * 4 ≡ j + 4 = omega arith in
+    let count : suc n * 4 ≡ suc (suc (suc (suc (n * 4)))) = omega arith in
+    ap (λ w. rowList (bodyRow t (base + o)) ++ w) (table-words t base (suc o) n (omega arith) ∙ ap (λ k. take (n * 4) (drop k t)) later)
+    ∙ sym (ap₂ take count (four-words t j (omega arith)))
+
+-- A body whose words stand in a table from row base on is read there.
+pub table-read : (f : Form truth) → T (numsFit f) → formCount f ≤ maxForms → (t : List ℕ) (base : ℕ) → (base + formCount f) * 4 ≤ length t → take (formCount f * 4) (drop (base * 4) t) ≡ writeForm f → readBody (λ j. bodyRow t (base + j)) (formCount f) ≡ f
+table-read f nums few t base room words =
+    body-read (λ j. bodyRow t (base + j)) f (formCount f) nums refl few
+    (table-words t base 0 (formCount f) (omega arith) ∙ ap (λ k. take (formCount f * 4) (drop (k * 4) t)) (add-zero base) ∙ words)
+
+-- A form of at most 64 forms is the body of its rows.
+pub form-read : (f : Form truth) → T (numsFit f) → formCount f ≤ maxForms → readBody (bodyRow (writeForm f)) (formCount f) ≡ f
+form-read f nums few =
+    let l = length-form f in
+    ap (λ rows. readBody rows (formCount f)) (fun-ext (λ j. ap (bodyRow (writeForm f)) (sym (zero-add j))))
+    ∙ table-read f nums few (writeForm f) 0 (omega arith) (ap (λ n. take n (writeForm f)) (sym l) ∙ take-length (writeForm f))
