@@ -1,17 +1,15 @@
 -- Members of an ascending collection, visited one after the other: the next after an id, and those that are left after it.
-use Prim.Native.Nat.{ℕ, suc, _<_, _≤_}
+use Prim.Native.Nat.{ℕ, _<_}
 use mathlib.Core.Path.{_≡_, refl, sym, ap, subst, _∙_}
-use mathlib.Core.Logic.{⊎-elim}
-use mathlib.Core.Bool.{Bool, true, false, _&&_, not, cond}
+use mathlib.Core.Bool.{Bool, true, false, cond}
 use mathlib.Core.List.{List, [], _∷_, cons≢nil, cons-eq-cons, List·Memᴰ·head, List·Memᴰ·tail}
 use mathlib.Core.Option.{Option, none, some, Option·none-ne-some, Option·some-injective}
 use native.Mathlib.Nat.{lt-trans, lt-irrefl}
 use native.Mathlib.Omega.{arith}
-use lib.Dec.{T, ltb}
-use lib.ListN.{length}
+use lib.Dec.{ltb}
 use borrow.Author.Tests.{ltb-true, ltb-false}
 use mir.Facts.{not-T, ltb-yes, yes-ltb}
-use Rattle.meaning.specs.Lists.{any, every, keep, first}
+use Rattle.meaning.specs.Lists.{keep, first}
 use Rattle.meaning.proofs.Lists.{_∈_, Ascending, cond-yes, cond-no, first-some}
 
 -- the members that come after an id

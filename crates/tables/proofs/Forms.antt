@@ -1,7 +1,7 @@
 -- A body's rows and its form determine each other: the reading of specs/Bodies is the inverse of `writeForm`.
 use Prim.Native.Nat.{ℕ, zero, suc, _+_, _-_, _*_, _^_, _≤_, _<_, zero-le}
 use mathlib.Core.Path.{_≡_, refl, sym, ap, ap₂, subst, fun-ext, _∙_}
-use mathlib.Core.Bool.{Bool, true, false, _&&_, not, cond}
+use mathlib.Core.Bool.{Bool, true, false, _&&_, not}
 use mathlib.Core.List.{List, [], _∷_, _++_}
 use mathlib.Core.Option.{Option, none, some, Option·none-ne-some, Option·some-injective}
 use native.Mathlib.Nat.{le-refl, le-trans, add-zero, zero-add, add-suc, suc-add, add-assoc, sub-self, not-suc-le-zero}
@@ -10,33 +10,23 @@ use native.Mathlib.Omega.{arith}
 use lib.Dec.{T, ltb, leb, eqb}
 use lib.ListN.{length, getD, getElem?, take, drop, length-append}
 use lib.Seq.{take-at, drop-at, drop-cons, take-length}
-use lib.IntN.{ℤ, pos, negsuc}
-use mir.Facts.{and-yes, yes-and, ltb-yes, leb-yes, eqb-yes, yes-ltb, yes-leb, no-ltb}
+use lib.IntN.{ℤ}
+use mir.Facts.{and-yes, yes-and, ltb-yes, leb-yes, eqb-yes, yes-ltb, yes-leb}
 use borrow.Author.Tests.{lt-ltb}
 use Rattle.meaning.specs.Limits.{maxForms, fitsWord}
 use Rattle.meaning.specs.Forms.{Sort, truth, number, collection, le, lt, eq, ne, ge, gt, and, or, xor, implies, forall, exists, add, sub, Form, compare, negate, connect, quantify, kind, num, cell, size, sum, combine, role, all, select, formCount}
 use Rattle.meaning.proofs.Lists.{cond-yes, cond-no}
+use Rattle.rows.proofs.Words
+use Rattle.rows.proofs.Words.{word-signed}
 use Rattle.rows.specs.Rows.{signed, wordOf}
 use Rattle.tables.specs.Codes.{Operator, comparing, negating, connecting, quantifying, kindOf, literal, cellOf, sizeOf, sumOf, combining, roleOf, allOf, selecting, operators, operatorOf, codeOf, shapeOf}
 use Rattle.tables.specs.Bodies.{rowWords, writeForm, BodyRow, bodyRow, Part, part, sortOf, sameSort, asTruth, asNumber, asCollection, Reading, formOf, startOf, reads, partsFit, fieldsFit, noReading, readingOf, readAt, wholeBody, readBody}
 
--- ---- a word as a signed number, and back
-
-pub word-signed : (w : ℕ) → w < 2 ^ 32 → wordOf (signed w) ≡ w
-word-signed w h = step (ltb w (2 ^ 31)) refl
-  where
-    step : (b : Bool) → ltb w (2 ^ 31) ≡ b → wordOf (cond b (pos w) (negsuc (2 ^ 32 - 1 - w))) ≡ w
-    step true e = refl
-    step false e = omega arith
+-- ---- a signed number as a word, and back
 
 pub signed-word : (z : ℤ) → T (fitsWord z) → signed (wordOf z) ≡ z
 unfolding fitsWord
-signed-word (pos n) t = cond-yes (ltb n (2 ^ 31)) (pos n) _ t
-signed-word (negsuc n) t =
-    let h : n < 2 ^ 31 = ltb-yes t in
-    let w = 2 ^ 32 - 1 - n in
-    let high : 2 ^ 31 ≤ w = omega arith in
-    cond-no (ltb w (2 ^ 31)) (pos w) (negsuc (2 ^ 32 - 1 - w)) (no-ltb high) ∙ ap negsuc (omega arith)
+signed-word z t = Words.signed-word z (ltb-yes t)
 
 T-true : (b : Bool) → T b → b ≡ true
 T-true true t = refl

@@ -9,7 +9,7 @@ use lib.IntN.{pos}
 use Rattle.meaning.specs.Limits.{maxForms}
 use Rattle.meaning.specs.Forms.{Sort, truth, number, collection, lt, Form, compare, negate, connect, quantify, kind, num, cell, size, sum, combine, role, all, select}
 use Rattle.rows.specs.Rows.{wordAt, signed, wordOf}
-use Rattle.tables.specs.Codes.{Operator, comparing, negating, connecting, quantifying, kindOf, literal, cellOf, sizeOf, sumOf, combining, roleOf, allOf, selecting, operatorOf, codeOf, Shape, shapeOf}
+use Rattle.tables.specs.Codes.{Operator, comparing, negating, connecting, quantifying, kindOf, literal, cellOf, sizeOf, sumOf, combining, roleOf, allOf, selecting, operatorOf, codeOf, shapeOf}
 
 -- ---- a form as rows
 

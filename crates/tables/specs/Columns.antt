@@ -1,15 +1,14 @@
 -- The columns of the tables. A row that is not used is not read.
 use Prim.Native.Nat.{ℕ, _+_, _*_, _-_, _^_}
-use mathlib.Core.Bool.{Bool, cond}
+use mathlib.Core.Bool.{cond}
 use mathlib.Core.List.{List, [], _∷_}
-use mathlib.Core.Option.{Option, none, some}
+use mathlib.Core.Option.{none, some}
 use lib.Dec.{eqb}
 use lib.ListN.{getD}
-use lib.IntN.{ℤ}
 use Rattle.meaning.specs.Limits.{maxForms, cellCount}
 use Rattle.meaning.specs.Schema.{ObjectType, Relationship, Schema}
 use Rattle.meaning.specs.Register.{Object, Link, Register}
-use Rattle.meaning.specs.Forms.{Rule, Book}
+use Rattle.meaning.specs.Forms.{Rule}
 use Rattle.meaning.specs.Events.{Event, insert, delete, set, join, part, special, general, linkOf}
 use Rattle.rows.specs.Rows.{wordAt, readRows, signed}
 use Rattle.tables.specs.Bodies.{bodyRow, readBody}

@@ -1,7 +1,7 @@
 -- `number::add` meets its contract.
 use native.Mathlib.Omega.{arith}
 use Rattle.number.proofs.Signed.{back, small-fits}
-use Rattle.meaning.proofs.Integers.{natAbs-add, natAbs-sub}
+use Rattle.meaning.proofs.Integers.{natAbs-add}
 use Rattle.number.proofs.add.Statement.{statement}
 use Rattle.number.proofs.add.Tie as tie
 use Rattle.number.proofs.add.Reads as reads

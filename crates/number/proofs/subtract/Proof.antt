@@ -1,7 +1,7 @@
 -- `number::subtract` meets its contract.
 use native.Mathlib.Omega.{arith}
 use Rattle.number.proofs.Signed.{back, small-fits}
-use Rattle.meaning.proofs.Integers.{natAbs-add, natAbs-sub}
+use Rattle.meaning.proofs.Integers.{natAbs-sub}
 use Rattle.number.proofs.subtract.Statement.{statement}
 use Rattle.number.proofs.subtract.Tie as tie
 use Rattle.number.proofs.subtract.Reads as reads
