@@ -1,6 +1,6 @@
 -- A loop over the rows of a table from row 0 finds the first faulty row. The invariant of such a loop is `Passed i`.
-use Prim.Native.Nat.{ℕ, suc, _+_, _-_, _≤_, _<_}
-use mathlib.Core.Path.{_≡_, sym, ap, _∙_}
+use Prim.Native.Nat.{ℕ, zero, suc, _+_, _-_, _≤_, _<_}
+use mathlib.Core.Path.{_≡_, refl, sym, ap, _∙_}
 use mathlib.Core.Bool.{Bool, true, false, cond}
 use mathlib.Core.Option.{Option, none, some}
 use native.Mathlib.Nat.{sub-zero}
@@ -9,6 +9,10 @@ use native.Mathlib.Omega.{arith}
 use Rattle.meaning.specs.Lists.{faultFrom, firstFault}
 use Rattle.rows.specs.Rows.{rowsFrom, readRows}
 use Rattle.schema.specs.Before.{rowBefore}
+
+pub row-before : {A : Type 0} (read : ℕ → A) (i : ℕ) → (i ≡ 0 → ⊥) → rowBefore read i ≡ some (read (i - 1))
+row-before read zero d = absurd (d refl)
+row-before read (suc i) d = let e : i ≡ suc i - 1 = omega arith in ap (λ j. some (read j)) e
 
 module _ {A : Type 0} (faulty : ℕ → Option A → A → Bool) (read : ℕ → A) (n : ℕ) where
   -- what a scan of n rows finds from row i on

@@ -2,7 +2,7 @@
 use Prim.Native.Nat.{ℕ}
 use mathlib.Core.Path.{_≡_, refl, sym, ap, _∙_}
 use mathlib.Core.Logic.{⊎-elim}
-use mathlib.Core.Bool.{Bool, true, false, _&&_, not}
+use mathlib.Core.Bool.{Bool, true, false, _&&_, _||_, not}
 use lib.Dec.{T, leb, ltb}
 use mir.Facts.{ltb-yes, ltb-no}
 use borrow.Author.Tests.{lt-ltb, le-ltb, le-leb, lt-leb}
@@ -25,6 +25,10 @@ not-leb a b = ap not (sym (not-ltb b a)) ∙ not-not (ltb b a)
 pub and-false : (b : Bool) → (b && false) ≡ false
 and-false true = refl
 and-false false = refl
+
+pub or-false : (b : Bool) → (b || false) ≡ b
+or-false true = refl
+or-false false = refl
 
 pub and-true : (b : Bool) → (b && true) ≡ b
 and-true true = refl

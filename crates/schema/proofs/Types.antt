@@ -5,7 +5,8 @@ use mathlib.Core.Bool.{cond}
 use mathlib.Core.List.{List}
 use mathlib.Core.Option.{none}
 use lib.Dec.{ltb}
-use Rattle.meaning.specs.Schema.{ObjectType, Relationship, knownType, typeAt, parentOf, cellsOf, relationshipAt, sourceType, targetType}
+use lib.ListN.{length}
+use Rattle.meaning.specs.Schema.{ObjectType, Relationship, knownType, knownRelationship, typeAt, parentOf, cellsOf, relationshipAt, sourceType, targetType}
 use Rattle.rows.specs.Rows.{wordAt}
 use Rattle.tables.specs.Columns.{typeRow, relationshipRow}
 use Rattle.schema.specs.Tables.{typesWith, relationshipsWith}
@@ -25,6 +26,10 @@ module _ (n : ℕ) (types : List ℕ) (rs : List Relationship) (t : ℕ) where
   cells-used = row-used (typeRow types) (λ (o : ObjectType). o .cells) n t (record { parent = none; cells = 0 })
 
 module _ (ts : List ObjectType) (n : ℕ) (relationships : List ℕ) (r : ℕ) where
+  pub relationship-known : knownRelationship (relationshipsWith ts n relationships) r ≡ ltb r n
+  unfolding knownRelationship
+  relationship-known = ap (ltb r) (length-rows (relationshipRow relationships) n)
+
   pub source-used : sourceType (relationshipsWith ts n relationships) r ≡ cond (ltb r n) (wordAt relationships 2 r 0) 0
   unfolding sourceType relationshipAt relationshipRow
   source-used = row-used (relationshipRow relationships) (λ (o : Relationship). o .source) n r (record { source = 0; target = 0 })

@@ -1,0 +1,88 @@
+-- The cells of an object's row: a word is a signed number of 32 bits, and is 0 where that number is.
+use Prim.Native.Nat.{ℕ, zero, suc, _+_, _-_, _^_, _≤_, _<_}
+use mathlib.Core.Path.{_≡_, refl, sym, ap, subst, _∙_}
+use mathlib.Core.Logic.{⊎-elim}
+use mathlib.Core.Bool.{Bool, true, false, _&&_, not, cond}
+use mathlib.Core.List.{List}
+use native.Mathlib.Numerals.{add-one}
+use native.Mathlib.Omega.{arith}
+use lib.Dec.{T, ltb, leb, eqb}
+use lib.IntN.{ℤ, pos, negsuc}
+use lib.ListN.{length, drop, getD, drop-of-length-le}
+use lib.Seq.{drop-cons}
+use mir.Facts.{ltb-yes, ltb-no, yes-ltb}
+use borrow.Author.Tests.{lt-ltb, le-ltb, lt-leb, le-leb, eq-eqb, ne-eqb}
+use Rattle.meaning.specs.Lists.{every}
+use Rattle.meaning.specs.Limits.{fitsWord, cellCount}
+use Rattle.meaning.specs.Schema.{Schema, cellsOf}
+use Rattle.meaning.specs.Register.{Object, isZero, cellsFit}
+use Rattle.meaning.proofs.Lists.{decide, cond-yes, cond-no}
+use Rattle.rows.specs.Rows.{wordAt, rowsFrom, readRows, signed}
+use Rattle.tables.specs.Columns.{objectRow}
+use Rattle.schema.proofs.Rows.{length-rows, row-used}
+
+positive : (w : ℕ) → w < 2 ^ 31 → signed w ≡ pos w
+positive w h = rw (lt-ltb w (2 ^ 31) h)
+
+negative : (w : ℕ) → 2 ^ 31 ≤ w → signed w ≡ negsuc (2 ^ 32 - 1 - w)
+negative w h = rw (le-ltb w (2 ^ 31) h)
+
+-- which of the two a word is
+signs : (P : ℤ → Type 0) (w : ℕ) → (w < 2 ^ 31 → P (pos w)) → (2 ^ 31 ≤ w → P (negsuc (2 ^ 32 - 1 - w))) → P (signed w)
+signs P w f g =
+    ⊎-elim
+    (λ (t : T (ltb w (2 ^ 31))). subst P (sym (positive w (ltb-yes t))) (f (ltb-yes t)))
+    (λ (t : T (not (ltb w (2 ^ 31)))). subst P (sym (negative w (ltb-no t))) (g (ltb-no t)))
+    (decide (ltb w (2 ^ 31)))
+
+signed-fits : (w : ℕ) → fitsWord (signed w) ≡ true
+unfolding fitsWord
+signed-fits w =
+    signs (λ z. fitsWord z ≡ true) w (λ h. lt-ltb w (2 ^ 31) h) (λ h. lt-ltb (2 ^ 32 - 1 - w) (2 ^ 31) (omega arith))
+
+zero-pos : (w : ℕ) → isZero (pos w) ≡ eqb w 0
+zero-pos zero = refl
+zero-pos (suc w) = rw (lt-leb (suc w) 0 (omega arith), ne-eqb (suc w) 0 (omega arith))
+
+signed-zero : (w : ℕ) → isZero (signed w) ≡ eqb w 0
+signed-zero w = signs (λ z. isZero z ≡ eqb w 0) w (λ h. zero-pos w) (λ h. sym (ne-eqb w 0 (omega arith)))
+
+module _ (read : ℕ → ℕ) where
+  abbrev cells : ℕ → List ℤ
+  cells n = readRows (λ k. signed (read k)) n
+
+  from-fit : (j n : ℕ) → every fitsWord (rowsFrom (λ k. signed (read k)) j n) ≡ true
+  from-fit j zero = refl
+  from-fit j (suc n) = rw (signed-fits (read j)) (from-fit (suc j) n)
+
+  module _ (n : ℕ) where
+    zero-end : {k : ℕ} → n ≤ k → every isZero (drop k (cells n)) ≡ true
+    zero-end {k} h =
+        let long : length (cells n) ≤ k = omega (arith, length-rows (λ k. signed (read k)) n) in
+        ap (every isZero) (drop-of-length-le (cells n) long)
+
+    zero-step : {k : ℕ} → k < n → every isZero (drop k (cells n)) ≡ (eqb (read k) 0 && every isZero (drop (k + 1) (cells n)))
+    zero-step {k} h =
+        let short : k < length (cells n) = omega (arith, length-rows (λ k. signed (read k)) n) in
+        let head : getD (cells n) k (pos 0) ≡ signed (read k) = row-used (λ k. signed (read k)) (λ z. z) n k (pos 0) ∙ cond-yes (ltb k n) (signed (read k)) (pos 0) (yes-ltb h) in
+        ap (every isZero) (drop-cons (cells n) k (pos 0) short) ∙ rw (head, signed-zero (read k), add-one)
+
+module _ (objects : List ℕ) (i : ℕ) where
+  -- the cells of a row are eight, each of 32 bits
+  pub row-cells : (S : Schema) → cellsFit S (objectRow objects i) ≡ every isZero (drop (cellsOf S ((objectRow objects i) .type)) ((objectRow objects i) .cells))
+  unfolding cellsFit objectRow
+  row-cells S = rw (from-fit (λ k. wordAt objects 10 i (2 + k)) 0 cellCount)
+
+  pub cells-end : {k : ℕ} → cellCount ≤ k → every isZero (drop k ((objectRow objects i) .cells)) ≡ true
+  unfolding objectRow
+  cells-end h = zero-end (λ k. wordAt objects 10 i (2 + k)) cellCount h
+
+  cells-step : {k : ℕ} → k < cellCount → every isZero (drop k ((objectRow objects i) .cells)) ≡ (eqb (wordAt objects 10 i (2 + k)) 0 && every isZero (drop (k + 1) ((objectRow objects i) .cells)))
+  unfolding objectRow
+  cells-step h = zero-step (λ k. wordAt objects 10 i (2 + k)) cellCount h
+
+  pub cells-used : {k : ℕ} → k < cellCount → (wordAt objects 10 i (2 + k) ≡ 0 → ⊥) → every isZero (drop k ((objectRow objects i) .cells)) ≡ false
+  cells-used h d = cells-step h ∙ rw (ne-eqb _ _ d)
+
+  pub cells-on : {k : ℕ} → k < cellCount → wordAt objects 10 i (2 + k) ≡ 0 → every isZero (drop k ((objectRow objects i) .cells)) ≡ every isZero (drop (k + 1) ((objectRow objects i) .cells))
+  cells-on h e = cells-step h ∙ rw (eq-eqb _ _ e)

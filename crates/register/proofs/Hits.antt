@@ -1,0 +1,92 @@
+-- The first row that passes a test, and what `first` finds.
+use Prim.Native.Nat.{ℕ, zero, suc, _+_, _-_, _≤_, _<_}
+use mathlib.Core.Path.{_≡_, refl, ap, subst, _∙_}
+use mathlib.Core.Logic.{_⊎_, inl, inr, ⊎-elim}
+use mathlib.Core.Bool.{Bool, true, false, _&&_, not, cond}
+use mathlib.Core.List.{List, [], _∷_, map}
+use mathlib.Core.Option.{Option, none, some, Option·map}
+use native.Mathlib.Nat.{le-refl}
+use native.Mathlib.Numerals.{add-one}
+use native.Mathlib.Omega.{arith}
+use lib.Dec.{T, ltb}
+use mir.Facts.{ltb-yes, ltb-no}
+use Rattle.meaning.specs.Lists.{keep, first, faultFrom, firstFault}
+use Rattle.meaning.proofs.Lists.{decide}
+use Rattle.rows.specs.Rows.{rowsFrom, readRows}
+use Rattle.schema.proofs.Scan.{Passed, passed-none, passed-more, passed-found, passed-all}
+
+T-true : (b : Bool) → T b → b ≡ true
+T-true true t = refl
+T-true false t = absurd t
+
+T-false : (b : Bool) → T (not b) → b ≡ false
+T-false true t = absurd t
+T-false false t = refl
+
+module _ {A : Type 0} (hit : A → Bool) (read : ℕ → A) where
+  -- a row is judged by itself
+  abbrev pub alone : ℕ → Option A → A → Bool
+  alone m previous x = hit x
+
+  -- the first of n rows that passes the test
+  abbrev pub firstHit : ℕ → Option ℕ
+  firstHit n = firstFault alone (readRows read n)
+
+  module _ (n : ℕ) where
+    pub missed-one : {i : ℕ} → Passed alone read n i → i < n → T (not (hit (read i))) → Passed alone read n (i + 1)
+    missed-one {i} p h t = passed-more alone read n p h (T-false (hit (read i)) t)
+
+    -- rows that do not pass the test are passed over
+    missed-on : (i d : ℕ) → Passed alone read n i → i + d ≤ n → ((j : ℕ) → i ≤ j → j < n → T (not (hit (read j)))) → Passed alone read n (i + d)
+    missed-on i zero p h miss = subst (Passed alone read n) (omega arith) p
+    missed-on i (suc d) p h miss =
+        subst (Passed alone read n) (omega arith)
+        (missed-one (missed-on i d p (omega arith) miss) (omega arith) (miss (i + d) (omega arith) (omega arith)))
+
+    -- the rows before row i are passed, and none from there on passes the test
+    pub hit-none : {i : ℕ} → Passed alone read n i → ((j : ℕ) → i ≤ j → j < n → T (not (hit (read j)))) → firstHit n ≡ none
+    hit-none {i} p miss = ⊎-elim (λ h. passed-all alone read n p (ltb-no h)) ends (flip (decide (ltb i n)))
+      where
+        flip : {B C : Type 0} → B ⊎ C → C ⊎ B
+        flip (inl b) = inr b
+        flip (inr c) = inl c
+
+        ends : T (ltb i n) → firstHit n ≡ none
+        ends h =
+            let l : i < n = ltb-yes h in
+            passed-all alone read n (missed-on i (n - i) p (omega arith) miss) (omega arith)
+
+    pub hit-at : {i : ℕ} → Passed alone read n i → i < n → T (hit (read i)) → firstHit n ≡ some i
+    hit-at {i} p h t = passed-found alone read n p h (T-true (hit (read i)) t)
+
+  pub missed-to : (n i : ℕ) → i ≤ n → ((j : ℕ) → j < i → T (not (hit (read j)))) → Passed alone read n i
+  missed-to n zero h miss = passed-none alone read n
+  missed-to n (suc i) h miss =
+      subst (Passed alone read n) (add-one i)
+      (missed-one n (missed-to n i (omega arith) (λ j l. miss j (omega arith))) h (miss i (le-refl (suc i))))
+
+module _ {A : Type 0} (hit : A → Bool) where
+  first-from : (read : ℕ → A) (j n : ℕ) (previous : Option A) → first hit (rowsFrom read j n) ≡ Option·map read (faultFrom (alone hit read) j previous (rowsFrom read j n))
+  first-from read j zero previous = refl
+  first-from read j (suc n) previous = step (hit (read j)) (first-from read (suc j) n (some (read j)))
+    where
+      step : (b : Bool) → first hit (rowsFrom read (suc j) n) ≡ Option·map read (faultFrom (alone hit read) (suc j) (some (read j)) (rowsFrom read (suc j) n)) → cond b (some (read j)) (first hit (rowsFrom read (suc j) n)) ≡ Option·map read (cond b (some j) (faultFrom (alone hit read) (suc j) (some (read j)) (rowsFrom read (suc j) n)))
+      step true below = refl
+      step false below = below
+
+  -- the first element that passes the test is that of the first row
+  pub first-row : (read : ℕ → A) (n : ℕ) → first hit (readRows read n) ≡ Option·map read (firstHit hit read n)
+  first-row read n = first-from read 0 n none
+
+-- the first value, of the elements that are kept, that passes a test
+pub first-kept : {A B : Type 0} (p : A → Bool) (f : A → B) (q : B → Bool) (l : List A) → first q (map f (keep p l)) ≡ Option·map f (first (λ x. p x && q (f x)) l)
+first-kept p f q [] = refl
+first-kept {A} p f q (x ∷ xs) = step (p x) (q (f x)) refl (first-kept p f q xs)
+  where
+    rest : Option A
+    rest = first (λ y. p y && q (f y)) xs
+
+    step : (b d : Bool) → q (f x) ≡ d → first q (map f (keep p xs)) ≡ Option·map f rest → first q (map f (cond b (x ∷ keep p xs) (keep p xs))) ≡ Option·map f (cond (b && d) (some x) rest)
+    step true true e below = rw e
+    step true false e below = rw e below
+    step false d e below = below

@@ -1,0 +1,66 @@
+-- What a search for an object or a link finds at the key's place, and what it means for the object.
+use Prim.Native.Nat.{ℕ, _<_}
+use mathlib.Core.Path.{_≡_, sym, ap, _∙_}
+use mathlib.Core.Bool.{Bool, true, false}
+use mathlib.Core.List.{List, [], _∷_}
+use mathlib.Core.Option.{none, some, Option·map}
+use lib.Dec.{T, eqb}
+use mir.Facts.{eqb-yes}
+use borrow.Author.Tests.{eq-eqb, ne-eqb}
+use Rattle.meaning.specs.Lists.{holds}
+use Rattle.meaning.specs.Schema.{Schema, under}
+use Rattle.meaning.specs.Register.{Object, Link, objectKey, linkKey, sameLink, objectAt, isUnder, objectFits, faultyObject, objectFault}
+use Rattle.meaning.specs.Events.{linkOf}
+use Rattle.meaning.proofs.Order.{same-eq, rows-fit}
+use Rattle.rows.specs.Rows.{readRows}
+use Rattle.tables.specs.Columns.{objectRow, linkRow}
+use Rattle.register.specs.Tables.{objectsWith, ObjectsAscend, LinksAscend, objectPlace, linkPlace}
+use Rattle.register.specs.Places.{LowerBound}
+use Rattle.register.proofs.Hits.{first-row}
+use Rattle.register.proofs.Places.{place-hit, place-missed}
+
+module _ (objects : List ℕ) {n id r : ℕ} (b : LowerBound objectKey (objectRow objects) n (id ∷ []) r) (a : ObjectsAscend n objects) where
+  hit : Object → Bool
+  hit o = eqb (o .id) id
+
+  exact : (o : Object) → T (hit o) → objectKey o ≡ id ∷ []
+  unfolding hit
+  exact o t = ap (λ x. x ∷ []) (eqb-yes t)
+
+  pub object-found : r < n → (objectRow objects r) .id ≡ id → objectPlace n objects id ≡ some r
+  unfolding hit
+  object-found h e = place-hit objectKey (objectRow objects) n a b hit exact h (eq-eqb _ _ e)
+
+  pub object-missing : (r < n → (objectRow objects r) .id ≡ id → ⊥) → objectPlace n objects id ≡ none
+  unfolding hit
+  object-missing d = place-missed objectKey (objectRow objects) n a b hit exact (λ h. ne-eqb _ _ (d h))
+
+module _ (links : List ℕ) {n x y z r : ℕ} (b : LowerBound linkKey (linkRow links) n (x ∷ y ∷ z ∷ []) r) (a : LinksAscend n links) where
+  exact-link : (l : Link) → T (sameLink (linkOf x y z) l) → linkKey l ≡ x ∷ y ∷ z ∷ []
+  exact-link l t = sym (same-eq (x ∷ y ∷ z ∷ []) (linkKey l) t)
+
+  pub link-found : r < n → sameLink (linkOf x y z) (linkRow links r) ≡ true → linkPlace n links (linkOf x y z) ≡ some r
+  link-found h e = place-hit linkKey (linkRow links) n a b (sameLink (linkOf x y z)) exact-link h e
+
+  pub link-missing : (r < n → sameLink (linkOf x y z) (linkRow links r) ≡ false) → linkPlace n links (linkOf x y z) ≡ none
+  link-missing d = place-missed linkKey (linkRow links) n a b (sameLink (linkOf x y z)) exact-link d
+
+module _ (S : Schema) (n : ℕ) (objects : List ℕ) (ls : List Link) (id t : ℕ) where
+  pub object-row : objectAt (objectsWith n objects ls) id ≡ Option·map (objectRow objects) (objectPlace n objects id)
+  unfolding objectAt
+  object-row = first-row (λ o. eqb (o .id) id) (objectRow objects) n
+
+  under-row : isUnder S (objectsWith n objects ls) id t ≡ holds (λ o. under S (o .type) t) (Option·map (objectRow objects) (objectPlace n objects id))
+  unfolding isUnder
+  under-row = ap (holds (λ o. under S (o .type) t)) object-row
+
+  pub under-found : {i : ℕ} → objectPlace n objects id ≡ some i → isUnder S (objectsWith n objects ls) id t ≡ under S ((objectRow objects i) .type) t
+  under-found e = under-row ∙ ap (λ o. holds (λ o. under S (o .type) t) (Option·map (objectRow objects) o)) e
+
+  pub under-missing : objectPlace n objects id ≡ none → isUnder S (objectsWith n objects ls) id t ≡ false
+  under-missing e = under-row ∙ ap (λ o. holds (λ o. under S (o .type) t) (Option·map (objectRow objects) o)) e
+
+-- objects of which none is faulty ascend
+pub objects-ascend : (S : Schema) (n : ℕ) (objects : List ℕ) (ls : List Link) → objectFault S (objectsWith n objects ls) ≡ none → ObjectsAscend n objects
+unfolding objectFault faultyObject
+objects-ascend S n objects ls e = rows-fit objectKey (objectFits S) (readRows (objectRow objects) n) e .0

@@ -1,0 +1,5 @@
+-- What the register's functions are said to compute, where specs of other crates do not say it already.
+--   Tables   a register of which only one of the two tables is at hand
+--   Places   where a key belongs among ascending rows
+pub mod Tables
+pub mod Places

@@ -1,0 +1,32 @@
+-- A register of which only one of its two tables is at hand, and its rows.
+use Prim.Native.Nat.{ℕ}
+use mathlib.Core.List.{List}
+use mathlib.Core.Option.{Option}
+use lib.Dec.{eqb}
+use Rattle.meaning.specs.Lists.{firstFault}
+use Rattle.meaning.specs.Register.{Object, Link, Register, objectKey, linkKey, sameLink}
+use Rattle.meaning.proofs.Lists.{Ascending}
+use Rattle.meaning.proofs.Order.{Before}
+use Rattle.rows.specs.Rows.{readRows}
+use Rattle.tables.specs.Columns.{objectRow, linkRow}
+
+-- what is said of such a register holds whatever the other table is
+abbrev pub objectsWith : ℕ → List ℕ → List Link → Register
+objectsWith objectCount objects links = record { objects = readRows (objectRow objects) objectCount; links = links }
+
+abbrev pub linksWith : List Object → ℕ → List ℕ → Register
+linksWith objects linkCount links = record { objects = objects; links = readRows (linkRow links) linkCount }
+
+-- the used rows of the table ascend, none twice
+abbrev pub ObjectsAscend : ℕ → List ℕ → Type 0
+ObjectsAscend objectCount objects = Ascending (Before objectKey) (readRows (objectRow objects) objectCount)
+
+abbrev pub LinksAscend : ℕ → List ℕ → Type 0
+LinksAscend linkCount links = Ascending (Before linkKey) (readRows (linkRow links) linkCount)
+
+-- the row of the object of an id, and that of a link
+abbrev pub objectPlace : ℕ → List ℕ → ℕ → Option ℕ
+objectPlace objectCount objects id = firstFault (λ n previous o. eqb (o .id) id) (readRows (objectRow objects) objectCount)
+
+abbrev pub linkPlace : ℕ → List ℕ → Link → Option ℕ
+linkPlace linkCount links l = firstFault (λ n previous k. sameLink l k) (readRows (linkRow links) linkCount)
