@@ -1,11 +1,14 @@
 // Every check of a lent book and register, in the order of document 01's table of refusals.
 use tables::Counts;
+use tables::Found;
+use tables::Verdict;
 ghost use mathlib.Core.Path.{_≡_};
 ghost use mathlib.Core.Bool.{_||_, not};
 ghost use Rattle.meaning.specs.Lists.{any};
 ghost use Rattle.rows.specs.Rows.{wholeRows};
 ghost use Rattle.tables.specs.Refusals.{overfull, broken, tablesOf, lentTables};
 ghost use Rattle.tables.specs.declared.Counts.{Counts};
+ghost use Rattle.checks.specs.Stages.{staged};
 
 // 2: whether more rows are used than the limit allows or the slice has.
 fn too_many(t: &[u32], width: u32, used: usize, limit: usize) -> bool
@@ -68,4 +71,14 @@ fn any_broken(
     let e = not_whole(objects, 10);
     let f = not_whole(links, 3);
     or(a, or(b, or(c, or(d, or(e, or(f, false))))))
+}
+
+// One stage of the checks.
+fn refuse(number: u32, place: Found, otherwise: Verdict) -> Verdict
+    ensures { λ r. ⌜ r ≡ staged number place otherwise ⌝ }
+{
+    match place {
+        Found::At(p) => Verdict::Refused(number, p),
+        Found::Nothing => otherwise,
+    }
 }

@@ -1,6 +1,5 @@
 // Document 01's register as lent tables: objects and links by binary search, the far ends of roles, and refusal 5.
 use tables::Found;
-
 ghost use mathlib.Core.Path.{_≡_};
 ghost use mathlib.Core.Bool.{true, false};
 ghost use mathlib.Core.List.{List, [], _∷_};
@@ -135,11 +134,21 @@ pub fn object_row(object_count: u32, objects: &[u32], id: u32) -> Found
     if row >= object_count {
         return Found::Nothing;
     }
-    if id_of(objects, row) == id { Found::At(row) } else { Found::Nothing }
+    if id_of(objects, row) == id {
+        Found::At(row)
+    } else {
+        Found::Nothing
+    }
 }
 
 // The row of a link.
-pub fn link_row(link_count: u32, links: &[u32], relationship: u32, source: u32, target: u32) -> Found
+pub fn link_row(
+    link_count: u32,
+    links: &[u32],
+    relationship: u32,
+    source: u32,
+    target: u32,
+) -> Found
     requires { ⌜ LinksAscend «link_count» (now links) ⌝ }
     ensures { λ r. ⌜ r ≡ foundOf (linkPlace «link_count» (now (links .entry)) (linkOf relationship source target)) ⌝ }
 {
@@ -147,11 +156,22 @@ pub fn link_row(link_count: u32, links: &[u32], relationship: u32, source: u32, 
     if row >= link_count {
         return Found::Nothing;
     }
-    if is_link(links, row, relationship, source, target) { Found::At(row) } else { Found::Nothing }
+    if is_link(links, row, relationship, source, target) {
+        Found::At(row)
+    } else {
+        Found::Nothing
+    }
 }
 
 // Whether the object of an id is there and its type is under t.
-pub fn is_under(object_count: u32, objects: &[u32], type_count: u32, types: &[u32], id: u32, t: u32) -> bool
+pub fn is_under(
+    object_count: u32,
+    objects: &[u32],
+    type_count: u32,
+    types: &[u32],
+    id: u32,
+    t: u32,
+) -> bool
     requires { ⌜ ObjectsAscend «object_count» (now objects) ⌝ }
     ensures { λ r. ⌜ ((rs : List Relationship) (ls : List Link) → r ≡ isUnder (typesWith «type_count» (now (types .entry)) rs) (objectsWith «object_count» (now (objects .entry)) ls) id t) ⌝ }
 {
@@ -173,7 +193,11 @@ fn next_target(link_count: u32, links: &[u32], role: u32, u: u32, least: u32) ->
     if relationship_of(links, row) != role / 2 {
         return Found::Nothing;
     }
-    if source_of(links, row) == u { Found::At(target_of(links, row)) } else { Found::Nothing }
+    if source_of(links, row) == u {
+        Found::At(target_of(links, row))
+    } else {
+        Found::Nothing
+    }
 }
 
 // The lowest id, at least `least`, at the far end of a backward role from u: a walk over the relationship's links from there on.
@@ -286,7 +310,16 @@ fn object_fault(type_count: u32, types: &[u32], object_count: u32, objects: &[u3
 }
 
 // Whether a link's row keeps the limits by itself: its relationship, and its objects there and under the end types.
-fn link_fits(type_count: u32, types: &[u32], relationship_count: u32, relationships: &[u32], object_count: u32, objects: &[u32], links: &[u32], row: u32) -> bool
+fn link_fits(
+    type_count: u32,
+    types: &[u32],
+    relationship_count: u32,
+    relationships: &[u32],
+    object_count: u32,
+    objects: &[u32],
+    links: &[u32],
+    row: u32,
+) -> bool
     requires { ⌜ ObjectsAscend «object_count» (now objects) ⌝ }
     ensures { λ r. ⌜ ((ls : List Link) → r ≡ linkFits (schemaOf «type_count» (now (types .entry)) «relationship_count» (now (relationships .entry))) (objectsWith «object_count» (now (objects .entry)) ls) (linkRow (now (links .entry)) row)) ⌝ }
 {
@@ -295,9 +328,23 @@ fn link_fits(type_count: u32, types: &[u32], relationship_count: u32, relationsh
         return false;
     }
     let source = schema::source_type(relationship_count, relationships, relationship);
-    if is_under(object_count, objects, type_count, types, source_of(links, row), source) {
+    if is_under(
+        object_count,
+        objects,
+        type_count,
+        types,
+        source_of(links, row),
+        source,
+    ) {
         let target = schema::target_type(relationship_count, relationships, relationship);
-        is_under(object_count, objects, type_count, types, target_of(links, row), target)
+        is_under(
+            object_count,
+            objects,
+            type_count,
+            types,
+            target_of(links, row),
+            target,
+        )
     } else {
         false
     }
@@ -310,29 +357,71 @@ fn link_ascends(links: &[u32], row: u32) -> bool
     if row == 0 {
         return true;
     }
-    link_before(links, row - 1, relationship_of(links, row), source_of(links, row), target_of(links, row))
+    link_before(
+        links,
+        row - 1,
+        relationship_of(links, row),
+        source_of(links, row),
+        target_of(links, row),
+    )
 }
 
 // Whether a link's row breaks refusal 5.
-fn faulty_link(type_count: u32, types: &[u32], relationship_count: u32, relationships: &[u32], object_count: u32, objects: &[u32], links: &[u32], row: u32) -> bool
+fn faulty_link(
+    type_count: u32,
+    types: &[u32],
+    relationship_count: u32,
+    relationships: &[u32],
+    object_count: u32,
+    objects: &[u32],
+    links: &[u32],
+    row: u32,
+) -> bool
     requires { ⌜ ObjectsAscend «object_count» (now objects) ⌝ }
     ensures { λ r. ⌜ ((ls : List Link) → r ≡ faultyLink (schemaOf «type_count» (now (types .entry)) «relationship_count» (now (relationships .entry))) (objectsWith «object_count» (now (objects .entry)) ls) row (rowBefore (linkRow (now (links .entry))) row) (linkRow (now (links .entry)) row)) ⌝ }
 {
     if link_ascends(links, row) {
-        !link_fits(type_count, types, relationship_count, relationships, object_count, objects, links, row)
+        !link_fits(
+            type_count,
+            types,
+            relationship_count,
+            relationships,
+            object_count,
+            objects,
+            links,
+            row,
+        )
     } else {
         true
     }
 }
 
 // The first faulty link, if there is one.
-fn link_fault(type_count: u32, types: &[u32], relationship_count: u32, relationships: &[u32], object_count: u32, objects: &[u32], link_count: u32, links: &[u32]) -> Found
+fn link_fault(
+    type_count: u32,
+    types: &[u32],
+    relationship_count: u32,
+    relationships: &[u32],
+    object_count: u32,
+    objects: &[u32],
+    link_count: u32,
+    links: &[u32],
+) -> Found
     requires { ⌜ ObjectsAscend «object_count» (now objects) ⌝ }
     ensures { λ r. ⌜ r ≡ foundOf (linkFault (schemaOf «type_count» (now (types .entry)) «relationship_count» (now (relationships .entry))) (registerOf «object_count» (now (objects .entry)) «link_count» (now (links .entry)))) ⌝ }
 {
     let mut row: u32 = 0;
     while row < link_count {
-        if faulty_link(type_count, types, relationship_count, relationships, object_count, objects, links, row) {
+        if faulty_link(
+            type_count,
+            types,
+            relationship_count,
+            relationships,
+            object_count,
+            objects,
+            links,
+            row,
+        ) {
             return Found::At(row);
         }
         row += 1;
@@ -341,11 +430,29 @@ fn link_fault(type_count: u32, types: &[u32], relationship_count: u32, relations
 }
 
 // Refusal 5: the first faulty object, else the first faulty link.
-pub fn check(type_count: u32, types: &[u32], relationship_count: u32, relationships: &[u32], object_count: u32, objects: &[u32], link_count: u32, links: &[u32]) -> Found
+pub fn check(
+    type_count: u32,
+    types: &[u32],
+    relationship_count: u32,
+    relationships: &[u32],
+    object_count: u32,
+    objects: &[u32],
+    link_count: u32,
+    links: &[u32],
+) -> Found
     ensures { λ r. ⌜ r ≡ foundOf (firstOf (objectFault (schemaOf «type_count» (now (types .entry)) «relationship_count» (now (relationships .entry))) (registerOf «object_count» (now (objects .entry)) «link_count» (now (links .entry)))) (linkFault (schemaOf «type_count» (now (types .entry)) «relationship_count» (now (relationships .entry))) (registerOf «object_count» (now (objects .entry)) «link_count» (now (links .entry))))) ⌝ }
 {
     match object_fault(type_count, types, object_count, objects) {
         Found::At(row) => Found::At(row),
-        Found::Nothing => link_fault(type_count, types, relationship_count, relationships, object_count, objects, link_count, links),
+        Found::Nothing => link_fault(
+            type_count,
+            types,
+            relationship_count,
+            relationships,
+            object_count,
+            objects,
+            link_count,
+            links,
+        ),
     }
 }

@@ -38,16 +38,16 @@ returns : tie.Need-returns
 returns c =
     let start = c .before .before .before .before .before .before .before .before .args in
     λ rs ls.
-        c .under .ensures rs
-        ∙ ap (λ x. under (typesWith (start .type-count) (now (start .types)) rs) x (start .t)) (c .before .type-of .ensures)
-        ∙ sym (under-found _ (start .object-count) (now (start .objects)) ls (start .id) (start .t) (found-some _ (sym (c .before .before .before .row .given .1) ∙ c .before .before .before .before .before .object-row .ensures)))
+    c .under .ensures rs
+    ∙ ap (λ x. under (typesWith (start .type-count) (now (start .types)) rs) x (start .t)) (c .before .type-of .ensures)
+    ∙ sym (under-found _ (start .object-count) (now (start .objects)) ls (start .id) (start .t) (found-some _ (sym (c .before .before .before .row .given .1) ∙ c .before .before .before .before .before .object-row .ensures)))
 
 -- src/lib.rt:154:1
 returns-2 : tie.Need-returns-2
 returns-2 c =
     let start = c .before .before .before .before .before .args in
     λ rs ls.
-        sym (under-missing _ (start .object-count) (now (start .objects)) ls (start .id) (start .t) (found-none _ (sym (c .enum-told .given .1) ∙ c .before .before .object-row .ensures)))
+    sym (under-missing _ (start .object-count) (now (start .objects)) ls (start .id) (start .t) (found-none _ (sym (c .enum-told .given .1) ∙ c .before .before .object-row .ensures)))
 
 pub is-under-spec : {M : Type 1} → statement M
 is-under-spec =

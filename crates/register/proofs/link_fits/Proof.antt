@@ -61,9 +61,9 @@ returns-2 c =
     let known = c .before .before .before .before .before .before .before in
     let g = S (c .before .before .before .before .before .before .before .before .before) in
     λ ls.
-        simp
-        (← known .before .relationship-of .ensures, relationship-known, lt-ltb _ _ (known .if1 .left), ← c .before .before .before .before .before .before .source-type .ensures (g .types), ← c .before .before .before .before .before .source-of .ensures, ← c .before .before .before .before .is-under .ensures (g .relationships) ls, c .before .before .before .if2 .taken)
-        (rw (← c .before .before .target-type .ensures (g .types), ← c .before .target-of .ensures) (c .is-under2 .ensures (g .relationships) ls))
+    simp
+    (← known .before .relationship-of .ensures, relationship-known, lt-ltb _ _ (known .if1 .left), ← c .before .before .before .before .before .before .source-type .ensures (g .types), ← c .before .before .before .before .before .source-of .ensures, ← c .before .before .before .before .is-under .ensures (g .relationships) ls, c .before .before .before .if2 .taken)
+    (rw (← c .before .before .target-type .ensures (g .types), ← c .before .target-of .ensures) (c .is-under2 .ensures (g .relationships) ls))
 
 -- src/lib.rt:289:1
 returns-3 : tie.Need-returns-3
@@ -72,8 +72,8 @@ returns-3 c =
     let known = c .before .before .before .before in
     let g = S (c .before .before .before .before .before .before) in
     λ ls.
-        simp
-        (← known .before .relationship-of .ensures, relationship-known, lt-ltb _ _ (known .if1 .left), ← c .before .before .before .source-type .ensures (g .types), ← c .before .before .source-of .ensures, ← c .before .is-under .ensures (g .relationships) ls, c .if2 .left)
+    simp
+    (← known .before .relationship-of .ensures, relationship-known, lt-ltb _ _ (known .if1 .left), ← c .before .before .before .source-type .ensures (g .types), ← c .before .before .source-of .ensures, ← c .before .is-under .ensures (g .relationships) ls, c .if2 .left)
 
 pub link-fits-spec : {M : Type 1} → statement M
 link-fits-spec =

@@ -17,7 +17,7 @@ returns : tie.Need-returns
 returns c =
     let start = c .before .before .args in
     λ os.
-        rw (far-past (start .role) (start .u) (suc (start .after)) os (start .link-count) (now (start .links)) (λ i. omega (arith, c .before .shared-slice-known .given i)))
+    rw (far-past (start .role) (start .u) (suc (start .after)) os (start .link-count) (now (start .links)) (λ i. omega (arith, c .before .shared-slice-known .given i)))
 
 -- src/lib.rt:205:17
 add-least : tie.Need-add-least

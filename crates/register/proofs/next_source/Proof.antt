@@ -44,9 +44,9 @@ returns c =
     let start = c .before .before .before .before .before .before in
     let turn = c .before .before .before .loop .inv in
     λ os.
-        rw
-        (far-none (start .args .role) (start .args .u) (start .args .least) os (start .args .link-count) (now (start .args .links))
-        (walk-end (start .args .role) (start .args .u) (start .args .least) (start .args .link-count) (now (start .args .links)) (start .pre .0) (start .pre .1) (c .before .before .before .before .link-place .ensures) (turn .1) (turn .0) (c .before .before .loop-test .taken) (λ e. c .if1 .taken (c .before .relationship-of .ensures ∙ e))))
+    rw
+    (far-none (start .args .role) (start .args .u) (start .args .least) os (start .args .link-count) (now (start .args .links))
+    (walk-end (start .args .role) (start .args .u) (start .args .least) (start .args .link-count) (now (start .args .links)) (start .pre .0) (start .pre .1) (c .before .before .before .before .link-place .ensures) (turn .1) (turn .0) (c .before .before .loop-test .taken) (λ e. c .if1 .taken (c .before .relationship-of .ensures ∙ e))))
 
 -- src/lib.rt:189:12
 target-of-requires : tie.Need-target-of-requires Inv-loop μ-loop
@@ -62,10 +62,10 @@ returns-2 c =
     let start = c .before .before .before .before .before .before .before .before .before in
     let turn = c .before .before .before .before .before .before .loop .inv in
     λ os.
-        rw
-        (far-source (start .args .role) (start .args .u) (start .args .least) os (start .args .link-count) (now (start .args .links)) (start .pre .1)
-        (walk-found (start .args .role) (start .args .u) (start .args .least) (start .args .link-count) (now (start .args .links)) (start .pre .0) (start .pre .1) (c .before .before .before .before .before .before .before .link-place .ensures) (turn .1) (turn .0) (c .before .before .before .before .before .loop-test .taken) (sym (c .before .before .before .before .relationship-of .ensures) ∙ c .before .before .before .if1 .left) (sym (c .before .before .target-of .ensures) ∙ c .before .if2 .taken)))
-        (ap At (c .source-of .ensures))
+    rw
+    (far-source (start .args .role) (start .args .u) (start .args .least) os (start .args .link-count) (now (start .args .links)) (start .pre .1)
+    (walk-found (start .args .role) (start .args .u) (start .args .least) (start .args .link-count) (now (start .args .links)) (start .pre .0) (start .pre .1) (c .before .before .before .before .before .before .before .link-place .ensures) (turn .1) (turn .0) (c .before .before .before .before .before .loop-test .taken) (sym (c .before .before .before .before .relationship-of .ensures) ∙ c .before .before .before .if1 .left) (sym (c .before .before .target-of .ensures) ∙ c .before .if2 .taken)))
+    (ap At (c .source-of .ensures))
 
 -- src/lib.rt:192:9
 add-row : tie.Need-add-row Inv-loop μ-loop

@@ -46,10 +46,10 @@ returns-3 : tie.Need-returns-3
 returns-3 c =
     let start = c .before .before .before .before .before .before .before .before in
     λ os.
-        rw
-        (far-target (start .args .role) (start .args .u) (start .args .least) os (start .args .link-count) (now (start .args .links)) (start .pre .1)
-        (target-found (start .args .role) (start .args .u) (start .args .least) (start .args .link-count) (now (start .args .links)) (start .pre .0) (start .pre .1) (c .before .before .before .before .before .before .link-place .ensures) (c .before .before .before .before .before .if1 .left) (sym (c .before .before .before .before .relationship-of .ensures) ∙ c .before .before .before .if2 .left) (sym (c .before .before .source-of .ensures) ∙ c .before .if3 .taken)))
-        (ap At (c .target-of .ensures))
+    rw
+    (far-target (start .args .role) (start .args .u) (start .args .least) os (start .args .link-count) (now (start .args .links)) (start .pre .1)
+    (target-found (start .args .role) (start .args .u) (start .args .least) (start .args .link-count) (now (start .args .links)) (start .pre .0) (start .pre .1) (c .before .before .before .before .before .before .link-place .ensures) (c .before .before .before .before .before .if1 .left) (sym (c .before .before .before .before .relationship-of .ensures) ∙ c .before .before .before .if2 .left) (sym (c .before .before .source-of .ensures) ∙ c .before .if3 .taken)))
+    (ap At (c .target-of .ensures))
 
 -- src/lib.rt:165:1
 returns-4 : tie.Need-returns-4

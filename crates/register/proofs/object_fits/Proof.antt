@@ -60,9 +60,9 @@ unfolding objectFits validId
 returns-4 c =
     let some-id = c .before .before .before .before .before in
     λ rs.
-        simp
-        (row-cells, ← some-id .before .id-of .ensures, le-leb _ _ (least (some-id .if1 .left)), le-leb _ _ (c .before .before .before .before .if2 .left), ← c .before .before .before .type-of .ensures, type-known, lt-ltb _ _ (c .before .before .if3 .left), ← c .before .cells-of .ensures rs)
-        (c .zero-from .ensures)
+    simp
+    (row-cells, ← some-id .before .id-of .ensures, le-leb _ _ (least (some-id .if1 .left)), le-leb _ _ (c .before .before .before .before .if2 .left), ← c .before .before .before .type-of .ensures, type-known, lt-ltb _ _ (c .before .before .if3 .left), ← c .before .cells-of .ensures rs)
+    (c .zero-from .ensures)
 
 pub object-fits-spec : {M : Type 1} → statement M
 object-fits-spec =
