@@ -2,21 +2,21 @@
 use Prim.Native.Nat.{ℕ, zero, suc, _+_, _-_, _^_, _≤_, _<_}
 use mathlib.Core.Path.{_≡_, refl, sym, ap, subst, _∙_}
 use mathlib.Core.Logic.{⊎-elim}
-use mathlib.Core.Bool.{Bool, true, false, _&&_, not, cond}
+use mathlib.Core.Bool.{true, false, _&&_, not}
 use mathlib.Core.List.{List}
 use native.Mathlib.Numerals.{add-one}
 use native.Mathlib.Omega.{arith}
-use lib.Dec.{T, ltb, leb, eqb}
+use lib.Dec.{T, ltb, eqb}
 use lib.IntN.{ℤ, pos, negsuc}
 use lib.ListN.{length, drop, getD, drop-of-length-le}
 use lib.Seq.{drop-cons}
 use mir.Facts.{ltb-yes, ltb-no, yes-ltb}
-use borrow.Author.Tests.{lt-ltb, le-ltb, lt-leb, le-leb, eq-eqb, ne-eqb}
+use borrow.Author.Tests.{lt-ltb, le-ltb, lt-leb, eq-eqb, ne-eqb}
 use Rattle.meaning.specs.Lists.{every}
 use Rattle.meaning.specs.Limits.{fitsWord, cellCount}
 use Rattle.meaning.specs.Schema.{Schema, cellsOf}
-use Rattle.meaning.specs.Register.{Object, isZero, cellsFit}
-use Rattle.meaning.proofs.Lists.{decide, cond-yes, cond-no}
+use Rattle.meaning.specs.Register.{isZero, cellsFit}
+use Rattle.meaning.proofs.Lists.{decide, cond-yes}
 use Rattle.rows.specs.Rows.{wordAt, rowsFrom, readRows, signed}
 use Rattle.tables.specs.Columns.{objectRow}
 use Rattle.schema.proofs.Rows.{length-rows, row-used}

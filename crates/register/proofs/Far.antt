@@ -6,8 +6,9 @@ use mathlib.Core.Bool.{Bool, true, false, _&&_, not, cond}
 use mathlib.Core.List.{List, [], _∷_}
 use mathlib.Core.Option.{none, some, Option·map}
 use native.Mathlib.Nat.{le-refl, eq-or-lt-of-le}
+use native.Mathlib.Numerals.{add-one}
 use native.Mathlib.Omega.{arith}
-use lib.Dec.{T, leb, eqb}
+use lib.Dec.{T, leb, ltb, eqb}
 use lib.ListN.{getD}
 use mir.Facts.{not-T, and-yes, yes-and, leb-yes, yes-leb, eqb-yes, yes-eqb}
 use Rattle.meaning.specs.Lists.{before, first}
@@ -15,12 +16,18 @@ use Rattle.meaning.specs.Schema.{forward}
 use Rattle.meaning.specs.Register.{Object, Link, linkKey, nearEnd, farEnd, startsAt, farEnds}
 use Rattle.rows.specs.Rows.{readRows}
 use Rattle.tables.specs.Columns.{linkRow}
+use Rattle.tables.specs.Refusals.{foundOf}
+use Rattle.tables.specs.declared.Found.{Found}
 use Rattle.schema.proofs.Scan.{Passed, passed-none}
 use Rattle.register.specs.Tables.{linksWith, LinksAscend}
 use Rattle.register.specs.Places.{LowerBound}
 use Rattle.register.proofs.Hits.{alone, firstHit, missed-one, missed-to, hit-at, hit-none, first-row, first-kept}
 use Rattle.register.proofs.Keys.{target-below, target-above, source-below, source-above, same-relationship, same-source}
 use Rattle.register.proofs.Places.{ordered}
+
+-- above a number is from the next one on
+pub above : (l : List ℕ) (after : ℕ) {r : Found} → r ≡ foundOf (first (leb (after + 1)) l) → r ≡ foundOf (first (ltb after) l)
+above l after {r} e = subst (λ m. r ≡ foundOf (first (leb m) l)) (add-one after) e
 
 -- ---- the links of a role
 
@@ -106,7 +113,7 @@ module _ (role u least : ℕ) where
       target-from : (l : Link) → Reached l → least ≤ l .target
       target-from l q = subst (λ v. least ≤ cond v (l .target) (l .source)) f (q .far-from)
 
-      to-place : Passed (alone reaches L) L n r
+      to-place : Passed (alone reaches) L n r
       to-place =
           missed-to reaches L n r (b .within)
           (λ i h.
@@ -142,12 +149,12 @@ module _ (role u least : ℕ) where
       source-from : (l : Link) → Reached l → least ≤ l .source
       source-from l q = subst (λ v. least ≤ cond v (l .target) (l .source)) f (q .far-from)
 
-      pub walk-start : Passed (alone reaches L) L n r
+      pub walk-start : Passed (alone reaches) L n r
       walk-start =
           missed-to reaches L n r (b .within)
           (λ i h. missed (L i) (λ q. omega (arith, source-from (L i) q, source-below (L i) (role / 2) least (b .below i h) (q .relationship-is))))
 
-      module _ {i : ℕ} (p : Passed (alone reaches L) L n i) (l : r ≤ i) (m : i < n) where
+      module _ {i : ℕ} (p : Passed (alone reaches) L n i) (l : r ≤ i) (m : i < n) where
         pub walk-found : (L i) .relationship ≡ role / 2 → (L i) .target ≡ u → firstHit reaches L n ≡ some i
         walk-found e t =
             hit-at reaches L n p m
@@ -158,7 +165,7 @@ module _ (role u least : ℕ) where
               far-from = subst (λ v. least ≤ cond v ((L i) .target) ((L i) .source)) (sym f) (source-above (L i) (role / 2) least 0 (b .above i l m) e);
             }))
 
-        pub walk-on : ((L i) .target ≡ u → ⊥) → Passed (alone reaches L) L n (i + 1)
+        pub walk-on : ((L i) .target ≡ u → ⊥) → Passed (alone reaches) L n (i + 1)
         walk-on d = missed-one reaches L n p m (missed (L i) (λ q. d (target-is (L i) q)))
 
         pub walk-end : ((L i) .relationship ≡ role / 2 → ⊥) → firstHit reaches L n ≡ none

@@ -2,7 +2,7 @@
 use Prim.Native.Nat.{ℕ, zero, suc, _+_, _-_, _≤_, _<_}
 use mathlib.Core.Path.{_≡_, refl, ap, subst, _∙_}
 use mathlib.Core.Logic.{_⊎_, inl, inr, ⊎-elim}
-use mathlib.Core.Bool.{Bool, true, false, _&&_, not, cond}
+use mathlib.Core.Bool.{Bool, true, false, _&&_, _||_, not, cond}
 use mathlib.Core.List.{List, [], _∷_, map}
 use mathlib.Core.Option.{Option, none, some, Option·map}
 use native.Mathlib.Nat.{le-refl}
@@ -10,7 +10,7 @@ use native.Mathlib.Numerals.{add-one}
 use native.Mathlib.Omega.{arith}
 use lib.Dec.{T, ltb}
 use mir.Facts.{ltb-yes, ltb-no}
-use Rattle.meaning.specs.Lists.{keep, first, faultFrom, firstFault}
+use Rattle.meaning.specs.Lists.{any, keep, first, holds, faultFrom, firstFault}
 use Rattle.meaning.proofs.Lists.{decide}
 use Rattle.rows.specs.Rows.{rowsFrom, readRows}
 use Rattle.schema.proofs.Scan.{Passed, passed-none, passed-more, passed-found, passed-all}
@@ -23,29 +23,29 @@ T-false : (b : Bool) → T (not b) → b ≡ false
 T-false true t = absurd t
 T-false false t = refl
 
-module _ {A : Type 0} (hit : A → Bool) (read : ℕ → A) where
-  -- a row is judged by itself
-  abbrev pub alone : ℕ → Option A → A → Bool
-  alone m previous x = hit x
+-- a row is judged by itself
+abbrev pub alone : {A : Type 0} → (A → Bool) → ℕ → Option A → A → Bool
+alone hit m previous x = hit x
 
+module _ {A : Type 0} (hit : A → Bool) (read : ℕ → A) where
   -- the first of n rows that passes the test
   abbrev pub firstHit : ℕ → Option ℕ
-  firstHit n = firstFault alone (readRows read n)
+  firstHit n = firstFault (alone hit) (readRows read n)
 
   module _ (n : ℕ) where
-    pub missed-one : {i : ℕ} → Passed alone read n i → i < n → T (not (hit (read i))) → Passed alone read n (i + 1)
-    missed-one {i} p h t = passed-more alone read n p h (T-false (hit (read i)) t)
+    pub missed-one : {i : ℕ} → Passed (alone hit) read n i → i < n → T (not (hit (read i))) → Passed (alone hit) read n (i + 1)
+    missed-one {i} p h t = passed-more (alone hit) read n p h (T-false (hit (read i)) t)
 
     -- rows that do not pass the test are passed over
-    missed-on : (i d : ℕ) → Passed alone read n i → i + d ≤ n → ((j : ℕ) → i ≤ j → j < n → T (not (hit (read j)))) → Passed alone read n (i + d)
-    missed-on i zero p h miss = subst (Passed alone read n) (omega arith) p
+    missed-on : (i d : ℕ) → Passed (alone hit) read n i → i + d ≤ n → ((j : ℕ) → i ≤ j → j < n → T (not (hit (read j)))) → Passed (alone hit) read n (i + d)
+    missed-on i zero p h miss = subst (Passed (alone hit) read n) (omega arith) p
     missed-on i (suc d) p h miss =
-        subst (Passed alone read n) (omega arith)
+        subst (Passed (alone hit) read n) (omega arith)
         (missed-one (missed-on i d p (omega arith) miss) (omega arith) (miss (i + d) (omega arith) (omega arith)))
 
     -- the rows before row i are passed, and none from there on passes the test
-    pub hit-none : {i : ℕ} → Passed alone read n i → ((j : ℕ) → i ≤ j → j < n → T (not (hit (read j)))) → firstHit n ≡ none
-    hit-none {i} p miss = ⊎-elim (λ h. passed-all alone read n p (ltb-no h)) ends (flip (decide (ltb i n)))
+    pub hit-none : {i : ℕ} → Passed (alone hit) read n i → ((j : ℕ) → i ≤ j → j < n → T (not (hit (read j)))) → firstHit n ≡ none
+    hit-none {i} p miss = ⊎-elim (λ h. passed-all (alone hit) read n p (ltb-no h)) ends (flip (decide (ltb i n)))
       where
         flip : {B C : Type 0} → B ⊎ C → C ⊎ B
         flip (inl b) = inr b
@@ -54,29 +54,45 @@ module _ {A : Type 0} (hit : A → Bool) (read : ℕ → A) where
         ends : T (ltb i n) → firstHit n ≡ none
         ends h =
             let l : i < n = ltb-yes h in
-            passed-all alone read n (missed-on i (n - i) p (omega arith) miss) (omega arith)
+            passed-all (alone hit) read n (missed-on i (n - i) p (omega arith) miss) (omega arith)
 
-    pub hit-at : {i : ℕ} → Passed alone read n i → i < n → T (hit (read i)) → firstHit n ≡ some i
-    hit-at {i} p h t = passed-found alone read n p h (T-true (hit (read i)) t)
+    pub hit-at : {i : ℕ} → Passed (alone hit) read n i → i < n → T (hit (read i)) → firstHit n ≡ some i
+    hit-at {i} p h t = passed-found (alone hit) read n p h (T-true (hit (read i)) t)
 
-  pub missed-to : (n i : ℕ) → i ≤ n → ((j : ℕ) → j < i → T (not (hit (read j)))) → Passed alone read n i
-  missed-to n zero h miss = passed-none alone read n
+  pub missed-to : (n i : ℕ) → i ≤ n → ((j : ℕ) → j < i → T (not (hit (read j)))) → Passed (alone hit) read n i
+  missed-to n zero h miss = passed-none (alone hit) read n
   missed-to n (suc i) h miss =
-      subst (Passed alone read n) (add-one i)
+      subst (Passed (alone hit) read n) (add-one i)
       (missed-one n (missed-to n i (omega arith) (λ j l. miss j (omega arith))) h (miss i (le-refl (suc i))))
 
 module _ {A : Type 0} (hit : A → Bool) where
-  first-from : (read : ℕ → A) (j n : ℕ) (previous : Option A) → first hit (rowsFrom read j n) ≡ Option·map read (faultFrom (alone hit read) j previous (rowsFrom read j n))
+  first-from : (read : ℕ → A) (j n : ℕ) (previous : Option A) → first hit (rowsFrom read j n) ≡ Option·map read (faultFrom (alone hit) j previous (rowsFrom read j n))
   first-from read j zero previous = refl
   first-from read j (suc n) previous = step (hit (read j)) (first-from read (suc j) n (some (read j)))
     where
-      step : (b : Bool) → first hit (rowsFrom read (suc j) n) ≡ Option·map read (faultFrom (alone hit read) (suc j) (some (read j)) (rowsFrom read (suc j) n)) → cond b (some (read j)) (first hit (rowsFrom read (suc j) n)) ≡ Option·map read (cond b (some j) (faultFrom (alone hit read) (suc j) (some (read j)) (rowsFrom read (suc j) n)))
+      step : (b : Bool) → first hit (rowsFrom read (suc j) n) ≡ Option·map read (faultFrom (alone hit) (suc j) (some (read j)) (rowsFrom read (suc j) n)) → cond b (some (read j)) (first hit (rowsFrom read (suc j) n)) ≡ Option·map read (cond b (some j) (faultFrom (alone hit) (suc j) (some (read j)) (rowsFrom read (suc j) n)))
       step true below = refl
       step false below = below
 
   -- the first element that passes the test is that of the first row
   pub first-row : (read : ℕ → A) (n : ℕ) → first hit (readRows read n) ≡ Option·map read (firstHit hit read n)
   first-row read n = first-from read 0 n none
+
+  -- some element passes the test where some row does
+  pub any-row : (read : ℕ → A) (n : ℕ) → any hit (readRows read n) ≡ holds (λ i. true) (firstHit hit read n)
+  any-row read n = any-first (readRows read n) ∙ ap (holds (λ x. true)) (first-row read n) ∙ there (firstHit hit read n)
+    where
+      any-first : (l : List A) → any hit l ≡ holds (λ x. true) (first hit l)
+      any-first [] = refl
+      any-first (x ∷ xs) = step (hit x) (any-first xs)
+        where
+          step : (b : Bool) → any hit xs ≡ holds (λ x. true) (first hit xs) → (b || any hit xs) ≡ holds (λ x. true) (cond b (some x) (first hit xs))
+          step true below = refl
+          step false below = below
+
+      there : (o : Option ℕ) → holds (λ x. true) (Option·map read o) ≡ holds (λ i. true) o
+      there none = refl
+      there (some i) = refl
 
 -- the first value, of the elements that are kept, that passes a test
 pub first-kept : {A B : Type 0} (p : A → Bool) (f : A → B) (q : B → Bool) (l : List A) → first q (map f (keep p l)) ≡ Option·map f (first (λ x. p x && q (f x)) l)

@@ -9,14 +9,14 @@ use mir.Facts.{eqb-yes}
 use borrow.Author.Tests.{eq-eqb, ne-eqb}
 use Rattle.meaning.specs.Lists.{holds}
 use Rattle.meaning.specs.Schema.{Schema, under}
-use Rattle.meaning.specs.Register.{Object, Link, objectKey, linkKey, sameLink, objectAt, isUnder, objectFits, faultyObject, objectFault}
+use Rattle.meaning.specs.Register.{Object, Link, objectKey, linkKey, sameLink, objectAt, isUnder, hasLink, objectFits, faultyObject, objectFault}
 use Rattle.meaning.specs.Events.{linkOf}
 use Rattle.meaning.proofs.Order.{same-eq, rows-fit}
 use Rattle.rows.specs.Rows.{readRows}
 use Rattle.tables.specs.Columns.{objectRow, linkRow}
-use Rattle.register.specs.Tables.{objectsWith, ObjectsAscend, LinksAscend, objectPlace, linkPlace}
+use Rattle.register.specs.Tables.{objectsWith, linksWith, ObjectsAscend, LinksAscend, objectPlace, linkPlace}
 use Rattle.register.specs.Places.{LowerBound}
-use Rattle.register.proofs.Hits.{first-row}
+use Rattle.register.proofs.Hits.{first-row, any-row}
 use Rattle.register.proofs.Places.{place-hit, place-missed}
 
 module _ (objects : List ℕ) {n id r : ℕ} (b : LowerBound objectKey (objectRow objects) n (id ∷ []) r) (a : ObjectsAscend n objects) where
@@ -59,6 +59,11 @@ module _ (S : Schema) (n : ℕ) (objects : List ℕ) (ls : List Link) (id t : �
 
   pub under-missing : objectPlace n objects id ≡ none → isUnder S (objectsWith n objects ls) id t ≡ false
   under-missing e = under-row ∙ ap (λ o. holds (λ o. under S (o .type) t) (Option·map (objectRow objects) o)) e
+
+-- a link is there where it has a row
+pub link-there : (os : List Object) (n : ℕ) (links : List ℕ) (l : Link) → hasLink (linksWith os n links) l ≡ holds (λ i. true) (linkPlace n links l)
+unfolding hasLink
+link-there os n links l = any-row (sameLink l) (linkRow links) n
 
 -- objects of which none is faulty ascend
 pub objects-ascend : (S : Schema) (n : ℕ) (objects : List ℕ) (ls : List Link) → objectFault S (objectsWith n objects ls) ≡ none → ObjectsAscend n objects

@@ -3,10 +3,10 @@ use tables::Found;
 ghost use mathlib.Core.Path.{_≡_};
 ghost use mathlib.Core.Bool.{true, false};
 ghost use mathlib.Core.List.{List, [], _∷_};
-ghost use Prim.Native.Nat.{ℕ, _+_, _<_, _≤_};
+ghost use Prim.Native.Nat.{_+_, _<_};
 ghost use lib.Dec.{ltb, leb};
 ghost use lib.ListN.{drop};
-ghost use Rattle.meaning.specs.Limits.{cellCount, validId};
+ghost use Rattle.meaning.specs.Limits.{cellCount};
 ghost use Rattle.meaning.specs.Lists.{before, ascends, every, first, firstOf};
 ghost use Rattle.meaning.specs.Schema.{Relationship, forward};
 ghost use Rattle.meaning.specs.Register.{Object, Link, objectKey, linkKey, sameLink, isUnder, farEnds, isZero, objectFits, faultyObject, linkFits, faultyLink, objectFault, linkFault};
@@ -15,9 +15,12 @@ ghost use Rattle.rows.specs.Rows.{wordAt};
 ghost use Rattle.tables.specs.Columns.{objectRow, linkRow, schemaOf, registerOf};
 ghost use Rattle.tables.specs.Refusals.{foundOf};
 ghost use Rattle.schema.specs.Tables.{typesWith};
-ghost use Rattle.schema.specs.Before.{rowBefore};
+ghost use Rattle.schema.specs.Previous.{previousRow};
 ghost use Rattle.register.specs.Tables.{objectsWith, linksWith, ObjectsAscend, LinksAscend, objectPlace, linkPlace};
 ghost use Rattle.register.specs.Places.{LowerBound};
+
+// The largest word: no id is above it.
+const LARGEST: u32 = 0xFFFF_FFFF;
 
 // The id in an object's row.
 pub fn id_of(objects: &[u32], row: u32) -> u32
@@ -223,7 +226,7 @@ pub fn next_far(link_count: u32, links: &[u32], role: u32, u: u32, after: u32) -
     requires { ⌜ LinksAscend «link_count» (now links) ⌝ }
     ensures { λ r. ⌜ ((os : List Object) → r ≡ foundOf (first (λ y. ltb after y) (farEnds (linksWith os «link_count» (now (links .entry))) role u))) ⌝ }
 {
-    if after == 0xFFFF_FFFF {
+    if after == LARGEST {
         return Found::Nothing;
     }
     let least = after + 1;
@@ -276,7 +279,7 @@ fn object_fits(type_count: u32, types: &[u32], objects: &[u32], row: u32) -> boo
 
 // Whether an object's row comes after the one before it.
 fn object_ascends(objects: &[u32], row: u32) -> bool
-    ensures { λ r. ⌜ r ≡ ascends objectKey (rowBefore (objectRow (now (objects .entry))) row) (objectRow (now (objects .entry)) row) ⌝ }
+    ensures { λ r. ⌜ r ≡ ascends objectKey (previousRow (objectRow (now (objects .entry))) row) (objectRow (now (objects .entry)) row) ⌝ }
 {
     if row == 0 {
         return true;
@@ -286,7 +289,7 @@ fn object_ascends(objects: &[u32], row: u32) -> bool
 
 // Whether an object's row breaks refusal 5.
 fn faulty_object(type_count: u32, types: &[u32], objects: &[u32], row: u32) -> bool
-    ensures { λ r. ⌜ ((rs : List Relationship) → r ≡ faultyObject (typesWith «type_count» (now (types .entry)) rs) row (rowBefore (objectRow (now (objects .entry))) row) (objectRow (now (objects .entry)) row)) ⌝ }
+    ensures { λ r. ⌜ ((rs : List Relationship) → r ≡ faultyObject (typesWith «type_count» (now (types .entry)) rs) row (previousRow (objectRow (now (objects .entry))) row) (objectRow (now (objects .entry)) row)) ⌝ }
 {
     if object_ascends(objects, row) {
         !object_fits(type_count, types, objects, row)
@@ -352,7 +355,7 @@ fn link_fits(
 
 // Whether a link's row comes after the one before it.
 fn link_ascends(links: &[u32], row: u32) -> bool
-    ensures { λ r. ⌜ r ≡ ascends linkKey (rowBefore (linkRow (now (links .entry))) row) (linkRow (now (links .entry)) row) ⌝ }
+    ensures { λ r. ⌜ r ≡ ascends linkKey (previousRow (linkRow (now (links .entry))) row) (linkRow (now (links .entry)) row) ⌝ }
 {
     if row == 0 {
         return true;
@@ -378,7 +381,7 @@ fn faulty_link(
     row: u32,
 ) -> bool
     requires { ⌜ ObjectsAscend «object_count» (now objects) ⌝ }
-    ensures { λ r. ⌜ ((ls : List Link) → r ≡ faultyLink (schemaOf «type_count» (now (types .entry)) «relationship_count» (now (relationships .entry))) (objectsWith «object_count» (now (objects .entry)) ls) row (rowBefore (linkRow (now (links .entry))) row) (linkRow (now (links .entry)) row)) ⌝ }
+    ensures { λ r. ⌜ ((ls : List Link) → r ≡ faultyLink (schemaOf «type_count» (now (types .entry)) «relationship_count» (now (relationships .entry))) (objectsWith «object_count» (now (objects .entry)) ls) row (previousRow (linkRow (now (links .entry))) row) (linkRow (now (links .entry)) row)) ⌝ }
 {
     if link_ascends(links, row) {
         !link_fits(

@@ -6,7 +6,7 @@ use Rattle.meaning.specs.Lists.{firstOf}
 use Rattle.tables.specs.Refusals.{foundOf}
 use Rattle.tables.specs.declared.Found.{Found}
 use Rattle.tables.specs.declared.Found.the-variants.{At, Nothing}
-use Rattle.schema.specs.Tables.{firstFound}
+use Rattle.schema.specs.Founds.{firstFound}
 
 pub found-none : (o : Option ℕ) → Nothing ≡ foundOf o → o ≡ none
 found-none none e = refl

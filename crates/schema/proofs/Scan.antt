@@ -8,16 +8,16 @@ use native.Mathlib.Numerals.{add-one}
 use native.Mathlib.Omega.{arith}
 use Rattle.meaning.specs.Lists.{faultFrom, firstFault}
 use Rattle.rows.specs.Rows.{rowsFrom, readRows}
-use Rattle.schema.specs.Before.{rowBefore}
+use Rattle.schema.specs.Previous.{previousRow}
 
-pub row-before : {A : Type 0} (read : ℕ → A) (i : ℕ) → (i ≡ 0 → ⊥) → rowBefore read i ≡ some (read (i - 1))
-row-before read zero d = absurd (d refl)
-row-before read (suc i) d = let e : i ≡ suc i - 1 = omega arith in ap (λ j. some (read j)) e
+pub previous-row : {A : Type 0} (read : ℕ → A) (i : ℕ) → (i ≡ 0 → ⊥) → previousRow read i ≡ some (read (i - 1))
+previous-row read zero d = absurd (d refl)
+previous-row read (suc i) d = let e : i ≡ suc i - 1 = omega arith in ap (λ j. some (read j)) e
 
 module _ {A : Type 0} (faulty : ℕ → Option A → A → Bool) (read : ℕ → A) (n : ℕ) where
   -- what a scan of n rows finds from row i on
   unfoldable pub scan : ℕ → Option ℕ
-  scan i = faultFrom faulty i (rowBefore read i) (rowsFrom read i (n - i))
+  scan i = faultFrom faulty i (previousRow read i) (rowsFrom read i (n - i))
 
   -- the rows before row i are passed: none of them is faulty
   abbrev pub Passed : ℕ → Type 0
@@ -28,20 +28,20 @@ module _ {A : Type 0} (faulty : ℕ → Option A → A → Bool) (read : ℕ →
   passed-none = ap (λ m. faultFrom faulty 0 none (rowsFrom read 0 m)) (sym (sub-zero n))
 
   -- one row, and the rows after it
-  scan-step : (i : ℕ) → i < n → scan i ≡ cond (faulty i (rowBefore read i) (read i)) (some i) (scan (i + 1))
+  scan-step : (i : ℕ) → i < n → scan i ≡ cond (faulty i (previousRow read i) (read i)) (some i) (scan (i + 1))
   unfolding scan
   scan-step i h =
       let e : n - i ≡ suc (n - suc i) = omega arith in
-      rw add-one (ap (λ m. faultFrom faulty i (rowBefore read i) (rowsFrom read i m)) e)
+      rw add-one (ap (λ m. faultFrom faulty i (previousRow read i) (rowsFrom read i m)) e)
 
-  pub passed-more : {i : ℕ} → Passed i → i < n → faulty i (rowBefore read i) (read i) ≡ false → Passed (i + 1)
+  pub passed-more : {i : ℕ} → Passed i → i < n → faulty i (previousRow read i) (read i) ≡ false → Passed (i + 1)
   passed-more {i} p h e = p ∙ scan-step i h ∙ ap (λ b. cond b (some i) (scan (i + 1))) e
 
-  pub passed-found : {i : ℕ} → Passed i → i < n → faulty i (rowBefore read i) (read i) ≡ true → firstFault faulty (readRows read n) ≡ some i
+  pub passed-found : {i : ℕ} → Passed i → i < n → faulty i (previousRow read i) (read i) ≡ true → firstFault faulty (readRows read n) ≡ some i
   passed-found {i} p h e = p ∙ scan-step i h ∙ ap (λ b. cond b (some i) (scan (i + 1))) e
 
   pub passed-all : {i : ℕ} → Passed i → n ≤ i → firstFault faulty (readRows read n) ≡ none
   unfolding scan
   passed-all {i} p h =
       let e : n - i ≡ 0 = omega arith in
-      p ∙ ap (λ m. faultFrom faulty i (rowBefore read i) (rowsFrom read i m)) e
+      p ∙ ap (λ m. faultFrom faulty i (previousRow read i) (rowsFrom read i m)) e

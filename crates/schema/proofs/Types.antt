@@ -5,7 +5,6 @@ use mathlib.Core.Bool.{cond}
 use mathlib.Core.List.{List}
 use mathlib.Core.Option.{none}
 use lib.Dec.{ltb}
-use lib.ListN.{length}
 use Rattle.meaning.specs.Schema.{ObjectType, Relationship, knownType, knownRelationship, typeAt, parentOf, cellsOf, relationshipAt, sourceType, targetType}
 use Rattle.rows.specs.Rows.{wordAt}
 use Rattle.tables.specs.Columns.{typeRow, relationshipRow}

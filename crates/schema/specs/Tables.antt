@@ -4,8 +4,6 @@ use mathlib.Core.List.{List}
 use Rattle.meaning.specs.Schema.{ObjectType, Relationship, Schema}
 use Rattle.rows.specs.Rows.{readRows}
 use Rattle.tables.specs.Columns.{typeRow, relationshipRow}
-use Rattle.tables.specs.declared.Found.{Found}
-use Rattle.tables.specs.declared.Found.the-variants.{At, Nothing}
 
 abbrev pub typesWith : ℕ → List ℕ → List Relationship → Schema
 typesWith typeCount types relationships = record { types = readRows (typeRow types) typeCount; relationships = relationships }
@@ -13,8 +11,3 @@ typesWith typeCount types relationships = record { types = readRows (typeRow typ
 abbrev pub relationshipsWith : List ObjectType → ℕ → List ℕ → Schema
 relationshipsWith types relationshipCount relationships =
     record { types = types; relationships = readRows (relationshipRow relationships) relationshipCount }
-
--- the first of the two that is there
-abbrev pub firstFound : Found → Found → Found
-firstFound (At n) b = At n
-firstFound Nothing b = b

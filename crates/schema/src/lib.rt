@@ -11,7 +11,8 @@ ghost use Rattle.meaning.specs.Schema.{ObjectType, Relationship, parentOf, cell
 ghost use Rattle.rows.specs.Rows.{wordAt};
 ghost use Rattle.tables.specs.Columns.{typeRow, relationshipRow, schemaOf};
 ghost use Rattle.tables.specs.Refusals.{foundOf};
-ghost use Rattle.schema.specs.Tables.{typesWith, relationshipsWith, firstFound};
+ghost use Rattle.schema.specs.Tables.{typesWith, relationshipsWith};
+ghost use Rattle.schema.specs.Founds.{firstFound};
 
 // The word that stands for no parent.
 const NO_PARENT: u32 = 0xFFFF_FFFF;

@@ -1,17 +1,14 @@
+-- `register::check` meets its contract. Objects of which none is faulty ascend, so the links can be checked by search.
 use mathlib.Core.Path.{sym, _∙_}
 use denote.Ref.{now}
+use borrow.Author.Needs.{needs}
 use Rattle.meaning.specs.Schema.{Schema}
 use Rattle.meaning.specs.Register.{Register, objectFault, linkFault}
 use Rattle.tables.specs.Columns.{schemaOf, registerOf}
 use Rattle.schema.proofs.Founds.{found-none, found-first, found-second}
 use Rattle.register.proofs.Searches.{objects-ascend}
-use borrow.Author.Needs.{needs}
 use Rattle.register.proofs.check.Statement.{statement}
 use Rattle.register.proofs.check.Tie as tie
-use Rattle.register.proofs.check.Reads as reads
-use Rattle.register.proofs.check.Lts as lts
-use Rattle.register.proofs.link_fault.Reads as link-fault-reads
-use Rattle.register.proofs.object_fault.Reads as object-fault-reads
 
 abbrev S : tie.Start → Schema
 S c = schemaOf (c .args .type-count) (now (c .args .types)) (c .args .relationship-count) (now (c .args .relationships))
@@ -19,31 +16,25 @@ S c = schemaOf (c .args .type-count) (now (c .args .types)) (c .args .relationsh
 abbrev g : tie.Start → Register
 g c = registerOf (c .args .object-count) (now (c .args .objects)) (c .args .link-count) (now (c .args .links))
 
--- src/lib.rt:347:11
 object-fault-requires : tie.Need-object-fault-requires
 object-fault-requires c κs = search needs
 
--- src/lib.rt:348:19
 enum-known-row : tie.Need-enum-known-row
 enum-known-row c = search needs
 
--- src/lib.rt:349:27
 enum-told : tie.Need-enum-told
 enum-told c = search needs
 
--- src/lib.rt:349:27
 link-fault-requires : tie.Need-link-fault-requires
 link-fault-requires c κs =
     let start = c .before .before .before .before .before .before .before in
     objects-ascend (S start) (start .args .object-count) (now (start .args .objects)) (g start .links) (found-none _ (sym (c .enum-told .given .1) ∙ c .before .before .object-fault .ensures (S start .relationships) (g start .links)))
 
--- src/lib.rt:344:1
 returns : tie.Need-returns
 returns c =
     let start = c .before .before .before .before .before .before .before .before in
     found-first (objectFault (S start) (g start)) (linkFault (S start) (g start)) (sym (c .before .row .given .1) ∙ c .before .before .before .object-fault .ensures (S start .relationships) (g start .links))
 
--- src/lib.rt:344:1
 returns-2 : tie.Need-returns-2
 returns-2 c =
     let start = c .before .before .before .before .before .before .before .before in

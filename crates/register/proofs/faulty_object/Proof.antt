@@ -1,26 +1,19 @@
-use Rattle.meaning.specs.Register.{faultyObject}
+-- `register::faulty_object` meets its contract. Order and limits decide `faultyObject`.
 use borrow.Author.Needs.{needs}
+use Rattle.meaning.specs.Register.{faultyObject}
 use Rattle.register.proofs.faulty_object.Statement.{statement}
 use Rattle.register.proofs.faulty_object.Tie as tie
-use Rattle.register.proofs.faulty_object.Reads as reads
-use Rattle.register.proofs.faulty_object.Lts as lts
-use Rattle.register.proofs.object_ascends.Reads as object-ascends-reads
-use Rattle.register.proofs.object_fits.Reads as object-fits-reads
 
--- src/lib.rt:267:8
 object-ascends-requires : tie.Need-object-ascends-requires
 object-ascends-requires c κs = search needs
 
--- src/lib.rt:268:10
 object-fits-requires : tie.Need-object-fits-requires
 object-fits-requires c κs = search needs
 
--- src/lib.rt:264:1
 returns : tie.Need-returns
 unfolding faultyObject
 returns c = λ rs. rw (← c .before .before .object-ascends .ensures, c .before .if1 .taken, ← c .object-fits .ensures rs)
 
--- src/lib.rt:264:1
 returns-2 : tie.Need-returns-2
 unfolding faultyObject
 returns-2 c = λ rs. rw (← c .before .object-ascends .ensures, c .if1 .left)

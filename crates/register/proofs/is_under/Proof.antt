@@ -1,39 +1,29 @@
+-- `register::is_under` meets its contract. The object is that of the row that the search finds.
 use mathlib.Core.Path.{sym, ap, _∙_}
 use denote.Ref.{now}
+use borrow.Author.Needs.{needs}
 use Rattle.meaning.specs.Schema.{under}
 use Rattle.schema.specs.Tables.{typesWith}
 use Rattle.schema.proofs.Founds.{found-none, found-some}
 use Rattle.register.proofs.Searches.{under-found, under-missing}
-use borrow.Author.Needs.{needs}
 use Rattle.register.proofs.is_under.Statement.{statement}
 use Rattle.register.proofs.is_under.Tie as tie
-use Rattle.register.proofs.is_under.Reads as reads
-use Rattle.register.proofs.is_under.Lts as lts
-use Rattle.register.proofs.object_row.Reads as object-row-reads
-use Rattle.register.proofs.type_of.Reads as type-of-reads
-use Rattle.schema.proofs.under.Reads as under-reads
 
--- src/lib.rt:158:11
 object-row-requires : tie.Need-object-row-requires
 object-row-requires c κs = search needs
 
--- src/lib.rt:159:19
 enum-known-row : tie.Need-enum-known-row
 enum-known-row c = search needs
 
--- src/lib.rt:159:60
 type-of-requires : tie.Need-type-of-requires
 type-of-requires c κs = search needs
 
--- src/lib.rt:159:27
 under-requires : tie.Need-under-requires
 under-requires c κs = search needs
 
--- src/lib.rt:160:27
 enum-told : tie.Need-enum-told
 enum-told c = search needs
 
--- src/lib.rt:154:1
 returns : tie.Need-returns
 returns c =
     let start = c .before .before .before .before .before .before .before .before .args in
@@ -42,7 +32,6 @@ returns c =
     ∙ ap (λ x. under (typesWith (start .type-count) (now (start .types)) rs) x (start .t)) (c .before .type-of .ensures)
     ∙ sym (under-found _ (start .object-count) (now (start .objects)) ls (start .id) (start .t) (found-some _ (sym (c .before .before .before .row .given .1) ∙ c .before .before .before .before .before .object-row .ensures)))
 
--- src/lib.rt:154:1
 returns-2 : tie.Need-returns-2
 returns-2 c =
     let start = c .before .before .before .before .before .args in

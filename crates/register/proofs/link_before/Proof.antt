@@ -1,39 +1,29 @@
+-- `register::link_before` meets its contract. The first number in which the keys differ decides.
 use mathlib.Core.Path.{sym}
 use native.Mathlib.Nat.{le-of-eq}
 use borrow.Author.Tests.{le-ltb, eq-eqb, ne-eqb}
-use Rattle.schema.proofs.Tests.{and-false, or-false}
 use borrow.Author.Needs.{needs}
+use Rattle.schema.proofs.Tests.{and-false, or-false}
 use Rattle.register.proofs.link_before.Statement.{statement}
 use Rattle.register.proofs.link_before.Tie as tie
-use Rattle.register.proofs.link_before.Reads as reads
-use Rattle.register.proofs.link_before.Lts as lts
-use Rattle.register.proofs.relationship_of.Reads as relationship-of-reads
-use Rattle.register.proofs.source_of.Reads as source-of-reads
-use Rattle.register.proofs.target_of.Reads as target-of-reads
 
--- src/lib.rt:69:9
 relationship-of-requires : tie.Need-relationship-of-requires
 relationship-of-requires c κs = search needs
 
--- src/lib.rt:71:9
 returns : tie.Need-returns
 returns c = simp (← c .before .relationship-of .ensures, ne-eqb _ _ (c .if1 .taken), or-false)
 
--- src/lib.rt:73:9
 source-of-requires : tie.Need-source-of-requires
 source-of-requires c κs = search needs
 
--- src/lib.rt:75:9
 returns-2 : tie.Need-returns-2
 returns-2 c =
     let alike = c .before .before .if1 .left in
     simp (← c .before .before .before .relationship-of .ensures, le-ltb _ _ (le-of-eq (sym alike)), eq-eqb _ _ alike, ← c .before .source-of .ensures, ne-eqb _ _ (c .if2 .taken), or-false)
 
--- src/lib.rt:77:5
 target-of-requires : tie.Need-target-of-requires
 target-of-requires c κs = search needs
 
--- src/lib.rt:66:1
 returns-3 : tie.Need-returns-3
 returns-3 c =
     let sources = c .before .if2 .left in

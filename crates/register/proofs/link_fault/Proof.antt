@@ -1,3 +1,4 @@
+-- `register::link_fault` meets its contract. The invariant: the links before the row are passed. The measure is what is left of them.
 use Prim.Native.Nat.{_-_}
 use mathlib.Core.Path.{sym, _∙_}
 use native.Mathlib.Omega.{arith}
@@ -6,9 +7,6 @@ use Rattle.tables.specs.Columns.{linkRow, schemaOf, registerOf}
 use Rattle.schema.proofs.Scan.{Passed, passed-none, passed-more, passed-found, passed-all}
 use Rattle.register.proofs.link_fault.Statement.{statement}
 use Rattle.register.proofs.link_fault.Tie as tie
-use Rattle.register.proofs.link_fault.Reads as reads
-use Rattle.register.proofs.link_fault.Lts as lts
-use Rattle.register.proofs.faulty_link.Reads as faulty-link-reads
 
 abbrev Inv-loop : tie.InvT-loop
 Inv-loop type-count types relationship-count relationships object-count objects link-count links row₀ row =
@@ -17,32 +15,25 @@ Inv-loop type-count types relationship-count relationships object-count objects 
 abbrev μ-loop : tie.MeasureT-loop
 μ-loop type-count types relationship-count relationships object-count objects link-count links row₀ row = link-count - row
 
--- src/lib.rt:334:5
 loop-holds : tie.Need-loop-holds Inv-loop μ-loop
 loop-holds c = passed-none _ _ _
 
--- src/lib.rt:335:12
 faulty-link-requires : tie.Need-faulty-link-requires Inv-loop μ-loop
 faulty-link-requires c κs = c .before .before .before .before .before .before .pre
 
--- src/lib.rt:336:13
 returns : tie.Need-returns Inv-loop μ-loop
 unfolding linkFault
 returns c = rw (passed-found _ _ _ (c .before .before .before .loop .inv) (c .before .before .loop-test .taken) (sym (c .before .faulty-link .ensures _) ∙ c .if1 .taken))
 
--- src/lib.rt:338:9
 add-row : tie.Need-add-row Inv-loop μ-loop
 add-row c = omega arith
 
--- src/lib.rt:334:5
 loop-less : tie.Need-loop-less Inv-loop μ-loop
 loop-less c = omega arith
 
--- src/lib.rt:334:5
 loop-again : tie.Need-loop-again Inv-loop μ-loop
 loop-again c = passed-more _ _ _ (c .before .before .before .loop .inv) (c .before .before .loop-test .taken) (sym (c .before .faulty-link .ensures _) ∙ c .if1 .left)
 
--- src/lib.rt:329:1
 returns-2 : tie.Need-returns-2 Inv-loop μ-loop
 unfolding linkFault
 returns-2 c = rw (passed-all _ _ _ (c .before .loop .inv) (c .loop-test .left))

@@ -1,60 +1,44 @@
+-- `register::link_fits` meets its contract. Each return has met the tests that decide `linkFits`.
 use denote.Ref.{now}
 use borrow.Author.Tests.{lt-ltb, le-ltb}
+use borrow.Author.Needs.{needs}
 use Rattle.meaning.specs.Schema.{Schema}
 use Rattle.meaning.specs.Register.{linkFits}
 use Rattle.tables.specs.Columns.{schemaOf}
 use Rattle.schema.proofs.Types.{relationship-known}
-use borrow.Author.Needs.{needs}
 use Rattle.register.proofs.link_fits.Statement.{statement}
 use Rattle.register.proofs.link_fits.Tie as tie
-use Rattle.register.proofs.link_fits.Reads as reads
-use Rattle.register.proofs.link_fits.Lts as lts
-use Rattle.register.proofs.is_under.Reads as is-under-reads
-use Rattle.register.proofs.relationship_of.Reads as relationship-of-reads
-use Rattle.register.proofs.source_of.Reads as source-of-reads
-use Rattle.register.proofs.target_of.Reads as target-of-reads
-use Rattle.schema.proofs.source_type.Reads as source-type-reads
-use Rattle.schema.proofs.target_type.Reads as target-type-reads
 
 abbrev S : tie.After-shared-slice-known4 → Schema
 S c =
     let start = c .before .before .before .before .args in
     schemaOf (start .type-count) (now (start .types)) (start .relationship-count) (now (start .relationships))
 
--- src/lib.rt:293:9
 relationship-of-requires : tie.Need-relationship-of-requires
 relationship-of-requires c κs = search needs
 
--- src/lib.rt:295:9
 returns : tie.Need-returns
 unfolding linkFits
 returns c = λ ls. simp (← c .before .relationship-of .ensures, relationship-known, le-ltb _ _ (c .if1 .taken))
 
--- src/lib.rt:297:9
 source-type-requires : tie.Need-source-type-requires
 source-type-requires c κs = search needs
 
--- src/lib.rt:298:59
 source-of-requires : tie.Need-source-of-requires
 source-of-requires c κs = search needs
 
--- src/lib.rt:298:8
 is-under-requires : tie.Need-is-under-requires
 is-under-requires c κs = search needs
 
--- src/lib.rt:299:13
 target-type-requires : tie.Need-target-type-requires
 target-type-requires c κs = search needs
 
--- src/lib.rt:300:60
 target-of-requires : tie.Need-target-of-requires
 target-of-requires c κs = search needs
 
--- src/lib.rt:300:9
 is-under-requires-2 : tie.Need-is-under-requires-2
 is-under-requires-2 c κs = search needs
 
--- src/lib.rt:289:1
 returns-2 : tie.Need-returns-2
 unfolding linkFits
 returns-2 c =
@@ -65,7 +49,6 @@ returns-2 c =
     (← known .before .relationship-of .ensures, relationship-known, lt-ltb _ _ (known .if1 .left), ← c .before .before .before .before .before .before .source-type .ensures (g .types), ← c .before .before .before .before .before .source-of .ensures, ← c .before .before .before .before .is-under .ensures (g .relationships) ls, c .before .before .before .if2 .taken)
     (rw (← c .before .before .target-type .ensures (g .types), ← c .before .target-of .ensures) (c .is-under2 .ensures (g .relationships) ls))
 
--- src/lib.rt:289:1
 returns-3 : tie.Need-returns-3
 unfolding linkFits
 returns-3 c =

@@ -1,33 +1,25 @@
+-- `register::link_row` meets its contract. At its place stands the link, or it is not there.
 use mathlib.Core.Path.{sym, _∙_}
 use native.Mathlib.Omega.{arith}
-use Rattle.register.proofs.Searches.{link-found, link-missing}
 use borrow.Author.Needs.{needs}
+use Rattle.register.proofs.Searches.{link-found, link-missing}
 use Rattle.register.proofs.link_row.Statement.{statement}
 use Rattle.register.proofs.link_row.Tie as tie
-use Rattle.register.proofs.link_row.Reads as reads
-use Rattle.register.proofs.link_row.Lts as lts
-use Rattle.register.proofs.is_link.Reads as is-link-reads
-use Rattle.register.proofs.link_place.Reads as link-place-reads
 
--- src/lib.rt:146:9
 link-place-requires : tie.Need-link-place-requires
 link-place-requires c κs = search needs
 
--- src/lib.rt:148:9
 returns : tie.Need-returns
 returns c = rw (link-missing _ (c .before .link-place .ensures) (c .before .before .before .pre) (λ h. absurd (omega arith)))
 
--- src/lib.rt:150:8
 is-link-requires : tie.Need-is-link-requires
 is-link-requires c κs = search needs
 
--- src/lib.rt:142:1
 returns-2 : tie.Need-returns-2
 returns-2 c =
     let place = c .before .before .before in
     rw (link-found _ (place .link-place .ensures) (place .before .before .pre) (c .before .before .if1 .left) (sym (c .before .is-link .ensures) ∙ c .if2 .taken))
 
--- src/lib.rt:142:1
 returns-3 : tie.Need-returns-3
 returns-3 c =
     let place = c .before .before .before in

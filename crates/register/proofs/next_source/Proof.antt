@@ -1,3 +1,4 @@
+-- `register::next_source` meets its contract. The invariant: the rows before this one are passed. The measure is what is left of them.
 use Prim.Native.Nat.{_-_, _≤_}
 use mathlib.Core.Path.{sym, ap, _∙_}
 use native.Mathlib.Nat.{le-refl}
@@ -10,35 +11,25 @@ use Rattle.register.proofs.Hits.{alone}
 use Rattle.register.proofs.Far.{reaches, far-source, far-none, walk-start, walk-found, walk-on, walk-end}
 use Rattle.register.proofs.next_source.Statement.{statement}
 use Rattle.register.proofs.next_source.Tie as tie
-use Rattle.register.proofs.next_source.Reads as reads
-use Rattle.register.proofs.next_source.Lts as lts
-use Rattle.register.proofs.link_place.Reads as link-place-reads
-use Rattle.register.proofs.relationship_of.Reads as relationship-of-reads
-use Rattle.register.proofs.source_of.Reads as source-of-reads
-use Rattle.register.proofs.target_of.Reads as target-of-reads
 
 abbrev Inv-loop : tie.InvT-loop
 Inv-loop link-count links role u least row₀ row =
-    (row₀ ≤ row) × Passed (alone (reaches role u least) (linkRow links)) (linkRow links) link-count row
+    (row₀ ≤ row) × Passed (alone (reaches role u least)) (linkRow links) link-count row
 
 abbrev μ-loop : tie.MeasureT-loop
 μ-loop link-count links role u least row₀ row = link-count - row
 
--- src/lib.rt:184:9
 link-place-requires : tie.Need-link-place-requires Inv-loop μ-loop
 link-place-requires c κs = c .before .pre .0
 
--- src/lib.rt:185:5
 loop-holds : tie.Need-loop-holds Inv-loop μ-loop
 loop-holds c =
     let start = c .before .before in
     (le-refl (c .link-place .result), walk-start (start .args .role) (start .args .u) (start .args .least) (start .args .link-count) (now (start .args .links)) (start .pre .0) (start .pre .1) (c .link-place .ensures))
 
--- src/lib.rt:186:12
 relationship-of-requires : tie.Need-relationship-of-requires Inv-loop μ-loop
 relationship-of-requires c κs = tt
 
--- src/lib.rt:187:13
 returns : tie.Need-returns Inv-loop μ-loop
 returns c =
     let start = c .before .before .before .before .before .before in
@@ -48,15 +39,12 @@ returns c =
     (far-none (start .args .role) (start .args .u) (start .args .least) os (start .args .link-count) (now (start .args .links))
     (walk-end (start .args .role) (start .args .u) (start .args .least) (start .args .link-count) (now (start .args .links)) (start .pre .0) (start .pre .1) (c .before .before .before .before .link-place .ensures) (turn .1) (turn .0) (c .before .before .loop-test .taken) (λ e. c .if1 .taken (c .before .relationship-of .ensures ∙ e))))
 
--- src/lib.rt:189:12
 target-of-requires : tie.Need-target-of-requires Inv-loop μ-loop
 target-of-requires c κs = tt
 
--- src/lib.rt:190:30
 source-of-requires : tie.Need-source-of-requires Inv-loop μ-loop
 source-of-requires c κs = tt
 
--- src/lib.rt:190:13
 returns-2 : tie.Need-returns-2 Inv-loop μ-loop
 returns-2 c =
     let start = c .before .before .before .before .before .before .before .before .before in
@@ -67,15 +55,12 @@ returns-2 c =
     (walk-found (start .args .role) (start .args .u) (start .args .least) (start .args .link-count) (now (start .args .links)) (start .pre .0) (start .pre .1) (c .before .before .before .before .before .before .before .link-place .ensures) (turn .1) (turn .0) (c .before .before .before .before .before .loop-test .taken) (sym (c .before .before .before .before .relationship-of .ensures) ∙ c .before .before .before .if1 .left) (sym (c .before .before .target-of .ensures) ∙ c .before .if2 .taken)))
     (ap At (c .source-of .ensures))
 
--- src/lib.rt:192:9
 add-row : tie.Need-add-row Inv-loop μ-loop
 add-row c = omega arith
 
--- src/lib.rt:185:5
 loop-less : tie.Need-loop-less Inv-loop μ-loop
 loop-less c = omega arith
 
--- src/lib.rt:185:5
 loop-again : tie.Need-loop-again Inv-loop μ-loop
 loop-again c =
     let start = c .before .before .before .before .before .before .before .before in
@@ -84,7 +69,6 @@ loop-again c =
       walk-on (start .args .role) (start .args .u) (start .args .least) (start .args .link-count) (now (start .args .links)) (start .pre .0) (start .pre .1) (c .before .before .before .before .before .before .link-place .ensures) (turn .1) (turn .0) (c .before .before .before .before .loop-test .taken) (λ e. c .if2 .left (c .before .target-of .ensures ∙ e)),
     )
 
--- src/lib.rt:180:1
 returns-3 : tie.Need-returns-3 Inv-loop μ-loop
 returns-3 c =
     let start = c .before .before .before .before in

@@ -1,3 +1,4 @@
+-- `register::object_fault` meets its contract. The invariant: the objects before the row are passed. The measure is what is left of them.
 use Prim.Native.Nat.{_-_}
 use mathlib.Core.Path.{sym, _∙_}
 use mathlib.Core.List.{List}
@@ -9,9 +10,6 @@ use Rattle.schema.specs.Tables.{typesWith}
 use Rattle.schema.proofs.Scan.{Passed, passed-none, passed-more, passed-found, passed-all}
 use Rattle.register.proofs.object_fault.Statement.{statement}
 use Rattle.register.proofs.object_fault.Tie as tie
-use Rattle.register.proofs.object_fault.Reads as reads
-use Rattle.register.proofs.object_fault.Lts as lts
-use Rattle.register.proofs.faulty_object.Reads as faulty-object-reads
 
 abbrev Inv-loop : tie.InvT-loop
 Inv-loop type-count types object-count objects row₀ row =
@@ -20,32 +18,25 @@ Inv-loop type-count types object-count objects row₀ row =
 abbrev μ-loop : tie.MeasureT-loop
 μ-loop type-count types object-count objects row₀ row = object-count - row
 
--- src/lib.rt:279:5
 loop-holds : tie.Need-loop-holds Inv-loop μ-loop
 loop-holds c = λ rs. passed-none _ _ _
 
--- src/lib.rt:280:12
 faulty-object-requires : tie.Need-faulty-object-requires Inv-loop μ-loop
 faulty-object-requires c κs = tt
 
--- src/lib.rt:281:13
 returns : tie.Need-returns Inv-loop μ-loop
 unfolding objectFault
 returns c = λ rs ls. rw (passed-found _ _ _ (c .before .before .before .loop .inv rs) (c .before .before .loop-test .taken) (sym (c .before .faulty-object .ensures rs) ∙ c .if1 .taken))
 
--- src/lib.rt:283:9
 add-row : tie.Need-add-row Inv-loop μ-loop
 add-row c = omega arith
 
--- src/lib.rt:279:5
 loop-less : tie.Need-loop-less Inv-loop μ-loop
 loop-less c = omega arith
 
--- src/lib.rt:279:5
 loop-again : tie.Need-loop-again Inv-loop μ-loop
 loop-again c = λ rs. passed-more _ _ _ (c .before .before .before .loop .inv rs) (c .before .before .loop-test .taken) (sym (c .before .faulty-object .ensures rs) ∙ c .if1 .left)
 
--- src/lib.rt:275:1
 returns-2 : tie.Need-returns-2 Inv-loop μ-loop
 unfolding objectFault
 returns-2 c = λ rs ls. rw (passed-all _ _ _ (c .before .loop .inv rs) (c .loop-test .left))

@@ -1,21 +1,16 @@
+-- `register::object_fits` meets its contract. Each return has met the tests that decide `objectFits`.
 use Prim.Native.Nat.{ℕ, _≤_, _<_}
 use mathlib.Core.Path.{_≡_}
 use native.Mathlib.Omega.{arith}
 use borrow.Author.Tests.{lt-ltb, le-ltb, le-leb, lt-leb}
+use borrow.Author.Needs.{needs}
 use Rattle.meaning.specs.Limits.{validId}
 use Rattle.meaning.specs.Register.{objectFits}
 use Rattle.schema.proofs.Tests.{and-false}
 use Rattle.schema.proofs.Types.{type-known}
 use Rattle.register.proofs.Cells.{row-cells}
-use borrow.Author.Needs.{needs}
 use Rattle.register.proofs.object_fits.Statement.{statement}
 use Rattle.register.proofs.object_fits.Tie as tie
-use Rattle.register.proofs.object_fits.Reads as reads
-use Rattle.register.proofs.object_fits.Lts as lts
-use Rattle.register.proofs.id_of.Reads as id-of-reads
-use Rattle.register.proofs.type_of.Reads as type-of-reads
-use Rattle.register.proofs.zero_from.Reads as zero-from-reads
-use Rattle.schema.proofs.cells_of.Reads as cells-of-reads
 
 below : {id : ℕ} → id ≡ 0 → id < 1
 below e = omega arith
@@ -23,38 +18,30 @@ below e = omega arith
 least : {id : ℕ} → (id ≡ 0 → ⊥) → 1 ≤ id
 least d = omega arith
 
--- src/lib.rt:239:9
 id-of-requires : tie.Need-id-of-requires
 id-of-requires c κs = search needs
 
--- src/lib.rt:241:9
 returns : tie.Need-returns
 unfolding objectFits validId
 returns c = λ rs. simp (← c .before .id-of .ensures, lt-leb _ _ (below (c .if1 .taken)))
 
--- src/lib.rt:244:9
 returns-2 : tie.Need-returns-2
 unfolding objectFits validId
 returns-2 c = λ rs. simp (← c .before .before .id-of .ensures, lt-leb _ _ (c .if2 .taken), and-false)
 
--- src/lib.rt:246:9
 type-of-requires : tie.Need-type-of-requires
 type-of-requires c κs = search needs
 
--- src/lib.rt:248:9
 returns-3 : tie.Need-returns-3
 unfolding objectFits
 returns-3 c = λ rs. simp (← c .before .type-of .ensures, type-known, le-ltb _ _ (c .if3 .taken), and-false)
 
--- src/lib.rt:250:29
 cells-of-requires : tie.Need-cells-of-requires
 cells-of-requires c κs = search needs
 
--- src/lib.rt:250:5
 zero-from-requires : tie.Need-zero-from-requires
 zero-from-requires c κs = search needs
 
--- src/lib.rt:236:1
 returns-4 : tie.Need-returns-4
 unfolding objectFits validId
 returns-4 c =

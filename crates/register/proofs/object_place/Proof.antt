@@ -1,3 +1,4 @@
+-- `register::object_place` meets its contract. The invariant: the place lies from low to high. The measure is the distance of the two.
 use Prim.Native.Nat.{_-_}
 use mathlib.Core.Path.{sym, _∙_}
 use mathlib.Core.List.{[], _∷_}
@@ -7,9 +8,6 @@ use Rattle.tables.specs.Columns.{objectRow}
 use Rattle.register.proofs.Places.{Bracket, bracket-start, bracket-up, bracket-down, bracket-end}
 use Rattle.register.proofs.object_place.Statement.{statement}
 use Rattle.register.proofs.object_place.Tie as tie
-use Rattle.register.proofs.object_place.Reads as reads
-use Rattle.register.proofs.object_place.Lts as lts
-use Rattle.register.proofs.object_before.Reads as object-before-reads
 
 abbrev Inv-loop : tie.InvT-loop
 Inv-loop object-count objects id low₀ high₀ low high = Bracket objectKey (objectRow objects) object-count (id ∷ []) low high
@@ -17,43 +15,33 @@ Inv-loop object-count objects id low₀ high₀ low high = Bracket objectKey (ob
 abbrev μ-loop : tie.MeasureT-loop
 μ-loop object-count objects id low₀ high₀ low high = high - low
 
--- src/lib.rt:100:5
 loop-holds : tie.Need-loop-holds Inv-loop μ-loop
 loop-holds c = bracket-start objectKey _ _ _
 
--- src/lib.rt:101:29
 sub-middle : tie.Need-sub-middle Inv-loop μ-loop
 sub-middle c = omega arith
 
--- src/lib.rt:101:22
 add-middle : tie.Need-add-middle Inv-loop μ-loop
 add-middle c = omega arith
 
--- src/lib.rt:102:12
 object-before-requires : tie.Need-object-before-requires Inv-loop μ-loop
 object-before-requires c κs = tt
 
--- src/lib.rt:103:19
 add-low : tie.Need-add-low Inv-loop μ-loop
 add-low c = omega arith
 
--- src/lib.rt:100:5
 loop-less : tie.Need-loop-less Inv-loop μ-loop
 loop-less c = omega arith
 
--- src/lib.rt:100:5
 loop-again : tie.Need-loop-again Inv-loop μ-loop
 loop-again c = bracket-up objectKey _ _ (c .before .before .before .before .before .pre) (c .before .before .before .loop .inv) _ (omega arith) (omega arith) (sym (c .before .object-before .ensures) ∙ c .if1 .taken)
 
--- src/lib.rt:100:5
 loop-less-2 : tie.Need-loop-less-2 Inv-loop μ-loop
 loop-less-2 c = omega arith
 
--- src/lib.rt:100:5
 loop-again-2 : tie.Need-loop-again-2 Inv-loop μ-loop
 loop-again-2 c = bracket-down objectKey _ _ (c .before .before .before .before .before .pre) (c .before .before .before .loop .inv) _ (omega arith) (omega arith) (sym (c .before .object-before .ensures) ∙ c .if1 .left)
 
--- src/lib.rt:94:1
 returns : tie.Need-returns Inv-loop μ-loop
 returns c = bracket-end objectKey _ _ (c .before .loop .inv) (c .loop-test .left)
 

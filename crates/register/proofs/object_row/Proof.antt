@@ -1,33 +1,25 @@
+-- `register::object_row` meets its contract. At its place stands the object of the id, or it is not there.
 use mathlib.Core.Path.{sym, _∙_}
 use native.Mathlib.Omega.{arith}
-use Rattle.register.proofs.Searches.{object-found, object-missing}
 use borrow.Author.Needs.{needs}
+use Rattle.register.proofs.Searches.{object-found, object-missing}
 use Rattle.register.proofs.object_row.Statement.{statement}
 use Rattle.register.proofs.object_row.Tie as tie
-use Rattle.register.proofs.object_row.Reads as reads
-use Rattle.register.proofs.object_row.Lts as lts
-use Rattle.register.proofs.id_of.Reads as id-of-reads
-use Rattle.register.proofs.object_place.Reads as object-place-reads
 
--- src/lib.rt:134:9
 object-place-requires : tie.Need-object-place-requires
 object-place-requires c κs = search needs
 
--- src/lib.rt:136:9
 returns : tie.Need-returns
 returns c = rw (object-missing _ (c .before .object-place .ensures) (c .before .before .before .pre) (λ h e. absurd (omega arith)))
 
--- src/lib.rt:138:8
 id-of-requires : tie.Need-id-of-requires
 id-of-requires c κs = search needs
 
--- src/lib.rt:130:1
 returns-2 : tie.Need-returns-2
 returns-2 c =
     let place = c .before .before .before in
     rw (object-found _ (place .object-place .ensures) (place .before .before .pre) (c .before .before .if1 .left) (sym (c .before .id-of .ensures) ∙ c .if2 .taken))
 
--- src/lib.rt:130:1
 returns-3 : tie.Need-returns-3
 returns-3 c =
     let place = c .before .before .before in

@@ -1,3 +1,4 @@
+-- `register::zero_from` meets its contract. The invariant: the cells passed are 0. The measure is what is left of the eight.
 use Prim.Native.Nat.{_-_}
 use mathlib.Core.Path.{_≡_, refl, sym, _∙_}
 use native.Mathlib.Omega.{arith}
@@ -9,9 +10,6 @@ use Rattle.tables.specs.Columns.{objectRow}
 use Rattle.register.proofs.Cells.{cells-used, cells-on, cells-end}
 use Rattle.register.proofs.zero_from.Statement.{statement}
 use Rattle.register.proofs.zero_from.Tie as tie
-use Rattle.register.proofs.zero_from.Reads as reads
-use Rattle.register.proofs.zero_from.Lts as lts
-use Rattle.register.proofs.cell_of.Reads as cell-of-reads
 
 abbrev Inv-loop : tie.InvT-loop
 Inv-loop objects row cells cell₀ cell =
@@ -20,31 +18,24 @@ Inv-loop objects row cells cell₀ cell =
 abbrev μ-loop : tie.MeasureT-loop
 μ-loop objects row cells cell₀ cell = cellCount - cell
 
--- src/lib.rt:226:5
 loop-holds : tie.Need-loop-holds Inv-loop μ-loop
 loop-holds c = refl
 
--- src/lib.rt:227:12
 cell-of-requires : tie.Need-cell-of-requires Inv-loop μ-loop
 cell-of-requires c κs = omega arith
 
--- src/lib.rt:228:13
 returns : tie.Need-returns Inv-loop μ-loop
 returns c = sym (c .before .before .before .loop .inv ∙ cells-used _ _ (c .before .before .loop-test .taken) (λ e. c .if1 .taken (c .before .cell-of .ensures ∙ e)))
 
--- src/lib.rt:230:9
 add-cell : tie.Need-add-cell Inv-loop μ-loop
 add-cell c = omega arith
 
--- src/lib.rt:226:5
 loop-less : tie.Need-loop-less Inv-loop μ-loop
 loop-less c = omega arith
 
--- src/lib.rt:226:5
 loop-again : tie.Need-loop-again Inv-loop μ-loop
 loop-again c = c .before .before .before .loop .inv ∙ cells-on _ _ (c .before .before .loop-test .taken) (sym (c .before .cell-of .ensures) ∙ c .if1 .left)
 
--- src/lib.rt:222:1
 returns-2 : tie.Need-returns-2 Inv-loop μ-loop
 returns-2 c = sym (c .before .loop .inv ∙ cells-end _ _ (c .loop-test .left))
 

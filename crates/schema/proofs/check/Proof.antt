@@ -1,26 +1,19 @@
-use Rattle.schema.proofs.Founds.{first-found}
+-- `schema::check` meets its contract. The first of the two places is that of `firstOf`.
 use mathlib.Core.Path.{_∙_}
 use denote.Ref.{now}
+use borrow.Author.Needs.{needs}
 use Rattle.meaning.specs.Schema.{Schema, typeFault, relationshipFault}
 use Rattle.tables.specs.Columns.{schemaOf}
-use borrow.Author.Needs.{needs}
+use Rattle.schema.proofs.Founds.{first-found}
 use Rattle.schema.proofs.check.Statement.{statement}
 use Rattle.schema.proofs.check.Tie as tie
-use Rattle.schema.proofs.check.Reads as reads
-use Rattle.schema.proofs.check.Lts as lts
-use Rattle.schema.proofs.first_of.Reads as first-of-reads
-use Rattle.schema.proofs.relationship_fault.Reads as relationship-fault-reads
-use Rattle.schema.proofs.type_fault.Reads as type-fault-reads
 
--- src/lib.rt:173:9
 type-fault-requires : tie.Need-type-fault-requires
 type-fault-requires c κs = search needs
 
--- src/lib.rt:174:9
 relationship-fault-requires : tie.Need-relationship-fault-requires
 relationship-fault-requires c κs = search needs
 
--- src/lib.rt:175:5
 first-of-requires : tie.Need-first-of-requires
 first-of-requires c κs = search needs
 
@@ -29,7 +22,6 @@ S c =
     let start = c .before .before .before .before .before .args in
     schemaOf (start .type-count) (now (start .types)) (start .relationship-count) (now (start .relationships))
 
--- src/lib.rt:170:1
 returns : tie.Need-returns
 returns c =
     c .first-of .ensures

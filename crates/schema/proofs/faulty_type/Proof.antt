@@ -1,44 +1,34 @@
+-- `schema::faulty_type` meets its contract. Each return has met the tests that decide `faultyType`.
 use mathlib.Core.Path.{sym}
 use borrow.Author.Tests.{lt-ltb, le-ltb, le-leb, lt-leb, eq-eqb, ne-eqb}
+use borrow.Author.Needs.{needs}
 use Rattle.meaning.specs.Schema.{faultyType, parentFits}
 use Rattle.tables.specs.Columns.{typeRow}
 use Rattle.schema.proofs.Tests.{not-leb, not-not, and-false, and-true}
-use borrow.Author.Needs.{needs}
 use Rattle.schema.proofs.faulty_type.Statement.{statement}
 use Rattle.schema.proofs.faulty_type.Tie as tie
-use Rattle.schema.proofs.faulty_type.Reads as reads
-use Rattle.schema.proofs.faulty_type.Lts as lts
-use Rattle.rows.proofs.word.Reads as word-reads
-use Rattle.schema.proofs.cells_of.Reads as cells-of-reads
 
--- src/lib.rt:105:9
 word-requires : tie.Need-word-requires
 word-requires c κs = search needs
 
--- src/lib.rt:107:9
 returns : tie.Need-returns
 unfolding faultyType typeRow
 returns c = λ rs previous. simp (← c .before .word .ensures, lt-leb _ _ (c .if1 .taken), and-false)
 
--- src/lib.rt:109:9
 word-requires-2 : tie.Need-word-requires-2
 word-requires-2 c κs = search needs
 
--- src/lib.rt:111:9
 returns-2 : tie.Need-returns-2
 unfolding faultyType parentFits typeRow
 returns-2 c = λ rs previous. simp (← c .before .word2 .ensures, ← c .before .before .before .word .ensures, eq-eqb _ _ (c .if2 .taken), le-leb _ _ (c .before .before .if1 .left))
 
--- src/lib.rt:114:9
 cells-of-requires : tie.Need-cells-of-requires
 cells-of-requires c κs = search needs
 
--- src/lib.rt:102:1
 returns-3 : tie.Need-returns-3
 unfolding faultyType parentFits typeRow
 returns-3 c = λ rs previous. simp (← c .before .before .before .word2 .ensures, ← c .before .before .before .before .before .word .ensures, ne-eqb _ _ (c .before .before .if2 .left), le-leb _ _ (c .before .before .before .before .if1 .left), lt-ltb _ _ (c .before .if3 .taken), ← c .cells-of .ensures rs, not-not, and-true) (sym (not-leb (c .cells-of .result) (c .before .before .before .before .before .word .result)))
 
--- src/lib.rt:102:1
 returns-4 : tie.Need-returns-4
 unfolding faultyType parentFits typeRow
 returns-4 c = λ rs previous. simp (← c .before .before .word2 .ensures, ne-eqb _ _ (c .before .if2 .left), le-ltb _ _ (c .if3 .left))

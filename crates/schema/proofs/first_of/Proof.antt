@@ -1,22 +1,17 @@
+-- `schema::first_of` meets its contract. The variant is known in each arm.
 use borrow.Author.Needs.{needs}
 use Rattle.schema.proofs.first_of.Statement.{statement}
 use Rattle.schema.proofs.first_of.Tie as tie
-use Rattle.schema.proofs.first_of.Reads as reads
-use Rattle.schema.proofs.first_of.Lts as lts
 
--- src/lib.rt:164:19
 enum-known-a : tie.Need-enum-known-a
 enum-known-a c = search needs
 
--- src/lib.rt:165:27
 enum-told : tie.Need-enum-told
 enum-told c = search needs
 
--- src/lib.rt:160:1
 returns : tie.Need-returns
 returns c = rw (c .before .a .given .1)
 
--- src/lib.rt:160:1
 returns-2 : tie.Need-returns-2
 returns-2 c = search needs
 

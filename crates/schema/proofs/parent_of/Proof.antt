@@ -1,28 +1,22 @@
+-- `schema::parent_of` meets its contract. The type is a used row or not, and its first word is that of no parent or not.
 use borrow.Author.Tests.{lt-ltb, le-ltb, eq-eqb, ne-eqb}
+use borrow.Author.Needs.{needs}
 use Rattle.tables.specs.Columns.{typeRow}
 use Rattle.schema.proofs.Types.{parent-used}
-use borrow.Author.Needs.{needs}
 use Rattle.schema.proofs.parent_of.Statement.{statement}
 use Rattle.schema.proofs.parent_of.Tie as tie
-use Rattle.schema.proofs.parent_of.Reads as reads
-use Rattle.schema.proofs.parent_of.Lts as lts
-use Rattle.rows.proofs.word.Reads as word-reads
 
--- src/lib.rt:19:13
 word-requires : tie.Need-word-requires
 word-requires c κs = search needs
 
--- src/lib.rt:15:1
 returns : tie.Need-returns
 unfolding typeRow
 returns c = λ rs. rw (parent-used _ _ rs _, lt-ltb _ _ (c .before .before .if1 .taken), ← c .before .word .ensures, eq-eqb _ _ (c .if2 .taken))
 
--- src/lib.rt:15:1
 returns-2 : tie.Need-returns-2
 unfolding typeRow
 returns-2 c = λ rs. rw (parent-used _ _ rs _, lt-ltb _ _ (c .before .before .if1 .taken), ← c .before .word .ensures, ne-eqb _ _ (c .if2 .left))
 
--- src/lib.rt:15:1
 returns-3 : tie.Need-returns-3
 returns-3 c = λ rs. rw (parent-used _ _ rs _, le-ltb _ _ (c .if1 .left))
 

@@ -1,3 +1,4 @@
+-- `schema::relationship_fault` meets its contract. The invariant: the relationships before this one are passed. The measure is what is left of them.
 use Prim.Native.Nat.{ℕ, _-_}
 use mathlib.Core.Path.{sym, _∙_}
 use mathlib.Core.List.{List}
@@ -7,9 +8,6 @@ use Rattle.tables.specs.Columns.{relationshipRow, schemaOf}
 use Rattle.schema.proofs.Scan.{Passed, passed-none, passed-more, passed-found, passed-all}
 use Rattle.schema.proofs.relationship_fault.Statement.{statement}
 use Rattle.schema.proofs.relationship_fault.Tie as tie
-use Rattle.schema.proofs.relationship_fault.Reads as reads
-use Rattle.schema.proofs.relationship_fault.Lts as lts
-use Rattle.schema.proofs.faulty_relationship.Reads as faulty-relationship-reads
 
 abbrev Inv-loop : tie.InvT-loop
 Inv-loop type-count relationship-count relationships relationship₀ relationship =
@@ -18,32 +16,25 @@ Inv-loop type-count relationship-count relationships relationship₀ relationshi
 abbrev μ-loop : tie.MeasureT-loop
 μ-loop type-count relationship-count relationships relationship₀ relationship = relationship-count - relationship
 
--- src/lib.rt:150:5
 loop-holds : tie.Need-loop-holds Inv-loop μ-loop
 loop-holds c = λ types. passed-none _ _ _
 
--- src/lib.rt:151:12
 faulty-relationship-requires : tie.Need-faulty-relationship-requires Inv-loop μ-loop
 faulty-relationship-requires c κs = tt
 
--- src/lib.rt:152:13
 returns : tie.Need-returns Inv-loop μ-loop
 unfolding relationshipFault
 returns c = λ types. rw (passed-found _ _ _ (c .before .before .before .loop .inv types) (c .before .before .loop-test .taken) (sym (c .before .faulty-relationship .ensures types _ _) ∙ c .if1 .taken))
 
--- src/lib.rt:154:9
 add-relationship : tie.Need-add-relationship Inv-loop μ-loop
 add-relationship c = omega arith
 
--- src/lib.rt:150:5
 loop-less : tie.Need-loop-less Inv-loop μ-loop
 loop-less c = omega arith
 
--- src/lib.rt:150:5
 loop-again : tie.Need-loop-again Inv-loop μ-loop
 loop-again c = λ types. passed-more _ _ _ (c .before .before .before .loop .inv types) (c .before .before .loop-test .taken) (sym (c .before .faulty-relationship .ensures types _ _) ∙ c .if1 .left)
 
--- src/lib.rt:146:1
 returns-2 : tie.Need-returns-2 Inv-loop μ-loop
 unfolding relationshipFault
 returns-2 c = λ types. rw (passed-all _ _ _ (c .before .loop .inv types) (c .loop-test .left))

@@ -1,3 +1,4 @@
+-- `schema::type_fault` meets its contract. The invariant: the types before t are passed. The measure is what is left of them.
 use Prim.Native.Nat.{_-_}
 use mathlib.Core.Path.{sym, _∙_}
 use mathlib.Core.List.{List}
@@ -8,9 +9,6 @@ use Rattle.schema.specs.Tables.{typesWith}
 use Rattle.schema.proofs.Scan.{Passed, passed-none, passed-more, passed-found, passed-all}
 use Rattle.schema.proofs.type_fault.Statement.{statement}
 use Rattle.schema.proofs.type_fault.Tie as tie
-use Rattle.schema.proofs.type_fault.Reads as reads
-use Rattle.schema.proofs.type_fault.Lts as lts
-use Rattle.schema.proofs.faulty_type.Reads as faulty-type-reads
 
 abbrev Inv-loop : tie.InvT-loop
 Inv-loop type-count types t₀ t = (rs : List Relationship) → Passed (faultyType (typesWith type-count types rs)) (typeRow types) type-count t
@@ -18,32 +16,25 @@ Inv-loop type-count types t₀ t = (rs : List Relationship) → Passed (faultyTy
 abbrev μ-loop : tie.MeasureT-loop
 μ-loop type-count types t₀ t = type-count - t
 
--- src/lib.rt:125:5
 loop-holds : tie.Need-loop-holds Inv-loop μ-loop
 loop-holds c = λ rs. passed-none _ _ _
 
--- src/lib.rt:126:12
 faulty-type-requires : tie.Need-faulty-type-requires Inv-loop μ-loop
 faulty-type-requires c κs = tt
 
--- src/lib.rt:127:13
 returns : tie.Need-returns Inv-loop μ-loop
 unfolding typeFault
 returns c = λ rs. rw (passed-found _ _ _ (c .before .before .before .loop .inv rs) (c .before .before .loop-test .taken) (sym (c .before .faulty-type .ensures rs _) ∙ c .if1 .taken))
 
--- src/lib.rt:129:9
 add-t : tie.Need-add-t Inv-loop μ-loop
 add-t c = omega arith
 
--- src/lib.rt:125:5
 loop-less : tie.Need-loop-less Inv-loop μ-loop
 loop-less c = omega arith
 
--- src/lib.rt:125:5
 loop-again : tie.Need-loop-again Inv-loop μ-loop
 loop-again c = λ rs. passed-more _ _ _ (c .before .before .before .loop .inv rs) (c .before .before .loop-test .taken) (sym (c .before .faulty-type .ensures rs _) ∙ c .if1 .left)
 
--- src/lib.rt:121:1
 returns-2 : tie.Need-returns-2 Inv-loop μ-loop
 unfolding typeFault
 returns-2 c = λ rs. rw (passed-all _ _ _ (c .before .loop .inv rs) (c .loop-test .left))

@@ -1,15 +1,13 @@
-use native.Mathlib.Omega.{arith}
-use borrow.Author.Needs.{needs}
-use Rattle.schema.proofs.Climb.{climb-there, climb-end, climb-top, climb-up}
+-- `schema::under` meets its contract. The invariant: what is left of the way up decides. The measure is the number of steps left.
 use mathlib.Core.Path.{_≡_, refl, sym, _∙_}
 use mathlib.Core.List.{List}
+use native.Mathlib.Omega.{arith}
+use borrow.Author.Needs.{needs}
 use Rattle.meaning.specs.Schema.{Relationship, climbs, under}
+use Rattle.schema.proofs.Climb.{climb-there, climb-end, climb-top, climb-up}
 use Rattle.schema.specs.Tables.{typesWith}
 use Rattle.schema.proofs.under.Statement.{statement}
 use Rattle.schema.proofs.under.Tie as tie
-use Rattle.schema.proofs.under.Reads as reads
-use Rattle.schema.proofs.under.Lts as lts
-use Rattle.schema.proofs.parent_of.Reads as parent-of-reads
 
 abbrev Inv-loop : tie.InvT-loop
 Inv-loop type-count types t u at₀ left₀ at left = (rs : List Relationship) → under (typesWith type-count types rs) t u ≡ climbs (typesWith type-count types rs) left at u
@@ -17,28 +15,22 @@ Inv-loop type-count types t u at₀ left₀ at left = (rs : List Relationship) �
 abbrev μ-loop : tie.MeasureT-loop
 μ-loop type-count types t u at₀ left₀ at left = left
 
--- src/lib.rt:52:5
 loop-holds : tie.Need-loop-holds Inv-loop μ-loop
 unfolding under
 loop-holds c = λ rs. refl
 
--- src/lib.rt:54:13
 returns : tie.Need-returns Inv-loop μ-loop
 returns c = λ rs. rw (c .before .before .loop .inv rs) (sym (climb-there _ _ (c .if1 .taken)))
 
--- src/lib.rt:56:15
 parent-of-requires : tie.Need-parent-of-requires Inv-loop μ-loop
 parent-of-requires c κs = tt
 
--- src/lib.rt:57:23
 enum-known-p : tie.Need-enum-known-p Inv-loop μ-loop
 enum-known-p c = search needs
 
--- src/lib.rt:58:31
 enum-told : tie.Need-enum-told Inv-loop μ-loop
 enum-told c = search needs
 
--- src/lib.rt:58:31
 returns-2 : tie.Need-returns-2 Inv-loop μ-loop
 returns-2 c =
     let turn = c .before .before .before in
@@ -46,15 +38,12 @@ returns-2 c =
     rw (turn .before .before .loop .inv rs)
     (sym (climb-top _ _ (turn .before .loop-test .taken) (turn .if1 .left) (sym (c .enum-told .given .1) ∙ c .before .before .parent-of .ensures rs)))
 
--- src/lib.rt:60:9
 sub-left : tie.Need-sub-left Inv-loop μ-loop
 sub-left c = omega arith
 
--- src/lib.rt:52:5
 loop-less : tie.Need-loop-less Inv-loop μ-loop
 loop-less c = omega arith
 
--- src/lib.rt:52:5
 loop-again : tie.Need-loop-again Inv-loop μ-loop
 loop-again c =
     let turn = c .before .before .before .before in
@@ -62,7 +51,6 @@ loop-again c =
     turn .before .before .loop .inv rs
     ∙ climb-up _ _ (turn .before .loop-test .taken) (turn .if1 .left) (sym (c .before .p .given .1) ∙ c .before .before .before .parent-of .ensures rs)
 
--- src/lib.rt:47:1
 returns-3 : tie.Need-returns-3 Inv-loop μ-loop
 returns-3 c = λ rs. rw (c .before .loop .inv rs) (sym (climb-end _ _ _ _ (c .loop-test .left)))
 

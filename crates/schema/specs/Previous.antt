@@ -2,6 +2,6 @@
 use Prim.Native.Nat.{ℕ, zero, suc}
 use mathlib.Core.Option.{Option, none, some}
 
-abbrev pub rowBefore : {A : Type 0} → (ℕ → A) → ℕ → Option A
-rowBefore read zero = none
-rowBefore read (suc i) = some (read i)
+abbrev pub previousRow : {A : Type 0} → (ℕ → A) → ℕ → Option A
+previousRow read zero = none
+previousRow read (suc i) = some (read i)
