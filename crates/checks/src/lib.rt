@@ -6,7 +6,8 @@ ghost use mathlib.Core.Path.{_≡_};
 ghost use mathlib.Core.Bool.{_||_, not};
 ghost use Rattle.meaning.specs.Lists.{any};
 ghost use Rattle.rows.specs.Rows.{wholeRows};
-ghost use Rattle.tables.specs.Refusals.{overfull, broken, tablesOf, lentTables};
+ghost use Rattle.meaning.specs.Answers.{refusal};
+ghost use Rattle.tables.specs.Refusals.{overfull, broken, tablesOf, lentTables, bookOf, registerIn, lentRefusal, verdictOf};
 ghost use Rattle.tables.specs.declared.Counts.{Counts};
 ghost use Rattle.checks.specs.Stages.{staged};
 
@@ -81,4 +82,64 @@ fn refuse(number: u32, place: Found, otherwise: Verdict) -> Verdict
         Found::At(p) => Verdict::Refused(number, p),
         Found::Nothing => otherwise,
     }
+}
+
+// Refusals 3, 4 and 5.
+fn contents(
+    n: Counts,
+    types: &[u32],
+    relationships: &[u32],
+    rules: &[u32],
+    bodies: &[u32],
+    objects: &[u32],
+    links: &[u32],
+) -> Verdict
+    ensures { λ r. ⌜ r ≡ verdictOf (refusal (bookOf (lentTables n (now (types .entry)) (now (relationships .entry)) (now (rules .entry)) (now (bodies .entry)) (now (objects .entry)) (now (links .entry)))) (registerIn (lentTables n (now (types .entry)) (now (relationships .entry)) (now (rules .entry)) (now (bodies .entry)) (now (objects .entry)) (now (links .entry))))) ⌝ }
+{
+    let s = schema::check(n.types, types, n.relationships, relationships);
+    let b = book::check(
+        n.types,
+        types,
+        n.relationships,
+        relationships,
+        n.rules,
+        rules,
+        bodies,
+    );
+    let g = register::check(
+        n.types,
+        types,
+        n.relationships,
+        relationships,
+        n.objects,
+        objects,
+        n.links,
+        links,
+    );
+    let last = refuse(5, g, Verdict::Clear);
+    let later = refuse(4, b, last);
+    refuse(3, s, later)
+}
+
+// Refusals 2, 6, 3, 4 and 5 of a lent book and register, in this order. The scratch is what a batch check works on.
+pub fn check(
+    n: Counts,
+    types: &[u32],
+    relationships: &[u32],
+    rules: &[u32],
+    bodies: &[u32],
+    objects: &[u32],
+    links: &[u32],
+    scratch_short: bool,
+) -> Verdict
+    ensures { λ r. ⌜ r ≡ verdictOf (lentRefusal (lentTables n (now (types .entry)) (now (relationships .entry)) (now (rules .entry)) (now (bodies .entry)) (now (objects .entry)) (now (links .entry))) «scratch_short») ⌝ }
+{
+    if any_too_many(n, types, relationships, rules, bodies, objects, links) {
+        return Verdict::Refused(2, 0);
+    }
+    let broken = any_broken(types, relationships, rules, bodies, objects, links);
+    if or(broken, scratch_short) {
+        return Verdict::Refused(6, 0);
+    }
+    contents(n, types, relationships, rules, bodies, objects, links)
 }

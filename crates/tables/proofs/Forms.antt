@@ -131,11 +131,11 @@ form-single allOf r a b c t = refl
 form-single selecting r a b c t = absurd t
 
 -- what the fit of one part, and of two, says
-only-fits : (p : Sort) (i : ℕ) (f s : Reading) → T (partsFit (p ∷ []) i f s) → (0 < i) × T (reads p s)
+pub only-fits : (p : Sort) (i : ℕ) (f s : Reading) → T (partsFit (p ∷ []) i f s) → (0 < i) × T (reads p s)
 unfolding partsFit
 only-fits p i f s t = let r = and-yes (ltb 0 i) (reads p s) t in (ltb-yes (r .0), r .1)
 
-both-fit : (p q : Sort) (more : List Sort) (i : ℕ) (f s : Reading) → T (partsFit (p ∷ q ∷ more) i f s) → (0 < i) × T (reads q s) × (0 < s .start) × T (reads p f)
+pub both-fit : (p q : Sort) (more : List Sort) (i : ℕ) (f s : Reading) → T (partsFit (p ∷ q ∷ more) i f s) → (0 < i) × T (reads q s) × (0 < s .start) × T (reads p f)
 unfolding partsFit
 both-fit p q more i f s t =
     let a = and-yes (ltb 0 i && reads q s && ltb 0 (s .start)) (reads p f) t in
@@ -344,23 +344,24 @@ length-part : (p : Part) → length (writePart p) ≡ partCount p * 4
 unfolding writePart partCount
 length-part (part s f) = length-form f
 
-truth-words : (p : Part) → T (sameSort truth (sortOf p)) → writePart p ≡ writeForm (asTruth p)
-unfolding writePart sortOf asTruth
-truth-words (part truth f) t = refl
-truth-words (part number f) t = absurd t
-truth-words (part collection f) t = absurd t
+-- a part of a sort is a form of that sort
+pub is-truth : (p : Part) → T (sameSort truth (sortOf p)) → p ≡ part truth (asTruth p)
+unfolding sortOf asTruth
+is-truth (part truth f) t = refl
+is-truth (part number f) t = absurd t
+is-truth (part collection f) t = absurd t
 
-number-words : (p : Part) → T (sameSort number (sortOf p)) → writePart p ≡ writeForm (asNumber p)
-unfolding writePart sortOf asNumber
-number-words (part truth f) t = absurd t
-number-words (part number f) t = refl
-number-words (part collection f) t = absurd t
+pub is-number : (p : Part) → T (sameSort number (sortOf p)) → p ≡ part number (asNumber p)
+unfolding sortOf asNumber
+is-number (part truth f) t = absurd t
+is-number (part number f) t = refl
+is-number (part collection f) t = absurd t
 
-collection-words : (p : Part) → T (sameSort collection (sortOf p)) → writePart p ≡ writeForm (asCollection p)
-unfolding writePart sortOf asCollection
-collection-words (part truth f) t = absurd t
-collection-words (part number f) t = absurd t
-collection-words (part collection f) t = refl
+pub is-collection : (p : Part) → T (sameSort collection (sortOf p)) → p ≡ part collection (asCollection p)
+unfolding sortOf asCollection
+is-collection (part truth f) t = absurd t
+is-collection (part number f) t = absurd t
+is-collection (part collection f) t = refl
 
 -- the words of an operator's parts, and that they are of their sorts
 abbrev partsWords : List Sort → Part → Part → List ℕ
@@ -368,7 +369,7 @@ partsWords [] a b = []
 partsWords (p ∷ []) a b = writePart b
 partsWords (p ∷ q ∷ more) a b = writePart a ++ writePart b
 
-abbrev sorted : List Sort → Part → Part → Type 0
+abbrev pub sorted : List Sort → Part → Part → Type 0
 sorted [] a b = Unit {0}
 sorted (p ∷ []) a b = T (sameSort p (sortOf b))
 sorted (p ∷ q ∷ more) a b = T (sameSort p (sortOf a)) × T (sameSort q (sortOf b))
@@ -379,21 +380,21 @@ used zero r = 0 ∷ 0 ∷ 0 ∷ []
 used (suc zero) r = r .x ∷ 0 ∷ 0 ∷ []
 used (suc (suc n)) r = r .x ∷ r .y ∷ 0 ∷ []
 
-write-node : (o : Operator) (r : BodyRow) (a b : Part) → sorted ((shapeOf o) .parts) a b → r .x < 2 ^ 32 → writePart (formOf o r a b) ≡ partsWords ((shapeOf o) .parts) a b ++ codeOf o ∷ used ((shapeOf o) .fields) r
+write-node : (o : Operator) (r : BodyRow) (a b : Part) → sorted ((shapeOf o) .parts) a b → r .x < 2 ^ 32 → partsWords ((shapeOf o) .parts) a b ++ codeOf o ∷ used ((shapeOf o) .fields) r ≡ writePart (formOf o r a b)
 unfolding shapeOf formOf writePart writeForm
-write-node (comparing o) r a b t w = ap₂ (λ x y. x ++ y ++ rowWords (comparing o) 0 0) (sym (number-words a (t .0))) (sym (number-words b (t .1)))
-write-node negating r a b t w = ap (λ x. x ++ rowWords negating 0 0) (sym (truth-words b t))
-write-node (connecting o) r a b t w = ap₂ (λ x y. x ++ y ++ rowWords (connecting o) 0 0) (sym (truth-words a (t .0))) (sym (truth-words b (t .1)))
-write-node (quantifying q) r a b t w = ap₂ (λ x y. x ++ y ++ rowWords (quantifying q) 0 0) (sym (collection-words a (t .0))) (sym (truth-words b (t .1)))
+write-node (comparing o) r a b t w = ap₂ (λ x y. writePart x ++ writePart y ++ rowWords (comparing o) 0 0) (is-number a (t .0)) (is-number b (t .1))
+write-node negating r a b t w = ap (λ x. writePart x ++ rowWords negating 0 0) (is-truth b t)
+write-node (connecting o) r a b t w = ap₂ (λ x y. writePart x ++ writePart y ++ rowWords (connecting o) 0 0) (is-truth a (t .0)) (is-truth b (t .1))
+write-node (quantifying q) r a b t w = ap₂ (λ x y. writePart x ++ writePart y ++ rowWords (quantifying q) 0 0) (is-collection a (t .0)) (is-truth b (t .1))
 write-node kindOf r a b t w = refl
-write-node literal r a b t w = ap (λ x. rowWords literal x 0) (word-signed (r .x) w)
+write-node literal r a b t w = ap (λ x. rowWords literal x 0) (sym (word-signed (r .x) w))
 write-node cellOf r a b t w = refl
-write-node sizeOf r a b t w = ap (λ x. x ++ rowWords sizeOf 0 0) (sym (collection-words b t))
-write-node sumOf r a b t w = ap (λ x. x ++ rowWords sumOf (r .x) 0) (sym (collection-words b t))
-write-node (combining o) r a b t w = ap₂ (λ x y. x ++ y ++ rowWords (combining o) 0 0) (sym (number-words a (t .0))) (sym (number-words b (t .1)))
+write-node sizeOf r a b t w = ap (λ x. writePart x ++ rowWords sizeOf 0 0) (is-collection b t)
+write-node sumOf r a b t w = ap (λ x. writePart x ++ rowWords sumOf (r .x) 0) (is-collection b t)
+write-node (combining o) r a b t w = ap₂ (λ x y. writePart x ++ writePart y ++ rowWords (combining o) 0 0) (is-number a (t .0)) (is-number b (t .1))
 write-node roleOf r a b t w = refl
 write-node allOf r a b t w = refl
-write-node selecting r a b t w = ap₂ (λ x y. x ++ y ++ rowWords selecting 0 0) (sym (collection-words a (t .0))) (sym (truth-words b (t .1)))
+write-node selecting r a b t w = ap₂ (λ x y. writePart x ++ writePart y ++ rowWords selecting 0 0) (is-collection a (t .0)) (is-truth b (t .1))
 
 used-all : (n : ℕ) (r : BodyRow) → T (fieldsFit n r) → used n r ≡ r .x ∷ r .y ∷ r .z ∷ []
 unfolding fieldsFit
@@ -413,7 +414,7 @@ used-all (suc (suc n)) r t = let z : r .z ≡ 0 = eqb-yes t in rw z
 
 -- ---- write after read
 
-sorted-parts : (parts : List Sort) (i : ℕ) (f s : Reading) → T (partsFit parts i f s) → sorted parts (f .form) (s .form)
+pub sorted-parts : (parts : List Sort) (i : ℕ) (f s : Reading) → T (partsFit parts i f s) → sorted parts (f .form) (s .form)
 sorted-parts [] i f s t = tt
 sorted-parts (p ∷ []) i f s t = and-yes (s .sound) (sameSort p (sortOf (s .form))) (only-fits p i f s t .1) .1
 sorted-parts (p ∷ q ∷ more) i f s t =
@@ -470,7 +471,7 @@ module _ (rows : ℕ → BodyRow) where
         ∙ words-snoc rows o (i - o)
         ∙ ap₂ (λ x j. x ++ rowList (rows j)) (w .1) last
         ∙ ap (λ y. partsWords parts (f .form) (s .form) ++ y) (sym row)
-        ∙ sym (write-node (d .operator) (rows i) (f .form) (s .form) (sorted-parts parts i f s (d .parts)) (bounded i))
+        ∙ write-node (d .operator) (rows i) (f .form) (s .form) (sorted-parts parts i f s (d .parts)) (bounded i)
         ∙ ap writePart (sym (d .form))
 
     -- A form that ends before row e: the words of its rows are those of the form.
@@ -528,13 +529,14 @@ whole-body rows n t =
 module _ (rows : ℕ → BodyRow) (bounded : (k : ℕ) → (rows k) .x < 2 ^ 32) (n : ℕ) (whole : T (wholeBody rows n)) where
   -- The words of a whole body are those of its form ..
   pub body-words : wordsFrom rows 0 n ≡ writeForm (readBody rows n)
+  unfolding writePart
   body-words =
       let w = whole-body rows n whole in
       let r = ending rows n in
       let count : n - r .start ≡ n = let h = w .start in omega arith in
       ap₂ (wordsFrom rows) (sym (w .start)) (sym count)
       ∙ written-read rows bounded n (w .sound)
-      ∙ truth-words (r .form) (w .isTruth)
+      ∙ ap writePart (is-truth (r .form) (w .isTruth))
       ∙ ap writeForm (sym (body-ending rows n whole))
 
   -- .. and it is made of as many forms as it has rows.
@@ -597,7 +599,7 @@ module _ (rows : ℕ → BodyRow) where
       ∙ made
       ∙ (λ j. record { start = startOf (shape j) i (f .start) (s .start); sound = sound j; form = formOf op (rowOf op x y) (f .form) (s .form) })
 
-  sound-pos : (e : ℕ) → T ((ending rows e) .sound) → 0 < e
+  pub sound-pos : (e : ℕ) → T ((ending rows e) .sound) → 0 < e
   unfolding ending
   sound-pos zero t = absurd t
   sound-pos (suc i) t = omega arith

@@ -1,0 +1,134 @@
+-- Whether a rule of lent tables is faulty, and the first that is.
+use Prim.Native.Nat.{ℕ, zero, suc, _+_, _-_, _^_, _≤_, _<_, zero-le}
+use mathlib.Core.Path.{_≡_, refl, sym, ap, ap₂, subst, _∙_}
+use mathlib.Core.Bool.{Bool, true, false, _&&_, not, cond}
+use mathlib.Core.List.{List, [], _∷_}
+use mathlib.Core.Option.{Option, none, some}
+use native.Mathlib.Nat.{sub-zero}
+use native.Mathlib.Numerals.{add-one}
+use native.Mathlib.Omega.{arith}
+use lib.Dec.{T, ltb, leb, eqb}
+use mir.Facts.{and-yes, yes-and, yes-leb, no-leb, yes-eqb, no-eqb}
+use borrow.Author.Tests.{lt-ltb, le-ltb, le-leb}
+use Rattle.meaning.specs.Lists.{faultFrom, firstFault}
+use Rattle.meaning.specs.Limits.{maxForms}
+use Rattle.meaning.specs.Schema.{Schema, knownType}
+use Rattle.meaning.specs.Forms.{truth, Form, kind, wellTyped, formCount, Rule, faultyRule}
+use Rattle.meaning.proofs.Lists.{not-and-left, not-and-right}
+use Rattle.rows.specs.Rows.{wordAt, rowsFrom, readRows}
+use Rattle.tables.specs.Bodies.{BodyRow, part, sortOf, sameSort, reads, asTruth, wholeBody, readBody}
+use Rattle.tables.specs.Columns.{ruleRow}
+use Rattle.tables.proofs.Forms.{ending, whole-ending, whole-body, body-ending, body-none, body-count, is-truth}
+use Rattle.book.specs.Marks.{bodyOf, mark}
+use Rattle.book.specs.Types.{typedPart}
+use Rattle.book.proofs.Lent.{known-type}
+use Rattle.book.proofs.Marks.{reads-mark}
+use Rattle.book.proofs.Types.{lent}
+
+-- ---- whole bodies, by what the scan kept
+
+module _ (rows : ℕ → BodyRow) (n : ℕ) where
+  pub too-long : maxForms < n → T (not (wholeBody rows n))
+  too-long h =
+      subst (λ b. T (not b)) (sym (whole-ending rows n))
+      (not-and-left (leb n maxForms && reads truth (ending rows n)) _ (not-and-left (leb n maxForms) _ (no-leb h)))
+
+  pub no-truth : (mark (ending rows n) ≡ 0 → ⊥) → T (not (wholeBody rows n))
+  no-truth h =
+      subst (λ b. T (not b)) (sym (whole-ending rows n))
+      (not-and-left (leb n maxForms && reads truth (ending rows n)) _
+      (not-and-right (leb n maxForms) _ (subst (λ b. T (not b)) (sym (reads-mark truth (ending rows n))) (no-eqb (λ e. h (sym e))))))
+
+  pub not-first : ((ending rows n) .start ≡ 0 → ⊥) → T (not (wholeBody rows n))
+  not-first h =
+      subst (λ b. T (not b)) (sym (whole-ending rows n)) (not-and-right (leb n maxForms && reads truth (ending rows n)) _ (no-eqb h))
+
+  pub one-form : n ≤ maxForms → mark (ending rows n) ≡ 0 → (ending rows n) .start ≡ 0 → T (wholeBody rows n)
+  one-form h m s =
+      subst T (sym (whole-ending rows n))
+      (yes-and (leb n maxForms && reads truth (ending rows n)) _
+      (yes-and (leb n maxForms) _ (yes-leb h) (subst T (sym (reads-mark truth (ending rows n))) (yes-eqb (sym m)))) (yes-eqb s))
+
+-- ---- a rule, by the two words of its row
+
+module _ (typeCount : ℕ) (types : List ℕ) (relationshipCount : ℕ) (relationships rules bodies : List ℕ) (rule : ℕ) (context size : ℕ) (first : context ≡ wordAt rules 2 rule 0) (second : size ≡ wordAt rules 2 rule 1) (p : Option Rule) where
+  abbrev S : Schema
+  S = lent typeCount types relationshipCount relationships
+
+  abbrev body : Form truth
+  body = readBody (bodyOf bodies rule) size
+
+  abbrev faulty : Bool
+  faulty = faultyRule S rule p (ruleRow rules bodies rule)
+
+  -- the three tests of a rule
+  tests : not (knownType S context && wellTyped S (context ∷ []) body && leb (formCount body) maxForms) ≡ faulty
+  unfolding faultyRule ruleRow
+  tests = λ j. faultyRule S rule p (record { context = first j; body = readBody (bodyOf bodies rule) (second j) })
+
+  pub unknown-context : typeCount ≤ context → true ≡ faulty
+  unknown-context h =
+      sym
+      (ap (λ a. not (a && wellTyped S (context ∷ []) body && leb (formCount body) maxForms))
+      (sym (known-type types typeCount (S .relationships) context) ∙ le-ltb context typeCount h))
+      ∙ tests
+
+  -- rows that are no body are read as one that names variable 1
+  pub no-body : T (not (wholeBody (bodyOf bodies rule) size)) → true ≡ faulty
+  unfolding wellTyped
+  no-body h =
+      sym
+      (ap (λ f. not (knownType S context && wellTyped S (context ∷ []) f && leb (formCount f) maxForms)) (body-none (bodyOf bodies rule) size h)
+      ∙ refused (knownType S context) (leb (formCount (kind 1 0)) maxForms))
+      ∙ tests
+    where
+      refused : (a c : Bool) → not (a && false && c) ≡ true
+      refused true c = refl
+      refused false c = refl
+
+  pub judged : context < typeCount → ((k : ℕ) → (bodyOf bodies rule k) .x < 2 ^ 32) → T (wholeBody (bodyOf bodies rule) size) → (b : Bool) → b ≡ typedPart S (context ∷ []) ((ending (bodyOf bodies rule) size) .form) → not b ≡ faulty
+  unfolding typedPart
+  judged h words whole b e =
+      let rows = bodyOf bodies rule in
+      let w = whole-body rows size whole in
+      let known : true ≡ knownType S context = sym (lt-ltb context typeCount h) ∙ known-type types typeCount (S .relationships) context in
+      let few : true ≡ leb (formCount body) maxForms = sym (ap (λ n. leb n maxForms) (body-count rows words size whole) ∙ le-leb size maxForms (w .few)) in
+      let same : b ≡ wellTyped S (context ∷ []) body =
+      e ∙ ap (typedPart S (context ∷ [])) (is-truth ((ending rows size) .form) (w .isTruth)) ∙ ap (wellTyped S (context ∷ [])) (sym (body-ending rows size whole)) in
+      ap not (sym (all-three b) ∙ (λ j. known j && same j && few j)) ∙ tests
+    where
+      all-three : (b : Bool) → (true && b && true) ≡ b
+      all-three true = refl
+      all-three false = refl
+
+-- ---- the first faulty row of a table
+
+module _ {A : Type 0} (faulty : ℕ → Option A → A → Bool) (read : ℕ → A) (n : ℕ) where
+  -- no row before row i is faulty: the first faulty one is the first from row i on
+  pub record Passed (i : ℕ) : Type 0 where
+    pub within : i ≤ n
+    pub previous : Option A
+    pub same : faultFrom faulty i previous (rowsFrom read i (n - i)) ≡ firstFault faulty (readRows read n)
+
+  pub passed-none : Passed 0
+  passed-none = record { within = zero-le; previous = none; same = ap (λ m. faultFrom faulty 0 none (rowsFrom read 0 m)) (sub-zero n) }
+
+  split : (i : ℕ) → i < n → (p : Option A) → faultFrom faulty i p (rowsFrom read i (n - i)) ≡ cond (faulty i p (read i)) (some i) (faultFrom faulty (suc i) (some (read i)) (rowsFrom read (suc i) (n - suc i)))
+  split i h p = let m : n - i ≡ suc (n - suc i) = omega arith in ap (λ m. faultFrom faulty i p (rowsFrom read i m)) m
+
+  pub passed-fault : {i : ℕ} → (w : Passed i) → i < n → true ≡ faulty i (w .previous) (read i) → some i ≡ firstFault faulty (readRows read n)
+  passed-fault {i} w h e =
+      ap (λ b. cond b (some i) (faultFrom faulty (suc i) (some (read i)) (rowsFrom read (suc i) (n - suc i)))) e ∙ sym (split i h (w .previous)) ∙ w .same
+
+  pub passed-more : {i : ℕ} → (w : Passed i) → i < n → false ≡ faulty i (w .previous) (read i) → Passed (i + 1)
+  passed-more {i} w h e =
+      subst Passed (sym (add-one i)) (
+      record {
+        within = h;
+        previous = some (read i);
+        same = ap (λ b. cond b (some i) (faultFrom faulty (suc i) (some (read i)) (rowsFrom read (suc i) (n - suc i)))) e ∙ sym (split i h (w .previous)) ∙ w .same;
+      }
+      )
+
+  pub passed-all : {i : ℕ} → Passed i → n ≤ i → none ≡ firstFault faulty (readRows read n)
+  passed-all {i} w h = let m : 0 ≡ n - i = omega arith in ap (λ m. faultFrom faulty i (w .previous) (rowsFrom read i m)) m ∙ w .same

@@ -1,0 +1,87 @@
+// Refusal 4: each rule of lent tables has a known context type, and a body that is one whole form, well typed.
+use tables::Found;
+
+pub mod body;
+mod schema;
+mod typing;
+
+ghost use mathlib.Core.Path.{_≡_};
+ghost use mathlib.Core.Option.{Option};
+ghost use Rattle.meaning.specs.Forms.{Rule, faultyRule, ruleFault};
+ghost use Rattle.tables.specs.Columns.{ruleRow, schemaOf, rulesOf};
+ghost use Rattle.tables.specs.Refusals.{foundOf};
+
+// Whether a rule is faulty.
+fn faulty(
+    type_count: u32,
+    types: &[u32],
+    relationship_count: u32,
+    relationships: &[u32],
+    rules: &[u32],
+    bodies: &[u32],
+    rule: u32,
+) -> bool
+    ensures { λ r. ⌜ ((p : Option Rule) → r ≡ faultyRule (schemaOf «type_count» (now (types .entry)) «relationship_count» (now (relationships .entry))) rule p (ruleRow (now (rules .entry)) (now (bodies .entry)) rule)) ⌝ }
+{
+    let context = rows::word(rules, 2, rule, 0);
+    if type_count <= context {
+        return true;
+    }
+    let n = rows::word(rules, 2, rule, 1);
+    if 64 < n {
+        return true;
+    }
+    let spans = body::scan(bodies, rule, n);
+    if spans.mark != 0 {
+        return true;
+    }
+    let starts = spans.starts;
+    let last = n as usize;
+    if starts[last] != 0 {
+        return true;
+    }
+    let mut env = [0u32; 64];
+    env[0] = context;
+    !typing::typed(
+        type_count,
+        types,
+        relationship_count,
+        relationships,
+        bodies,
+        rule,
+        &starts,
+        n,
+        1,
+        &env,
+    )
+}
+
+// The first faulty rule.
+pub fn check(
+    type_count: u32,
+    types: &[u32],
+    relationship_count: u32,
+    relationships: &[u32],
+    rule_count: u32,
+    rules: &[u32],
+    bodies: &[u32],
+) -> Found
+    ensures { λ r. ⌜ r ≡ foundOf (ruleFault (record { schema = schemaOf «type_count» (now (types .entry)) «relationship_count» (now (relationships .entry)); rules = rulesOf «rule_count» (now (rules .entry)) (now (bodies .entry)) })) ⌝ }
+{
+    let mut rule: u32 = 0;
+    while rule < rule_count {
+        if faulty(
+            type_count,
+            types,
+            relationship_count,
+            relationships,
+            rules,
+            bodies,
+            rule,
+        ) {
+            return Found::At(rule);
+        }
+        rule += 1;
+    }
+    Found::Nothing
+}
