@@ -1,7 +1,10 @@
 // The changes: table, word, value; the comment says what is met.
-pub const COUNT: u32 = 49;
+pub const COUNT: u32 = 50;
 
-pub const CHANGES: [u32; 147] = [
+pub const CHANGES: [u32; 150] = [
+    0,
+    64,
+    0, // clear: past the end, so nothing is changed
     0,
     0,
     0, // 3 0: a parent that is not lower

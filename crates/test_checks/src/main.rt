@@ -71,8 +71,59 @@ fn exchange(t: &mut [u32], at: usize, value: u32) -> u32 {
     old
 }
 
-// Every change of the table of cases.
-fn changes(
+// A word of a table, and the value that a case gives it.
+struct Case {
+    which: u32,
+    at: usize,
+    value: u32,
+}
+
+fn case_of(i: u32) -> Case {
+    let table = cases::CHANGES;
+    let which = rows::word(&table, 3, i, 0);
+    let at = rows::word(&table, 3, i, 1) as usize;
+    let value = rows::word(&table, 3, i, 2);
+    Case { which, at, value }
+}
+
+// Changes a word, asks, and answers what stood there.
+fn ask_changed(
+    k: Case,
+    n: Counts,
+    types: &mut [u32],
+    relationships: &mut [u32],
+    rules: &mut [u32],
+    bodies: &mut [u32],
+    objects: &mut [u32],
+    links: &mut [u32],
+) -> u32 {
+    let old = change(
+        k.which,
+        k.at,
+        k.value,
+        types,
+        relationships,
+        rules,
+        bodies,
+        objects,
+        links,
+    );
+    show(checks::check(
+        n,
+        types,
+        relationships,
+        rules,
+        bodies,
+        objects,
+        links,
+        false,
+    ));
+    old
+}
+
+// One case: the word is changed, the checks are asked, and the word is put back.
+fn one_case(
+    k: Case,
     n: Counts,
     types: &mut [u32],
     relationships: &mut [u32],
@@ -81,44 +132,34 @@ fn changes(
     objects: &mut [u32],
     links: &mut [u32],
 ) {
-    let table = cases::CHANGES;
+    let old = ask_changed(k, n, types, relationships, rules, bodies, objects, links);
+    change(
+        k.which,
+        k.at,
+        old,
+        types,
+        relationships,
+        rules,
+        bodies,
+        objects,
+        links,
+    );
+}
+
+// Every case of the table.
+fn all_cases(
+    n: Counts,
+    types: &mut [u32],
+    relationships: &mut [u32],
+    rules: &mut [u32],
+    bodies: &mut [u32],
+    objects: &mut [u32],
+    links: &mut [u32],
+) {
     let mut i: u32 = 0;
     while i < cases::COUNT {
-        let which = rows::word(&table, 3, i, 0);
-        let at = rows::word(&table, 3, i, 1) as usize;
-        let value = rows::word(&table, 3, i, 2);
-        let old = change(
-            which,
-            at,
-            value,
-            types,
-            relationships,
-            rules,
-            bodies,
-            objects,
-            links,
-        );
-        show(checks::check(
-            n,
-            types,
-            relationships,
-            rules,
-            bodies,
-            objects,
-            links,
-            false,
-        ));
-        change(
-            which,
-            at,
-            old,
-            types,
-            relationships,
-            rules,
-            bodies,
-            objects,
-            links,
-        );
+        let k = case_of(i);
+        one_case(k, n, types, relationships, rules, bodies, objects, links);
         i += 1;
     }
 }
@@ -182,6 +223,7 @@ fn main() {
     broken(counts(0, 0, 0, 0, 0), 6);
     broken(counts(0, 0, 0, 0, 0), 7);
     broken(counts(2, 0, 0, 0, 0), 0);
+    print(b"3, 4 and 5\n");
     largest();
 }
 
@@ -197,19 +239,7 @@ fn largest() {
     park::rules(&mut rules, &mut bodies);
     park::objects(&mut objects);
     park::links(&mut links);
-    print(b"largest\n");
-    show(checks::check(
-        counts(32, 32, 32, 1024, 4096),
-        &types,
-        &relationships,
-        &rules,
-        &bodies,
-        &objects,
-        &links,
-        false,
-    ));
-    print(b"3, 4 and 5\n");
-    changes(
+    all_cases(
         counts(32, 32, 32, 1024, 4096),
         &mut types,
         &mut relationships,
