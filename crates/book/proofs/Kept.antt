@@ -1,5 +1,5 @@
 -- What the scan of a body keeps of each row that it passed.
-use Prim.Native.Nat.{ℕ, zero, suc, _+_, _≤_, _<_}
+use Prim.Native.Nat.{ℕ, suc, _+_, _≤_, _<_}
 use mathlib.Core.Path.{_≡_, refl, sym, ap, subst, _∙_}
 use mathlib.Core.Logic.{⊎-elim}
 use mathlib.Core.List.{List}
@@ -9,7 +9,7 @@ use native.Mathlib.Omega.{arith}
 use lib.ListN.{length, getD, set, replicate, length-set, length-replicate}
 use lib.Seq.{getD-set-same, getD-set-other}
 use Rattle.tables.specs.Bodies.{BodyRow}
-use Rattle.tables.proofs.Forms.{ending, ending-start, firstPart, secondPart}
+use Rattle.tables.proofs.Readings.{ending, ending-start, firstPart, secondPart}
 use Rattle.book.specs.Marks.{mark, Starts}
 
 -- an array with one value more

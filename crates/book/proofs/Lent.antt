@@ -1,21 +1,13 @@
--- The types, relationships and rules of lent tables, row by row.
-use Prim.Native.Nat.{ℕ, zero, suc, _+_, _-_, _/_, _%_, _≤_, _<_}
+-- The types and relationships of lent tables: a list of rows, as many as are used.
+use Prim.Native.Nat.{ℕ, zero, suc, _+_, _/_, _≤_, _<_}
 use mathlib.Core.Path.{_≡_, refl, sym, ap, subst, _∙_}
-use mathlib.Core.Logic.{⊎-elim}
-use mathlib.Core.Bool.{Bool, true, false, _||_, cond}
-use mathlib.Core.List.{List, [], _∷_}
-use mathlib.Core.Option.{Option, none, some}
+use mathlib.Core.List.{List}
 use native.Mathlib.Nat.{le-of-suc-le-suc, not-suc-le-zero, zero-add, add-zero, suc-add, add-suc}
-use native.Mathlib.Omega.{arith}
-use lib.Dec.{ltb, eqb}
+use lib.Dec.{ltb}
 use lib.ListN.{length, getD, List·getD-eq-default}
-use borrow.Author.Tests.{eq-eqb, ne-eqb, eqb-true, eqb-false}
-use Rattle.meaning.specs.Lists.{holds}
-use Rattle.meaning.specs.Schema.{ObjectType, Relationship, Schema, knownType, knownRelationship, knownRole, typeAt, parentOf, cellsOf, climbs, under, relationshipAt, sourceType, targetType, nearType, farType}
-use Rattle.rows.specs.Rows.{wordAt, rowsFrom, readRows}
-use Rattle.tables.specs.Columns.{noParent, typeRow, relationshipRow}
-
--- ---- rows
+use Rattle.meaning.specs.Schema.{ObjectType, Relationship, Schema, knownType, knownRelationship, knownRole}
+use Rattle.rows.specs.Rows.{rowsFrom, readRows}
+use Rattle.tables.specs.Columns.{typeRow, relationshipRow}
 
 module _ {A : Type 0} (read : ℕ → A) where
   rows-length : (i n : ℕ) → length (rowsFrom read i n) ≡ n
@@ -37,8 +29,6 @@ module _ {A : Type 0} (read : ℕ → A) where
   pub row-out : (n k : ℕ) (d : A) → n ≤ k → getD (readRows read n) k d ≡ d
   row-out n k d h = List·getD-eq-default (readRows read n) d (subst (λ m. m ≤ k) (sym (length-rows n)) h)
 
--- ---- types
-
 module _ (types : List ℕ) (n : ℕ) (rs : List Relationship) where
   abbrev pub typesOf : Schema
   typesOf = record { types = readRows (typeRow types) n; relationships = rs }
@@ -47,42 +37,6 @@ module _ (types : List ℕ) (n : ℕ) (rs : List Relationship) where
   unfolding knownType
   known-type t = ap (ltb t) (sym (length-rows (typeRow types) n))
 
-  pub cells-in : (t : ℕ) → t < n → wordAt types 2 t 1 ≡ cellsOf typesOf t
-  unfolding cellsOf typeAt typeRow
-  cells-in t h = sym (ap (λ (o : ObjectType). o .cells) (row-in (typeRow types) n t _ h))
-
-  pub cells-out : (t : ℕ) → n ≤ t → 0 ≡ cellsOf typesOf t
-  unfolding cellsOf typeAt
-  cells-out t h = sym (ap (λ (o : ObjectType). o .cells) (row-out (typeRow types) n t _ h))
-
-  pub parent-in : (t : ℕ) → t < n → parentOf typesOf t ≡ cond (eqb (wordAt types 2 t 0) noParent) none (some (wordAt types 2 t 0))
-  unfolding parentOf typeAt typeRow
-  parent-in t h = ap (λ (o : ObjectType). o .parent) (row-in (typeRow types) n t _ h)
-
-  pub parent-out : (t : ℕ) → n ≤ t → parentOf typesOf t ≡ none
-  unfolding parentOf typeAt
-  parent-out t h = ap (λ (o : ObjectType). o .parent) (row-out (typeRow types) n t _ h)
-
--- ---- the way up, step by step
-
-module _ (S : Schema) (u : ℕ) where
-  pub climb-there : (n t : ℕ) → t ≡ u → true ≡ climbs S n t u
-  unfolding climbs
-  climb-there zero t e = sym (eq-eqb t u e)
-  climb-there (suc n) t e = rw (eq-eqb t u e)
-
-  pub climb-end : (t : ℕ) → (t ≡ u → ⊥) → false ≡ climbs S 0 t u
-  unfolding climbs
-  climb-end t e = sym (ne-eqb t u e)
-
-  -- n steps from a type that is not u: n - 1 from its parent
-  pub climb-on : (n t : ℕ) → 0 < n → (t ≡ u → ⊥) → (o : Option ℕ) → parentOf S t ≡ o → climbs S n t u ≡ holds (λ p. climbs S (n - 1) p u) o
-  unfolding climbs
-  climb-on zero t h e o p = absurd (not-suc-le-zero h)
-  climb-on (suc n) t h e o p = let m : n ≡ suc n - 1 = omega arith in rw (ne-eqb t u e, p) (ap (λ k. holds (λ q. climbs S k q u) o) m)
-
--- ---- roles
-
 module _ (words : List ℕ) (n : ℕ) (ts : List ObjectType) where
   abbrev pub rolesOf : Schema
   rolesOf = record { types = ts; relationships = readRows (relationshipRow words) n }
@@ -90,59 +44,3 @@ module _ (words : List ℕ) (n : ℕ) (ts : List ObjectType) where
   pub known-role : (r : ℕ) → ltb (r / 2) n ≡ knownRole rolesOf r
   unfolding knownRole knownRelationship
   known-role r = ap (ltb (r / 2)) (sym (length-rows (relationshipRow words) n))
-
-  source-in : (k : ℕ) → k < n → sourceType rolesOf k ≡ wordAt words 2 k 0
-  unfolding sourceType relationshipAt relationshipRow
-  source-in k h = ap (λ (r : Relationship). r .source) (row-in (relationshipRow words) n k _ h)
-
-  target-in : (k : ℕ) → k < n → targetType rolesOf k ≡ wordAt words 2 k 1
-  unfolding targetType relationshipAt relationshipRow
-  target-in k h = ap (λ (r : Relationship). r .target) (row-in (relationshipRow words) n k _ h)
-
-  source-out : (k : ℕ) → n ≤ k → sourceType rolesOf k ≡ 0
-  unfolding sourceType relationshipAt
-  source-out k h = ap (λ (r : Relationship). r .source) (row-out (relationshipRow words) n k _ h)
-
-  target-out : (k : ℕ) → n ≤ k → targetType rolesOf k ≡ 0
-  unfolding targetType relationshipAt
-  target-out k h = ap (λ (r : Relationship). r .target) (row-out (relationshipRow words) n k _ h)
-
-  -- whether a role goes forward
-  module _ (r : ℕ) where
-    by-way : (P : Bool → Type 0) → (r % 2 ≡ 0 → P true) → (r % 2 ≡ 1 → P false) → P (eqb (r % 2) 0)
-    by-way P f g = step (eqb (r % 2) 0) refl
-      where
-        step : (b : Bool) → eqb (r % 2) 0 ≡ b → P b
-        step true e = f (eqb-true (r % 2) 0 e)
-        step false e = let h = eqb-false (r % 2) 0 e in g (omega arith)
-
-    abbrev word : ℕ → ℕ
-    word column = wordAt words 2 (r / 2) column
-
-    pub near-in : r / 2 < n → word (r % 2) ≡ nearType rolesOf r
-    unfolding nearType
-    near-in h =
-        by-way (λ b. word (r % 2) ≡ cond b (sourceType rolesOf (r / 2)) (targetType rolesOf (r / 2)))
-        (λ e. ap word e ∙ sym (source-in (r / 2) h))
-        (λ e. ap word e ∙ sym (target-in (r / 2) h))
-
-    pub near-out : n ≤ r / 2 → 0 ≡ nearType rolesOf r
-    unfolding nearType
-    near-out h =
-        by-way (λ b. 0 ≡ cond b (sourceType rolesOf (r / 2)) (targetType rolesOf (r / 2)))
-        (λ e. sym (source-out (r / 2) h))
-        (λ e. sym (target-out (r / 2) h))
-
-    pub far-in : r / 2 < n → word (1 - r % 2) ≡ farType rolesOf r
-    unfolding farType
-    far-in h =
-        by-way (λ b. word (1 - r % 2) ≡ cond b (targetType rolesOf (r / 2)) (sourceType rolesOf (r / 2)))
-        (λ e. ap (λ k. word (1 - k)) e ∙ sym (target-in (r / 2) h))
-        (λ e. ap (λ k. word (1 - k)) e ∙ sym (source-in (r / 2) h))
-
-    pub far-out : n ≤ r / 2 → 0 ≡ farType rolesOf r
-    unfolding farType
-    far-out h =
-        by-way (λ b. 0 ≡ cond b (targetType rolesOf (r / 2)) (sourceType rolesOf (r / 2)))
-        (λ e. sym (target-out (r / 2) h))
-        (λ e. sym (source-out (r / 2) h))

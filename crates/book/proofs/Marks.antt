@@ -1,16 +1,16 @@
 -- What the marks of the rows before a row say of the form that ends there.
-use Prim.Native.Nat.{ℕ, zero, suc, _+_, _*_, _≤_, _<_}
+use Prim.Native.Nat.{ℕ, zero, suc}
 use mathlib.Core.Path.{_≡_, refl, sym, ap, ap₂, subst, _∙_}
-use mathlib.Core.Bool.{Bool, true, false, _&&_, _||_, not, cond}
+use mathlib.Core.Bool.{Bool, true, false, _&&_, cond}
 use mathlib.Core.List.{List, [], _∷_}
 use mathlib.Core.Option.{Option, none, some}
 use native.Mathlib.Omega.{arith}
 use lib.Dec.{T, ltb, leb, eqb}
-use borrow.Author.Tests.{lt-ltb, le-leb, lt-leb}
+use borrow.Author.Tests.{lt-ltb, le-leb}
 use Rattle.meaning.specs.Forms.{Sort, truth, number, collection}
-use Rattle.tables.specs.Codes.{Operator, comparing, negating, connecting, quantifying, kindOf, literal, cellOf, sizeOf, sumOf, combining, roleOf, allOf, selecting, operators, operatorOf, shapeOf}
-use Rattle.tables.specs.Bodies.{BodyRow, Part, part, sortOf, sameSort, Reading, formOf, startOf, reads, partsFit, fieldsFit, noReading, readingOf}
-use Rattle.tables.proofs.Forms.{ending, next, firstPart, secondPart, Agree, ending-step}
+use Rattle.tables.specs.Codes.{Operator, comparing, negating, connecting, quantifying, kindOf, literal, cellOf, sizeOf, sumOf, combining, roleOf, allOf, selecting, operatorOf, shapeOf}
+use Rattle.tables.specs.Bodies.{BodyRow, Part, sortOf, sameSort, Reading, formOf, startOf, reads, partsFit, fieldsFit, readingOf}
+use Rattle.tables.proofs.Readings.{ending, firstPart, secondPart, Agree, ending-step}
 use Rattle.book.specs.Marks.{sortCode, mark, firstSort, secondSort, serves}
 
 -- the fields that a row does not use, test by test

@@ -1,14 +1,14 @@
 -- Whether a rule of lent tables is faulty, and the first that is.
-use Prim.Native.Nat.{ℕ, zero, suc, _+_, _-_, _^_, _≤_, _<_, zero-le}
-use mathlib.Core.Path.{_≡_, refl, sym, ap, ap₂, subst, _∙_}
+use Prim.Native.Nat.{ℕ, suc, _+_, _-_, _^_, _≤_, _<_, zero-le}
+use mathlib.Core.Path.{_≡_, refl, sym, ap, subst, _∙_}
 use mathlib.Core.Bool.{Bool, true, false, _&&_, not, cond}
 use mathlib.Core.List.{List, [], _∷_}
 use mathlib.Core.Option.{Option, none, some}
 use native.Mathlib.Nat.{sub-zero}
 use native.Mathlib.Numerals.{add-one}
 use native.Mathlib.Omega.{arith}
-use lib.Dec.{T, ltb, leb, eqb}
-use mir.Facts.{and-yes, yes-and, yes-leb, no-leb, yes-eqb, no-eqb}
+use lib.Dec.{T, leb}
+use mir.Facts.{yes-and, yes-leb, no-leb, yes-eqb, no-eqb}
 use borrow.Author.Tests.{lt-ltb, le-ltb, le-leb}
 use Rattle.meaning.specs.Lists.{faultFrom, firstFault}
 use Rattle.meaning.specs.Limits.{maxForms}
@@ -16,9 +16,10 @@ use Rattle.meaning.specs.Schema.{Schema, knownType}
 use Rattle.meaning.specs.Forms.{truth, Form, kind, wellTyped, formCount, Rule, faultyRule}
 use Rattle.meaning.proofs.Lists.{not-and-left, not-and-right}
 use Rattle.rows.specs.Rows.{wordAt, rowsFrom, readRows}
-use Rattle.tables.specs.Bodies.{BodyRow, part, sortOf, sameSort, reads, asTruth, wholeBody, readBody}
+use Rattle.tables.specs.Bodies.{BodyRow, reads, wholeBody, readBody}
 use Rattle.tables.specs.Columns.{ruleRow}
-use Rattle.tables.proofs.Forms.{ending, whole-ending, whole-body, body-ending, body-none, body-count, is-truth}
+use Rattle.tables.proofs.Readings.{ending, is-truth}
+use Rattle.tables.proofs.Forms.{whole-ending, whole-body, body-ending, body-none, body-count}
 use Rattle.book.specs.Marks.{bodyOf, mark}
 use Rattle.book.specs.Types.{typedPart}
 use Rattle.book.proofs.Lent.{known-type}
@@ -103,32 +104,30 @@ module _ (typeCount : ℕ) (types : List ℕ) (relationshipCount : ℕ) (relatio
 
 -- ---- the first faulty row of a table
 
-module _ {A : Type 0} (faulty : ℕ → Option A → A → Bool) (read : ℕ → A) (n : ℕ) where
-  -- no row before row i is faulty: the first faulty one is the first from row i on
-  pub record Passed (i : ℕ) : Type 0 where
-    pub within : i ≤ n
-    pub previous : Option A
-    pub same : faultFrom faulty i previous (rowsFrom read i (n - i)) ≡ firstFault faulty (readRows read n)
+-- no row before row i is faulty: the first faulty one is the first from row i on
+pub record Passed {A : Type 0} (faulty : ℕ → Option A → A → Bool) (read : ℕ → A) (n i : ℕ) : Type 0 where
+  pub within : i ≤ n
+  pub previous : Option A
+  pub same : faultFrom faulty i previous (rowsFrom read i (n - i)) ≡ firstFault faulty (readRows read n)
 
-  pub passed-none : Passed 0
-  passed-none = record { within = zero-le; previous = none; same = ap (λ m. faultFrom faulty 0 none (rowsFrom read 0 m)) (sub-zero n) }
+pub passed-none : {A : Type 0} (faulty : ℕ → Option A → A → Bool) (read : ℕ → A) (n : ℕ) → Passed faulty read n 0
+passed-none faulty read n = record { within = zero-le; previous = none; same = ap (λ m. faultFrom faulty 0 none (rowsFrom read 0 m)) (sub-zero n) }
 
-  split : (i : ℕ) → i < n → (p : Option A) → faultFrom faulty i p (rowsFrom read i (n - i)) ≡ cond (faulty i p (read i)) (some i) (faultFrom faulty (suc i) (some (read i)) (rowsFrom read (suc i) (n - suc i)))
-  split i h p = let m : n - i ≡ suc (n - suc i) = omega arith in ap (λ m. faultFrom faulty i p (rowsFrom read i m)) m
+module _ {A : Type 0} {faulty : ℕ → Option A → A → Bool} {read : ℕ → A} {n i : ℕ} (w : Passed faulty read n i) where
+  pub passed-all : n ≤ i → none ≡ firstFault faulty (readRows read n)
+  passed-all h = let m : 0 ≡ n - i = omega arith in ap (λ m. faultFrom faulty i (w .previous) (rowsFrom read i m)) m ∙ w .same
 
-  pub passed-fault : {i : ℕ} → (w : Passed i) → i < n → true ≡ faulty i (w .previous) (read i) → some i ≡ firstFault faulty (readRows read n)
-  passed-fault {i} w h e =
-      ap (λ b. cond b (some i) (faultFrom faulty (suc i) (some (read i)) (rowsFrom read (suc i) (n - suc i)))) e ∙ sym (split i h (w .previous)) ∙ w .same
+  abbrev rest : Option ℕ
+  rest = faultFrom faulty (suc i) (some (read i)) (rowsFrom read (suc i) (n - suc i))
 
-  pub passed-more : {i : ℕ} → (w : Passed i) → i < n → false ≡ faulty i (w .previous) (read i) → Passed (i + 1)
-  passed-more {i} w h e =
-      subst Passed (sym (add-one i)) (
-      record {
-        within = h;
-        previous = some (read i);
-        same = ap (λ b. cond b (some i) (faultFrom faulty (suc i) (some (read i)) (rowsFrom read (suc i) (n - suc i)))) e ∙ sym (split i h (w .previous)) ∙ w .same;
-      }
-      )
+  -- the row's test, and what is left
+  split : i < n → (b : Bool) → b ≡ faulty i (w .previous) (read i) → cond b (some i) rest ≡ firstFault faulty (readRows read n)
+  split h b e =
+      let m : suc (n - suc i) ≡ n - i = omega arith in
+      ap (λ b. cond b (some i) rest) e ∙ ap (λ m. faultFrom faulty i (w .previous) (rowsFrom read i m)) m ∙ w .same
 
-  pub passed-all : {i : ℕ} → Passed i → n ≤ i → none ≡ firstFault faulty (readRows read n)
-  passed-all {i} w h = let m : 0 ≡ n - i = omega arith in ap (λ m. faultFrom faulty i (w .previous) (rowsFrom read i m)) m ∙ w .same
+  pub passed-fault : i < n → true ≡ faulty i (w .previous) (read i) → some i ≡ firstFault faulty (readRows read n)
+  passed-fault h e = split h true e
+
+  pub passed-more : i < n → false ≡ faulty i (w .previous) (read i) → Passed faulty read n (i + 1)
+  passed-more h e = subst (Passed faulty read n) (sym (add-one i)) (record { within = h; previous = some (read i); same = split h false e })

@@ -1,40 +1,28 @@
--- The table of the operators' shapes: four words for each, in the order of `operators`.
-use Prim.Native.Nat.{ℕ, zero, suc, _+_, _*_, _≤_, _<_}
+-- The table of the operators' shapes, and which codes are operators.
+use Prim.Native.Nat.{ℕ, zero, suc, _≤_, _<_}
 use mathlib.Core.Path.{_≡_, refl, sym, ap, _∙_}
 use mathlib.Core.Bool.{Bool, true, false}
-use mathlib.Core.List.{List, [], _∷_, _++_}
-use mathlib.Core.Option.{Option, none, some, Option·none-ne-some, Option·some-injective}
+use mathlib.Core.List.{List, [], _∷_, map}
+use mathlib.Core.Option.{none, some, Option·none-ne-some, Option·some-injective}
 use native.Mathlib.Nat.{le-of-suc-le-suc, not-suc-le-zero}
-use native.Mathlib.Omega.{arith}
 use lib.Dec.{ltb}
-use lib.ListN.{length, getD, getElem?, List·getD-append}
-use lib.Seq.{getD-append-add}
+use lib.ListN.{length, getD, getElem?}
 use borrow.Author.Tests.{ltb-true, ltb-false}
 use Rattle.tables.specs.Codes.{Operator, operators, operatorOf, shapeOf}
 use Rattle.book.specs.Marks.{shapeRow, shapeWord}
 
-unfoldable pub shapeWords : List Operator → List ℕ
-shapeWords [] = []
-shapeWords (o ∷ os) = shapeRow (shapeOf o) ++ shapeWords os
+-- the table: a row for each operator, in the order of their codes
+unfoldable pub shapeRows : List (List ℕ)
+shapeRows = map (λ o. shapeRow (shapeOf o)) operators
 
-words-at : (os : List Operator) (k : ℕ) (o : Operator) → getElem? os k ≡ some o → (c : ℕ) → c < 4 → getD (shapeWords os) (k * 4 + c) 0 ≡ shapeWord (shapeOf o) c
-unfolding shapeWords
-words-at [] k o e c h = absurd (Option·none-ne-some o e)
-words-at (p ∷ os) zero o e c h =
-    let at : 0 * 4 + c ≡ c = omega arith in
-    ap (λ i. getD (shapeRow (shapeOf p) ++ shapeWords os) i 0) at
-    ∙ List·getD-append (shapeRow (shapeOf p)) (shapeWords os) 0 c h
-    ∙ ap (λ q. shapeWord (shapeOf q) c) (Option·some-injective p o e)
-words-at (p ∷ os) (suc k) o e c h =
-    let at : suc k * 4 + c ≡ 4 + (k * 4 + c) = omega arith in
-    ap (λ i. getD (shapeRow (shapeOf p) ++ shapeWords os) i 0) at
-    ∙ getD-append-add (shapeRow (shapeOf p)) (shapeWords os) (k * 4 + c) 0
-    ∙ words-at os k o e c h
+row-at : {A B : Type 0} (f : A → B) (l : List A) (d : B) (k : ℕ) (x : A) → getElem? l k ≡ some x → getD (map f l) k d ≡ f x
+row-at f [] d k x e = absurd (Option·none-ne-some x e)
+row-at f (y ∷ ys) d zero x e = ap f (Option·some-injective y x e)
+row-at f (y ∷ ys) d (suc k) x e = row-at f ys d k x e
 
--- the word in a column of an operator's shape
-pub shape-at : (k : ℕ) (o : Operator) → operatorOf k ≡ some o → (c : ℕ) → c < 4 → getD (shapeWords operators) (k * 4 + c) 0 ≡ shapeWord (shapeOf o) c
-unfolding operatorOf
-shape-at k o e c h = words-at operators k o e c h
+pub shape-at : (k : ℕ) (o : Operator) → operatorOf k ≡ some o → (c : ℕ) → getD (getD shapeRows k []) c 0 ≡ shapeWord (shapeOf o) c
+unfolding operatorOf shapeRows
+shape-at k o e c = ap (λ r. getD r c 0) (row-at (λ o. shapeRow (shapeOf o)) operators [] k o e)
 
 -- ---- which codes are operators
 

@@ -1,7 +1,7 @@
 -- Whether a form is well typed, by its row and its parts.
-use Prim.Native.Nat.{ℕ, zero, suc, _+_, _-_, _*_, _/_, _^_, _≤_, _<_}
+use Prim.Native.Nat.{ℕ, zero, suc, _+_, _-_, _/_, _^_, _≤_, _<_}
 use mathlib.Core.Path.{_≡_, refl, sym, ap, ap₂, subst, _∙_}
-use mathlib.Core.Bool.{Bool, true, false, _&&_, not, cond}
+use mathlib.Core.Bool.{Bool, true, false, _&&_, cond}
 use mathlib.Core.List.{List, [], _∷_}
 use mathlib.Core.Option.{some, Option·some-injective}
 use native.Mathlib.Nat.{le-refl}
@@ -21,7 +21,7 @@ use Rattle.rows.specs.Rows.{signed}
 use Rattle.tables.specs.Codes.{Operator, comparing, negating, connecting, quantifying, kindOf, literal, cellOf, sizeOf, sumOf, combining, roleOf, allOf, selecting, operators, operatorOf, codeOf, shapeOf}
 use Rattle.tables.specs.Bodies.{BodyRow, Part, part, sortOf, sameSort, asTruth, asNumber, asCollection, formOf, reads, partsFit}
 use Rattle.tables.specs.Columns.{schemaOf}
-use Rattle.tables.proofs.Forms.{ending, firstPart, secondPart, ending-start, node, only-fits, both-fit, code-of, sorted, sorted-parts, is-truth, is-number, is-collection}
+use Rattle.tables.proofs.Readings.{ending, firstPart, secondPart, ending-start, node, only-fits, both-fit, code-of, sorted, sorted-parts, is-truth, is-number, is-collection}
 use Rattle.book.specs.Marks.{firstSort, secondSort}
 use Rattle.book.specs.Types.{typedPart, memberOf, summed, typedLeaf}
 use Rattle.book.proofs.Shapes.{coded-below}

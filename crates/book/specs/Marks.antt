@@ -9,7 +9,7 @@ use Rattle.meaning.specs.Limits.{maxForms}
 use Rattle.meaning.specs.Forms.{Sort, truth, number, collection}
 use Rattle.tables.specs.Codes.{Shape}
 use Rattle.tables.specs.Bodies.{BodyRow, bodyRow, sortOf, Reading}
-use Rattle.tables.proofs.Forms.{ending}
+use Rattle.tables.proofs.Readings.{ending}
 
 -- the rows of a rule's body
 abbrev pub bodyOf : List ℕ → ℕ → ℕ → BodyRow

@@ -5,6 +5,7 @@ pub mod body;
 mod schema;
 mod typing;
 
+use typing::Place;
 ghost use mathlib.Core.Path.{_≡_};
 ghost use mathlib.Core.Option.{Option};
 ghost use Rattle.meaning.specs.Forms.{Rule, faultyRule, ruleFault};
@@ -32,7 +33,7 @@ fn faulty(
         return true;
     }
     let spans = body::scan(bodies, rule, n);
-    if spans.mark != 0 {
+    if spans.mark != body::TRUTH {
         return true;
     }
     let starts = spans.starts;
@@ -42,18 +43,14 @@ fn faulty(
     }
     let mut env = [0u32; 64];
     env[0] = context;
-    !typing::typed(
-        type_count,
-        types,
-        relationship_count,
-        relationships,
-        bodies,
+    let form = Place {
+        types: type_count,
+        relationships: relationship_count,
         rule,
-        &starts,
-        n,
-        1,
-        &env,
-    )
+        end: n,
+        depth: 1,
+    };
+    !typing::typed(types, relationships, bodies, &starts, &env, form)
 }
 
 // The first faulty rule.

@@ -1,4 +1,8 @@
 // Whether the forms of a body are well typed.
+use crate::body::COLLECTION;
+use crate::body::FIRST;
+use crate::body::NONE;
+use crate::body::SECOND;
 use crate::body::field;
 use crate::body::shape;
 use crate::schema;
@@ -12,214 +16,148 @@ ghost use Rattle.meaning.specs.Forms.{collection};
 ghost use Rattle.rows.specs.Rows.{readRows};
 ghost use Rattle.tables.specs.Bodies.{reads};
 ghost use Rattle.tables.specs.Columns.{relationshipRow, schemaOf};
-ghost use Rattle.tables.proofs.Forms.{ending};
+ghost use Rattle.tables.proofs.Readings.{ending};
 ghost use Rattle.book.specs.Marks.{bodyOf, Starts};
 ghost use Rattle.book.specs.Types.{typedPart, memberOf, summed, typedLeaf};
 
-// The type of the members of the collection that ends before row e.
-fn member_type(
-    relationship_count: u32,
-    relationships: &[u32],
-    bodies: &[u32],
-    rule: u32,
-    starts: &[u32; 65],
-    e: u32,
-) -> u32
-    requires { ⌜ (Starts (bodyOf (now bodies) rule) (now starts) e) × T (reads collection (ending (bodyOf (now bodies) rule) e)) ⌝ }
-    ensures { λ r. ⌜ ((ts : List ObjectType) (vs : List ℕ) → r ≡ memberOf (record { types = ts; relationships = readRows (relationshipRow (now (relationships .entry))) «relationship_count» }) vs ((ending (bodyOf (now (bodies .entry)) rule) e) .form)) ⌝ }
+// The codes of operators.
+const KIND: u32 = 13;
+
+const NUM: u32 = 14;
+
+const CELL: u32 = 15;
+
+const SUM: u32 = 17;
+
+const ALL: u32 = 21;
+
+const SELECT: u32 = 22;
+
+// A form of a rule's body: it ends before row `end` of the rule, and its variables are the first `depth`. Besides, how many types and
+// relationships are used.
+pub struct Place {
+    pub types: u32,
+    pub relationships: u32,
+    pub rule: u32,
+    pub end: u32,
+    pub depth: u32,
+}
+
+// The type of a collection's members.
+fn member_type(relationships: &[u32], bodies: &[u32], starts: &[u32; 65], at: Place) -> u32
+    requires { ⌜ (Starts (bodyOf (now bodies) (at .rule)) (now starts) (at .end)) × T (reads collection (ending (bodyOf (now bodies) (at .rule)) (at .end))) ⌝ }
+    ensures { λ r. ⌜ ((ts : List ObjectType) (vs : List ℕ) → r ≡ memberOf (record { types = ts; relationships = readRows (relationshipRow (now (relationships .entry))) (at .relationships) }) vs ((ending (bodyOf (now (bodies .entry)) (at .rule)) (at .end)) .form)) ⌝ }
 {
-    let mut row = e - 1;
-    while field(bodies, rule, row, 0) == 22 {
-        let at = row as usize;
-        row = starts[at] - 1;
+    let rule = at.rule;
+    let mut row = at.end - 1;
+    while field(bodies, rule, row, 0) == SELECT {
+        let index = row as usize;
+        row = starts[index] - 1;
     }
-    if field(bodies, rule, row, 0) == 21 {
-        field(bodies, rule, row, 1)
-    } else {
-        schema::far_type(
-            relationship_count,
-            relationships,
-            field(bodies, rule, row, 2),
-        )
+    let x = field(bodies, rule, row, 1);
+    if field(bodies, rule, row, 0) == ALL {
+        return x;
     }
+    let role = field(bodies, rule, row, 2);
+    schema::far_type(at.relationships, relationships, role)
 }
 
 // Whether a row without parts is well typed.
 fn leaf(
-    type_count: u32,
     types: &[u32],
-    relationship_count: u32,
     relationships: &[u32],
+    env: &[u32; 64],
+    at: Place,
     code: u32,
     x: u32,
     y: u32,
-    depth: u32,
-    env: &[u32; 64],
 ) -> bool
-    requires { ⌜ (length (now env) ≡ 64) × (depth ≤ 64) ⌝ }
-    ensures { λ r. ⌜ r ≡ typedLeaf (schemaOf «type_count» (now (types .entry)) «relationship_count» (now (relationships .entry))) (take depth (now (env .entry))) code x y ⌝ }
+    requires { ⌜ (length (now env) ≡ 64) × (at .depth ≤ 64) ⌝ }
+    ensures { λ r. ⌜ r ≡ typedLeaf (schemaOf (at .types) (now (types .entry)) (at .relationships) (now (relationships .entry))) (take (at .depth) (now (env .entry))) code x y ⌝ }
 {
-    if code == 14 {
+    if code == NUM {
         return true;
     }
-    if code == 21 {
-        return x < type_count;
+    if code == ALL {
+        return x < at.types;
     }
-    if depth <= x {
+    if at.depth <= x {
         return false;
     }
-    if code == 13 {
-        return y < type_count;
+    if code == KIND {
+        return y < at.types;
     }
-    let at = x as usize;
-    let t = env[at];
-    if code == 15 {
-        return y < schema::cells_of(type_count, types, t);
+    let index = x as usize;
+    let t = env[index];
+    if code == CELL {
+        return y < schema::cells_of(at.types, types, t);
     }
-    if relationship_count <= y / 2 {
+    if at.relationships <= y / 2 {
         return false;
     }
-    schema::under(
-        type_count,
-        types,
-        t,
-        schema::near_type(relationship_count, relationships, y),
-    )
+    let near = schema::near_type(at.relationships, relationships, y);
+    schema::under(at.types, types, t, near)
 }
 
-// Whether a sum over the collection that ends before row e names a cell of its members; what is no sum names none.
+// Whether a sum over a collection names a cell of its members; what is no sum names none.
 fn summable(
-    type_count: u32,
     types: &[u32],
-    relationship_count: u32,
     relationships: &[u32],
     bodies: &[u32],
-    rule: u32,
     starts: &[u32; 65],
+    at: Place,
     code: u32,
     x: u32,
-    e: u32,
 ) -> bool
-    requires { ⌜ (Starts (bodyOf (now bodies) rule) (now starts) e) × (code ≡ 17 → T (reads collection (ending (bodyOf (now bodies) rule) e))) ⌝ }
-    ensures { λ r. ⌜ ((vs : List ℕ) → r ≡ summed (schemaOf «type_count» (now (types .entry)) «relationship_count» (now (relationships .entry))) vs code x ((ending (bodyOf (now (bodies .entry)) rule) e) .form)) ⌝ }
+    requires { ⌜ (Starts (bodyOf (now bodies) (at .rule)) (now starts) (at .end)) × (code ≡ 17 → T (reads collection (ending (bodyOf (now bodies) (at .rule)) (at .end)))) ⌝ }
+    ensures { λ r. ⌜ ((vs : List ℕ) → r ≡ summed (schemaOf (at .types) (now (types .entry)) (at .relationships) (now (relationships .entry))) vs code x ((ending (bodyOf (now (bodies .entry)) (at .rule)) (at .end)) .form)) ⌝ }
 {
-    if code != 17 {
+    if code != SUM {
         return true;
     }
-    let member = member_type(relationship_count, relationships, bodies, rule, starts, e);
-    x < schema::cells_of(type_count, types, member)
+    let member = member_type(relationships, bodies, starts, at);
+    x < schema::cells_of(at.types, types, member)
 }
 
-// Whether the form that ends before row e is well typed, with variables of the first `depth` types.
+// Whether a form is well typed, by the types of its variables.
 pub fn typed(
-    type_count: u32,
     types: &[u32],
-    relationship_count: u32,
     relationships: &[u32],
     bodies: &[u32],
-    rule: u32,
     starts: &[u32; 65],
-    e: u32,
-    depth: u32,
     env: &[u32; 64],
+    at: Place,
 ) -> bool
-    requires { ⌜ (Starts (bodyOf (now bodies) rule) (now starts) e) × T ((ending (bodyOf (now bodies) rule) e) .sound) × (length (now env) ≡ 64) × (depth + e ≤ 65) ⌝ }
-    ensures { λ r. ⌜ r ≡ typedPart (schemaOf «type_count» (now (types .entry)) «relationship_count» (now (relationships .entry))) (take depth (now (env .entry))) ((ending (bodyOf (now (bodies .entry)) rule) e) .form) ⌝ }
+    requires { ⌜ (Starts (bodyOf (now bodies) (at .rule)) (now starts) (at .end)) × T ((ending (bodyOf (now bodies) (at .rule)) (at .end)) .sound) × (length (now env) ≡ 64) × (at .depth + at .end ≤ 65) ⌝ }
+    ensures { λ r. ⌜ r ≡ typedPart (schemaOf (at .types) (now (types .entry)) (at .relationships) (now (relationships .entry))) (take (at .depth) (now (env .entry))) ((ending (bodyOf (now (bodies .entry)) (at .rule)) (at .end)) .form) ⌝ }
 {
-    let row = e - 1;
-    let code = field(bodies, rule, row, 0);
-    let x = field(bodies, rule, row, 1);
-    if shape(code, 2) == 3 {
-        return leaf(
-            type_count,
-            types,
-            relationship_count,
-            relationships,
-            code,
-            x,
-            field(bodies, rule, row, 2),
-            depth,
-            env,
-        );
+    let row = at.end - 1;
+    let code = field(bodies, at.rule, row, 0);
+    let x = field(bodies, at.rule, row, 1);
+    if shape(code, SECOND) == NONE {
+        let y = field(bodies, at.rule, row, 2);
+        return leaf(types, relationships, env, at, code, x, y);
     }
-    if shape(code, 1) == 3 {
-        if !summable(
-            type_count,
-            types,
-            relationship_count,
-            relationships,
-            bodies,
-            rule,
-            starts,
-            code,
-            x,
-            row,
-        ) {
+    let mut second = at;
+    second.end = row;
+    if shape(code, FIRST) == NONE {
+        if !summable(types, relationships, bodies, starts, second, code, x) {
             return false;
         }
-        return typed(
-            type_count,
-            types,
-            relationship_count,
-            relationships,
-            bodies,
-            rule,
-            starts,
-            row,
-            depth,
-            env,
-        );
+        return typed(types, relationships, bodies, starts, env, second);
     }
-    let at = row as usize;
-    let middle = starts[at];
-    if !typed(
-        type_count,
-        types,
-        relationship_count,
-        relationships,
-        bodies,
-        rule,
-        starts,
-        middle,
-        depth,
-        env,
-    ) {
+    let index = row as usize;
+    let mut first = at;
+    first.end = starts[index];
+    if !typed(types, relationships, bodies, starts, env, first) {
         return false;
     }
-    if shape(code, 1) != 2 {
-        return typed(
-            type_count,
-            types,
-            relationship_count,
-            relationships,
-            bodies,
-            rule,
-            starts,
-            row,
-            depth,
-            env,
-        );
+    if shape(code, FIRST) != COLLECTION {
+        return typed(types, relationships, bodies, starts, env, second);
     }
     let mut inner = *env;
-    let new = depth as usize;
-    inner[new] = member_type(
-        relationship_count,
-        relationships,
-        bodies,
-        rule,
-        starts,
-        middle,
-    );
-    typed(
-        type_count,
-        types,
-        relationship_count,
-        relationships,
-        bodies,
-        rule,
-        starts,
-        row,
-        depth + 1,
-        &inner,
-    )
+    let new = at.depth as usize;
+    inner[new] = member_type(relationships, bodies, starts, first);
+    second.depth = at.depth + 1;
+    typed(types, relationships, bodies, starts, &inner, second)
 }

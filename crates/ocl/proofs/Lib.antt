@@ -1,1 +1,11 @@
 pub mod Members
+pub mod Objects
+pub mod Connectives
+pub mod Variables
+pub mod Nodes
+pub mod Steady
+pub mod Parts
+pub mod Nums
+pub mod Loops
+pub mod Answers
+pub mod Search

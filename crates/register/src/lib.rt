@@ -93,7 +93,7 @@ fn is_link(links: &[u32], row: u32, relationship: u32, source: u32, target: u32)
 }
 
 // Where an id belongs among the objects.
-fn object_place(object_count: u32, objects: &[u32], id: u32) -> u32
+pub fn object_place(object_count: u32, objects: &[u32], id: u32) -> u32
     requires { ⌜ ObjectsAscend «object_count» (now objects) ⌝ }
     ensures { λ r. ⌜ LowerBound objectKey (objectRow (now (objects .entry))) «object_count» (id ∷ []) r ⌝ }
 {

@@ -1,5 +1,6 @@
+-- `book::check` meets its contract. The loop's invariant: no rule before this one is faulty.
 use Prim.Native.Nat.{_-_}
-use mathlib.Core.Path.{_≡_, sym, ap, _∙_}
+use mathlib.Core.Path.{sym, ap, _∙_}
 use native.Mathlib.Omega.{arith}
 use borrow.Author.Needs.{needs}
 use Rattle.meaning.specs.Forms.{faultyRule, ruleFault}
@@ -8,9 +9,6 @@ use Rattle.tables.specs.Refusals.{foundOf}
 use Rattle.book.proofs.Rules.{Passed, passed-none, passed-fault, passed-more, passed-all}
 use Rattle.book.proofs.check.Statement.{statement}
 use Rattle.book.proofs.check.Tie as tie
-use Rattle.book.proofs.check.Reads as reads
-use Rattle.book.proofs.check.Lts as lts
-use Rattle.book.proofs.faulty.Reads as faulty-reads
 
 abbrev Inv-loop : tie.InvT-loop
 Inv-loop type-count types relationship-count relationships rule-count rules bodies rule₀ rule =
@@ -19,45 +17,34 @@ Inv-loop type-count types relationship-count relationships rule-count rules bodi
 abbrev μ-loop : tie.MeasureT-loop
 μ-loop type-count types relationship-count relationships rule-count rules bodies rule₀ rule = rule-count - rule
 
--- src/lib.rt:43:5
 loop-holds : tie.Need-loop-holds Inv-loop μ-loop
 loop-holds c =
     let a = c .before .before .before .before .args in
     passed-none (faultyRule (schemaOf (a .type-count) (a .types .now) (a .relationship-count) (a .relationships .now))) (ruleRow (a .rules .now) (a .bodies .now)) (a .rule-count)
 
--- src/lib.rt:44:12
 faulty-requires : tie.Need-faulty-requires Inv-loop μ-loop
 faulty-requires c κs = search needs
 
--- src/lib.rt:45:13
 returns : tie.Need-returns Inv-loop μ-loop
 unfolding ruleFault
 returns c =
-    let a = c .before .before .before .before .before .before .before .before .args in
     let w = c .before .before .before .loop .inv in
-    ap foundOf (passed-fault (faultyRule (schemaOf (a .type-count) (a .types .now) (a .relationship-count) (a .relationships .now))) (ruleRow (a .rules .now) (a .bodies .now)) (a .rule-count) w (c .before .before .loop-test .taken) (sym (c .if1 .taken) ∙ c .before .faulty .ensures (w .previous)))
+    ap foundOf (passed-fault w (c .before .before .loop-test .taken) (sym (c .if1 .taken) ∙ c .before .faulty .ensures (w .previous)))
 
--- src/lib.rt:47:9
 add-rule : tie.Need-add-rule Inv-loop μ-loop
 add-rule c = omega arith
 
--- src/lib.rt:43:5
 loop-less : tie.Need-loop-less Inv-loop μ-loop
 loop-less c = omega arith
 
--- src/lib.rt:43:5
 loop-again : tie.Need-loop-again Inv-loop μ-loop
 loop-again c =
-    let a = c .before .before .before .before .before .before .before .before .args in
     let w = c .before .before .before .loop .inv in
-    passed-more (faultyRule (schemaOf (a .type-count) (a .types .now) (a .relationship-count) (a .relationships .now))) (ruleRow (a .rules .now) (a .bodies .now)) (a .rule-count) w (c .before .before .loop-test .taken) (sym (c .if1 .left) ∙ c .before .faulty .ensures (w .previous))
+    passed-more w (c .before .before .loop-test .taken) (sym (c .if1 .left) ∙ c .before .faulty .ensures (w .previous))
 
--- src/lib.rt:39:1
 returns-2 : tie.Need-returns-2 Inv-loop μ-loop
 unfolding ruleFault
-returns-2 c =
-    let a = c .before .before .before .before .before .before .args in
-    ap foundOf (passed-all (faultyRule (schemaOf (a .type-count) (a .types .now) (a .relationship-count) (a .relationships .now))) (ruleRow (a .rules .now) (a .bodies .now)) (a .rule-count) (c .before .loop .inv) (c .loop-test .left))
+returns-2 c = ap foundOf (passed-all (c .before .loop .inv) (c .loop-test .left))
 
 pub check-spec : {M : Type 1} → statement M
 check-spec =

@@ -1,37 +1,29 @@
-use mathlib.Core.Path.{_≡_, refl, sym, _∙_}
+-- `book::faulty` meets its contract, by the laws of Rules.
 use Prim.Native.Nat.{_+_, _*_}
+use mathlib.Core.Path.{refl, sym, _∙_}
 use native.Mathlib.Nat.{le-refl}
-use lib.Dec.{T}
 use native.Mathlib.Omega.{arith}
+use lib.Dec.{T}
+use borrow.Author.Needs.{needs}
 use Rattle.rows.specs.Rows.{wordAt}
 use Rattle.tables.specs.Bodies.{wholeBody}
 use Rattle.tables.proofs.Forms.{whole-body}
 use Rattle.book.specs.Marks.{bodyOf}
 use Rattle.book.proofs.Rules.{too-long, no-truth, not-first, one-form, unknown-context, no-body, judged}
-use borrow.Author.Needs.{needs}
 use Rattle.book.proofs.faulty.Statement.{statement}
 use Rattle.book.proofs.faulty.Tie as tie
-use Rattle.book.proofs.faulty.Reads as reads
-use Rattle.book.proofs.faulty.Lts as lts
-use Rattle.book.proofs.body.scan.Reads as scan-reads
-use Rattle.book.proofs.typing.typed.Reads as typed-reads
-use Rattle.rows.proofs.word.Reads as word-reads
 
--- src/lib.rt:16:9
 word-requires : tie.Need-word-requires
 word-requires c κs = search needs
 
--- src/lib.rt:18:9
 returns : tie.Need-returns
 returns c = λ p.
     let a = c .before .before .before .before .before .before .args in
     unknown-context (a .type-count) (a .types .now) (a .relationship-count) (a .relationships .now) (a .rules .now) (a .bodies .now) (a .rule) (c .before .word .result) (wordAt (a .rules .now) 2 (a .rule) 1) (c .before .word .ensures) refl p (c .if1 .taken)
 
--- src/lib.rt:20:9
 word-requires-2 : tie.Need-word-requires-2
 word-requires-2 c κs = search needs
 
--- src/lib.rt:22:9
 returns-2 : tie.Need-returns-2
 returns-2 c = λ p.
     let a = c .before .before .before .before .before .before .before .before .args in
@@ -39,11 +31,9 @@ returns-2 c = λ p.
     no-body (a .type-count) (a .types .now) (a .relationship-count) (a .relationships .now) (a .rules .now) (a .bodies .now) (a .rule) (c .before .before .before .word .result) n (c .before .before .before .word .ensures) (c .before .word2 .ensures) p
     (too-long (bodyOf (a .bodies .now) (a .rule)) n (c .if2 .taken))
 
--- src/lib.rt:24:9
 scan-requires : tie.Need-scan-requires
 scan-requires c κs = search needs
 
--- src/lib.rt:26:9
 returns-3 : tie.Need-returns-3
 returns-3 c = λ p.
     let a = c .before .before .before .before .before .before .before .before .before .before .before .args in
@@ -51,19 +41,15 @@ returns-3 c = λ p.
     no-body (a .type-count) (a .types .now) (a .relationship-count) (a .relationships .now) (a .rules .now) (a .bodies .now) (a .rule) (c .before .before .before .before .before .before .word .result) n (c .before .before .before .before .before .before .word .ensures) (c .before .before .before .before .word2 .ensures) p
     (no-truth (bodyOf (a .bodies .now) (a .rule)) n (λ e. c .if3 .taken (c .before .before .scan .ensures .1 ∙ e)))
 
--- src/lib.rt:29:16
 cast-last : tie.Need-cast-last
 cast-last c = search needs
 
--- src/lib.rt:30:8
 mul-if4 : tie.Need-mul-if4
 mul-if4 c = search needs
 
--- src/lib.rt:30:8
 array-read-if4 : tie.Need-array-read-if4
 array-read-if4 c = search needs
 
--- src/lib.rt:31:9
 returns-4 : tie.Need-returns-4
 returns-4 c = λ p.
     let a = c .before .before .before .before .before .before .before .before .before .before .before .before .before .args in
@@ -71,7 +57,6 @@ returns-4 c = λ p.
     no-body (a .type-count) (a .types .now) (a .relationship-count) (a .relationships .now) (a .rules .now) (a .bodies .now) (a .rule) (c .before .before .before .before .before .before .before .before .word .result) n (c .before .before .before .before .before .before .before .before .word .ensures) (c .before .before .before .before .before .before .word2 .ensures) p
     (not-first (bodyOf (a .bodies .now) (a .rule)) n (λ e. c .if4 .taken (c .before .before .before .before .scan .ensures .0 .right n (le-refl n) ∙ e)))
 
--- src/lib.rt:34:5
 array-write-env : tie.Need-array-write-env
 array-write-env c = search needs
 
@@ -83,7 +68,6 @@ whole c =
     one-form (bodyOf (c .before .before .before .before .before .before .before .before .before .before .before .before .before .args .bodies .now) (c .before .before .before .before .before .before .before .before .before .before .before .before .before .args .rule)) n (c .before .before .before .before .before .if2 .left) (sym (scanned .1) ∙ c .before .before .if3 .left)
     (sym (scanned .0 .right n (le-refl n)) ∙ c .if4 .left)
 
--- src/lib.rt:35:6
 typed-requires : tie.Need-typed-requires
 typed-requires c κs =
     let n = c .before .before .before .before .before .before .before .before .word2 .result in
@@ -91,7 +75,6 @@ typed-requires c κs =
     let few = w .few in
     (c .before .before .before .before .before .before .scan .ensures .0, w .sound, refl, omega arith)
 
--- src/lib.rt:13:1
 returns-5 : tie.Need-returns-5
 returns-5 c = λ p.
     let a = c .before .before .before .before .before .before .before .before .before .before .before .before .before .before .before .before .args in

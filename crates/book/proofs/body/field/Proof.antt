@@ -1,3 +1,4 @@
+-- `book::body::field` meets its contract: the 64 rows of a rule's body are one row of 256 words.
 use Prim.Native.Nat.{_+_, _*_}
 use mathlib.Core.Path.{_≡_, ap, _∙_}
 use native.Mathlib.Omega.{arith}
@@ -5,23 +6,16 @@ use lib.ListN.{getD}
 use borrow.Author.Needs.{needs}
 use Rattle.book.proofs.body.field.Statement.{statement}
 use Rattle.book.proofs.body.field.Tie as tie
-use Rattle.book.proofs.body.field.Reads as reads
-use Rattle.book.proofs.body.field.Lts as lts
-use Rattle.rows.proofs.word.Reads as word-reads
 
--- src/body.rt:37:35
 mul-word : tie.Need-mul-word
 mul-word c = search needs
 
--- src/body.rt:37:35
 add-word : tie.Need-add-word
 add-word c = search needs
 
--- src/body.rt:37:5
 word-requires : tie.Need-word-requires
 word-requires c κs = search needs
 
--- src/body.rt:33:1
 returns : tie.Need-returns
 returns c =
     let a = c .before .before .args in

@@ -7,14 +7,12 @@ use borrow.Author.Needs.{needs}
 use borrow.Author.Tests.{not-true, not-false}
 use Rattle.tables.specs.Codes.{Operator, operatorOf, shapeOf}
 use Rattle.tables.specs.Bodies.{BodyRow, fieldsFit}
-use Rattle.tables.proofs.Forms.{firstPart, secondPart}
+use Rattle.tables.proofs.Readings.{firstPart, secondPart}
 use Rattle.book.specs.Marks.{bodyOf, mark, firstSort, secondSort, serves}
 use Rattle.book.proofs.Shapes.{operator-at, no-operator-at}
 use Rattle.book.proofs.Marks.{mark-none, mark-some}
 use Rattle.book.proofs.body.mark_at.Statement.{statement}
 use Rattle.book.proofs.body.mark_at.Tie as tie
-use Rattle.book.proofs.body.mark_at.Reads as reads
-use Rattle.book.proofs.body.mark_at.Lts as lts
 
 abbrev rows : tie.Start → ℕ → BodyRow
 rows c = bodyOf (c .args .bodies .now) (c .args .rule)

@@ -1,70 +1,70 @@
+-- `book::body::start_at` meets its contract: the tests that the code makes in turn are those of the reading.
+use Prim.Native.Nat.{ℕ}
 use mathlib.Core.Path.{_≡_, sym, _∙_}
+use mathlib.Core.Option.{some}
 use native.Mathlib.Omega.{arith}
+use borrow.Author.Needs.{needs}
 use borrow.Author.Tests.{eq-eqb, ne-eqb}
-use Rattle.tables.specs.Codes.{shapeOf}
+use Rattle.tables.specs.Codes.{Operator, operatorOf, shapeOf}
+use Rattle.tables.specs.Bodies.{BodyRow}
 use Rattle.book.specs.Marks.{bodyOf, firstSort, secondSort}
 use Rattle.book.proofs.Shapes.{operator-at, no-operator-at}
 use Rattle.book.proofs.Marks.{start-none, start-some}
-use borrow.Author.Needs.{needs}
 use Rattle.book.proofs.body.start_at.Statement.{statement}
 use Rattle.book.proofs.body.start_at.Tie as tie
-use Rattle.book.proofs.body.start_at.Reads as reads
-use Rattle.book.proofs.body.start_at.Lts as lts
-use Rattle.book.proofs.body.field.Reads as field-reads
-use Rattle.book.proofs.body.shape.Reads as shape-reads
 
--- src/body.rt:94:9
+abbrev rows : tie.Start → ℕ → BodyRow
+rows s = bodyOf (s .args .bodies .now) (s .args .rule)
+
+-- the row's operator
+operator : (c : tie.Else1) → (o : Operator) × (operatorOf (c .before .field .result) ≡ some o) × (operatorOf ((rows (c .before .before .before) (c .before .before .before .args .row)) .code) ≡ some o)
+operator c =
+    let s = c .before .before .before in
+    operator-at ((rows s (s .args .row)) .code) (c .before .field .result) (c .before .field .ensures) (c .if1 .left)
+
+-- the parts that it wants
+second : (c : tie.After-shape) → c .shape .result ≡ secondSort ((shapeOf (operator (c .before) .0)) .parts)
+second c = let w = operator (c .before) in c .shape .ensures (w .0) (w .1)
+
+first : (c : tie.After-shape2) → c .shape2 .result ≡ firstSort ((shapeOf (operator (c .before .before .before) .0)) .parts)
+first c = let w = operator (c .before .before .before) in c .shape2 .ensures (w .0) (w .1)
+
 field-requires : tie.Need-field-requires
 field-requires c κs = search needs
 
--- src/body.rt:96:9
 returns : tie.Need-returns
 returns c =
-    let a = c .before .before .before .args in
-    let rows = bodyOf (a .bodies .now) (a .rule) in
-    sym (start-none rows (a .row) (no-operator-at ((rows (a .row)) .code) (c .before .field .result) (c .before .field .ensures) (c .if1 .taken)))
+    let s = c .before .before .before in
+    sym (start-none (rows s) (s .args .row) (no-operator-at ((rows s (s .args .row)) .code) (c .before .field .result) (c .before .field .ensures) (c .if1 .taken)))
 
--- src/body.rt:98:8
 shape-requires : tie.Need-shape-requires
 shape-requires c κs = search needs
 
--- src/body.rt:99:9
 returns-2 : tie.Need-returns-2
 returns-2 c =
-    let a = c .before .before .before .before .before .args in
-    let rows = bodyOf (a .bodies .now) (a .rule) in
-    let f = c .before .before .before .field in
-    let w = operator-at ((rows (a .row)) .code) (f .result) (f .ensures) (c .before .before .if1 .left) in
-    let second : secondSort ((shapeOf (w .0)) .parts) ≡ 3 = sym (c .before .shape .ensures (w .0) (w .1)) ∙ c .if2 .taken in
-    sym (start-some rows (a .row) (w .0) (w .2) ∙ simp (eq-eqb _ 3 second))
+    let s = c .before .before .before .before .before in
+    let w = operator (c .before .before) in
+    sym (start-some (rows s) (s .args .row) (w .0) (w .2) ∙ simp (eq-eqb (secondSort ((shapeOf (w .0)) .parts)) 3 (sym (second (c .before)) ∙ c .if2 .taken)))
 
--- src/body.rt:101:8
 shape-requires-2 : tie.Need-shape-requires-2
 shape-requires-2 c κs = search needs
 
--- src/body.rt:90:1
+second-some : (c : tie.Else2) → secondSort ((shapeOf (operator (c .before .before) .0)) .parts) ≡ 3 → ⊥
+second-some c e = c .if2 .left (second (c .before) ∙ e)
+
 returns-3 : tie.Need-returns-3
 returns-3 c =
-    let a = c .before .before .before .before .before .before .before .args in
-    let rows = bodyOf (a .bodies .now) (a .rule) in
-    let f = c .before .before .before .before .before .field in
-    let w = operator-at ((rows (a .row)) .code) (f .result) (f .ensures) (c .before .before .before .before .if1 .left) in
+    let s = c .before .before .before .before .before .before .before in
+    let w = operator (c .before .before .before .before) in
     let parts = (shapeOf (w .0)) .parts in
-    let second : secondSort parts ≡ 3 → ⊥ = λ e. c .before .before .if2 .left (c .before .before .before .shape .ensures (w .0) (w .1) ∙ e) in
-    let first = c .before .shape2 .ensures (w .0) (w .1) in
-    sym (start-some rows (a .row) (w .0) (w .2) ∙ simp (ne-eqb (secondSort parts) 3 second, eq-eqb (firstSort parts) 3 (omega arith)) (omega arith))
+    sym (start-some (rows s) (s .args .row) (w .0) (w .2) ∙ simp (ne-eqb (secondSort parts) 3 (second-some (c .before .before)), eq-eqb (firstSort parts) 3 (sym (first (c .before)) ∙ c .if3 .taken)) (omega arith))
 
--- src/body.rt:90:1
 returns-4 : tie.Need-returns-4
 returns-4 c =
-    let a = c .before .before .before .before .before .before .before .args in
-    let rows = bodyOf (a .bodies .now) (a .rule) in
-    let f = c .before .before .before .before .before .field in
-    let w = operator-at ((rows (a .row)) .code) (f .result) (f .ensures) (c .before .before .before .before .if1 .left) in
+    let s = c .before .before .before .before .before .before .before in
+    let w = operator (c .before .before .before .before) in
     let parts = (shapeOf (w .0)) .parts in
-    let second : secondSort parts ≡ 3 → ⊥ = λ e. c .before .before .if2 .left (c .before .before .before .shape .ensures (w .0) (w .1) ∙ e) in
-    let first = c .before .shape2 .ensures (w .0) (w .1) in
-    sym (start-some rows (a .row) (w .0) (w .2) ∙ simp (ne-eqb (secondSort parts) 3 second, ne-eqb (firstSort parts) 3 (omega arith)) (omega arith))
+    sym (start-some (rows s) (s .args .row) (w .0) (w .2) ∙ simp (ne-eqb (secondSort parts) 3 (second-some (c .before .before)), ne-eqb (firstSort parts) 3 (λ e. c .if3 .left (first (c .before) ∙ e))) (omega arith))
 
 pub start-at-spec : {M : Type 1} → statement M
 start-at-spec =

@@ -1,17 +1,14 @@
+-- `book::body::unused` meets its contract.
 use mathlib.Core.Path.{ap}
 use native.Mathlib.Omega.{arith}
 use lib.Dec.{eqb}
 use borrow.Author.Tests.{eq-eqb, ne-eqb, le-leb, lt-leb}
+use borrow.Author.Needs.{needs}
 use Rattle.book.specs.Marks.{bodyOf}
 use Rattle.book.proofs.Marks.{fields-test}
-use borrow.Author.Needs.{needs}
 use Rattle.book.proofs.body.unused.Statement.{statement}
 use Rattle.book.proofs.body.unused.Tie as tie
-use Rattle.book.proofs.body.unused.Reads as reads
-use Rattle.book.proofs.body.unused.Lts as lts
-use Rattle.book.proofs.body.field.Reads as field-reads
 
--- src/body.rt:55:8
 field-requires : tie.Need-field-requires
 field-requires c κs = search needs
 

@@ -1,19 +1,20 @@
+-- `book::schema::under` meets its contract. The loop's invariant: the steps left from the type reached come to u as those from t do.
+use Prim.Native.Nat.{_-_}
 use mathlib.Core.Path.{_≡_, refl, sym, ap, _∙_}
 use mathlib.Core.Bool.{cond}
 use mathlib.Core.List.{List}
 use mathlib.Core.Option.{none, some}
+use native.Mathlib.Omega.{arith}
 use lib.Dec.{eqb}
 use borrow.Author.Tests.{eq-eqb, ne-eqb}
-use native.Mathlib.Omega.{arith}
 use borrow.Author.Needs.{needs}
+use Rattle.meaning.specs.Lists.{holds}
 use Rattle.meaning.specs.Schema.{Relationship, climbs, under}
 use Rattle.tables.specs.Columns.{noParent}
-use Rattle.book.proofs.Lent.{typesOf, climb-there, climb-end, climb-on}
+use Rattle.book.proofs.Lent.{typesOf}
+use Rattle.book.proofs.Climbs.{climb-there, climb-end, climb-on}
 use Rattle.book.proofs.schema.under.Statement.{statement}
 use Rattle.book.proofs.schema.under.Tie as tie
-use Rattle.book.proofs.schema.under.Reads as reads
-use Rattle.book.proofs.schema.under.Lts as lts
-use Rattle.book.proofs.schema.parent_of.Reads as parent-of-reads
 
 abbrev Inv-loop : tie.InvT-loop
 Inv-loop type-count types t u at₀ left₀ at left =
@@ -22,12 +23,10 @@ Inv-loop type-count types t u at₀ left₀ at left =
 abbrev μ-loop : tie.MeasureT-loop
 μ-loop type-count types t u at₀ left₀ at left = left
 
--- src/schema.rt:39:5
 loop-holds : tie.Need-loop-holds Inv-loop μ-loop
 unfolding under
 loop-holds c = λ rs. refl
 
--- src/schema.rt:41:13
 returns : tie.Need-returns Inv-loop μ-loop
 returns c = λ rs.
     let a = c .before .before .before .before .args in
@@ -35,41 +34,30 @@ returns c = λ rs.
     let S = typesOf (a .types .now) (a .type-count) rs in
     climb-end S (a .u) at (c .before .loop-test .taken) ∙ ap (λ n. climbs S n at (a .u)) (sym (c .if1 .taken)) ∙ c .before .before .loop .inv rs
 
--- src/schema.rt:43:13
 parent-of-requires : tie.Need-parent-of-requires Inv-loop μ-loop
 parent-of-requires c κs = search needs
 
--- src/schema.rt:45:13
-returns-2 : tie.Need-returns-2 Inv-loop μ-loop
-returns-2 c = λ rs.
-    let a = c .before .before .before .before .before .before .args in
-    let at = c .before .before .before .before .loop .at in
-    let left = c .before .before .before .before .loop .left in
-    let parent = c .before .parent-of .result in
+-- a step up
+on : (c : tie.After-parent-of Inv-loop μ-loop) (rs : List Relationship) → let a = c .before .before .before .before .before .args in let S = typesOf (a .types .now) (a .type-count) rs in let left = c .before .before .before .loop .left in let parent = c .parent-of .result in holds (λ p. climbs S (left - 1) p (a .u)) (cond (eqb parent noParent) none (some parent)) ≡ under S (a .t) (a .u)
+on c rs =
+    let a = c .before .before .before .before .before .args in
     let S = typesOf (a .types .now) (a .type-count) rs in
-    let on = climb-on S (a .u) left at (omega arith) (c .before .before .before .loop-test .taken) (cond (eqb parent noParent) none (some parent)) (c .before .parent-of .ensures rs) in
-    sym (simp (eq-eqb parent noParent (c .if2 .taken)) at on) ∙ c .before .before .before .before .loop .inv rs
+    let parent = c .parent-of .result in
+    sym (climb-on S (a .u) (c .before .before .before .loop .left) (c .before .before .before .loop .at) (omega arith) (c .before .before .loop-test .taken) (cond (eqb parent noParent) none (some parent)) (c .parent-of .ensures rs))
+    ∙ c .before .before .before .loop .inv rs
 
--- src/schema.rt:48:9
+returns-2 : tie.Need-returns-2 Inv-loop μ-loop
+returns-2 c = λ rs. simp (eq-eqb (c .before .parent-of .result) noParent (c .if2 .taken)) at (on (c .before) rs)
+
 sub-left : tie.Need-sub-left Inv-loop μ-loop
 sub-left c = omega arith
 
--- src/schema.rt:39:5
 loop-less : tie.Need-loop-less Inv-loop μ-loop
 loop-less c = omega arith
 
--- src/schema.rt:39:5
 loop-again : tie.Need-loop-again Inv-loop μ-loop
-loop-again c = λ rs.
-    let a = c .before .before .before .before .before .before .args in
-    let at = c .before .before .before .before .loop .at in
-    let left = c .before .before .before .before .loop .left in
-    let parent = c .before .parent-of .result in
-    let S = typesOf (a .types .now) (a .type-count) rs in
-    let on = climb-on S (a .u) left at (omega arith) (c .before .before .before .loop-test .taken) (cond (eqb parent noParent) none (some parent)) (c .before .parent-of .ensures rs) in
-    sym (simp (ne-eqb parent noParent (c .if2 .left)) at on) ∙ c .before .before .before .before .loop .inv rs
+loop-again c = λ rs. simp (ne-eqb (c .before .parent-of .result) noParent (c .if2 .left)) at (on (c .before) rs)
 
--- src/schema.rt:34:1
 returns-3 : tie.Need-returns-3 Inv-loop μ-loop
 returns-3 c = λ rs.
     let a = c .before .before .before .args in

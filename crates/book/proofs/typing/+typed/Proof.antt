@@ -1,5 +1,5 @@
--- `book::typing::typed` meets its contract, by the laws of Types: the tests that the code makes in turn are those of the form that
--- ends before row e. The measure is e: each part ends before its form's row.
+-- `book::typing::typed` meets its contract, by the laws of Types: the tests that the code makes in turn are those of the form.
+-- The measure is where the form ends: each part ends before its form's row.
 use Prim.Native.Nat.{ℕ, suc, _-_, _+_, _^_, _≤_, _<_}
 use mathlib.Core.Path.{_≡_, sym, ap, subst, _∙_}
 use mathlib.Core.Bool.{Bool, false, cond}
@@ -9,17 +9,17 @@ use native.Mathlib.Omega.{arith}
 use lib.Dec.{T}
 use lib.ListN.{length, getD, take, set, length-set}
 use borrow.Author.Tests.{not-true, not-false}
+use borrow.Fn.Kinds.{In}
+use borrow.Fn.PlainCycle.{Measures, is, falls, and}
 use Rattle.meaning.specs.Schema.{Schema}
 use Rattle.meaning.specs.Forms.{Sort, collection, bind}
 use Rattle.tables.specs.Codes.{operatorOf}
 use Rattle.tables.specs.Bodies.{BodyRow, reads}
-use Rattle.tables.proofs.Forms.{ending, ending-start, firstPart, secondPart, sound-pos}
+use Rattle.tables.proofs.Readings.{ending, ending-start, firstPart, secondPart, sound-pos}
 use Rattle.book.specs.Marks.{bodyOf, firstSort, secondSort, Starts}
 use Rattle.book.specs.Types.{typedPart, memberOf, summed, typedLeaf}
 use Rattle.book.proofs.Kept.{starts-less}
 use Rattle.book.proofs.Types.{lent, operatorHere, partsHere, coded-here, code-here, second-here, first-here, binds-here, sums-here, leaf-here, one-here, plain-here, bound-here, fails-here, bind-take}
-use borrow.Fn.Kinds.{In}
-use borrow.Fn.PlainCycle.{Measures, is, falls, and}
 use Rattle.book.proofs.typing.typed.Reads as typed
 use Rattle.book.proofs.typing.typed.Kinds as typed-kinds
 use Rattle.book.proofs.typing.+typed.Lts-typed as typed-lts
@@ -32,7 +32,7 @@ use Rattle.book.proofs.typing.+typed.{statement}
 use Rattle.book.proofs.typing.+typed.Tie.{close}
 
 abbrev μ-typed : Measures 5 typed-kinds.ps ℕ
-μ-typed κs a = a .1 .1 .1 .1 .1 .1 .1 .0
+μ-typed κs a = a .1 .1 .1 .1 .1 .0 .end
 
 -- what `typed` is given at the measure t, and what a call of it asks below t
 abbrev typed-at : ℕ → In 5 typed-kinds.ps
@@ -49,23 +49,23 @@ module _ (t : ℕ) where
   Start = typed-lts.Start (calls t) (typed-at t) typed.Post
 
   abbrev rows : Start → ℕ → BodyRow
-  rows s = bodyOf (s .args .bodies .now) (s .args .rule)
+  rows s = bodyOf (s .args .bodies .now) (s .args .at .rule)
 
   abbrev row : Start → ℕ
-  row s = s .args .e - 1
+  row s = s .args .at .end - 1
 
   abbrev schema : Start → Schema
-  schema s = lent (s .args .type-count) (s .args .types .now) (s .args .relationship-count) (s .args .relationships .now)
+  schema s = lent (s .args .at .types) (s .args .types .now) (s .args .at .relationships) (s .args .relationships .now)
 
   abbrev scope : Start → List ℕ
-  scope s = take (s .args .depth) (s .args .env .now)
+  scope s = take (s .args .at .depth) (s .args .env .now)
 
   -- ---- the row, and what is read of it
 
-  positive : (s : Start) → 0 < s .args .e
-  positive s = sound-pos (rows s) (s .args .e) (s .pre .1 .1)
+  positive : (s : Start) → 0 < s .args .at .end
+  positive s = sound-pos (rows s) (s .args .at .end) (s .pre .1 .1)
 
-  whole : (s : Start) → suc (row s) ≡ s .args .e
+  whole : (s : Start) → suc (row s) ≡ s .args .at .end
   whole s = let h = positive s in omega arith
 
   sound : (s : Start) → T ((ending (rows s) (suc (row s))) .sound)
@@ -78,95 +78,100 @@ module _ (t : ℕ) where
   parts s = partsHere (rows s) (row s) (sound s)
 
   low : (c : typed-lts.After-field (calls t) (typed-at t) typed.Post) → c .field .result < 23
-  low c = let s = c .before .before .before .before in subst (λ k. k < 23) (sym (c .field .ensures)) (code-here (rows s) (row s) (sound s))
+  low c = let s = c .before .before .before .before .before in subst (λ k. k < 23) (sym (c .field .ensures)) (code-here (rows s) (row s) (sound s))
 
-  coded : (c : typed-lts.After-field (calls t) (typed-at t) typed.Post) → let s = c .before .before .before .before in operatorOf (c .field .result) ≡ some (operatorHere (rows s) (row s) (sound s))
-  coded c = let s = c .before .before .before .before in ap operatorOf (c .field .ensures) ∙ coded-here (rows s) (row s) (sound s)
+  coded : (c : typed-lts.After-field (calls t) (typed-at t) typed.Post) → let s = c .before .before .before .before .before in operatorOf (c .field .result) ≡ some (operatorHere (rows s) (row s) (sound s))
+  coded c = let s = c .before .before .before .before .before in ap operatorOf (c .field .ensures) ∙ coded-here (rows s) (row s) (sound s)
 
-  word : (c : typed-lts.After-field2 (calls t) (typed-at t) typed.Post) → let s = c .before .before .before .before .before in (rows s (row s)) .x < 2 ^ 32
+  word : (c : typed-lts.After-field2 (calls t) (typed-at t) typed.Post) → let s = c .before .before .before .before .before .before in (rows s (row s)) .x < 2 ^ 32
   word c = subst (λ n. n < 2 ^ 32) (c .field2 .ensures) (c .field2 .ok)
 
-  second : (c : typed-lts.After-shape (calls t) (typed-at t) typed.Post) → c .shape .result ≡ secondSort (parts (c .before .before .before .before .before .before))
-  second c = let s = c .before .before .before .before .before .before in c .shape .ensures (operatorHere (rows s) (row s) (sound s)) (coded (c .before .before))
+  second : (c : typed-lts.After-shape (calls t) (typed-at t) typed.Post) → c .shape .result ≡ secondSort (parts (c .before .before .before .before .before .before .before))
+  second c = let s = c .before .before .before .before .before .before .before in c .shape .ensures (operatorHere (rows s) (row s) (sound s)) (coded (c .before .before))
 
-  first : (c : typed-lts.After-shape2 (calls t) (typed-at t) typed.Post) → c .shape2 .result ≡ firstSort (parts (c .before .before .before .before .before .before .before .before))
-  first c = let s = c .before .before .before .before .before .before .before .before in c .shape2 .ensures (operatorHere (rows s) (row s) (sound s)) (coded (c .before .before .before .before))
+  first : (c : typed-lts.After-shape2 (calls t) (typed-at t) typed.Post) → c .shape2 .result ≡ firstSort (parts (c .before .before .before .before .before .before .before .before .before))
+  first c = let s = c .before .before .before .before .before .before .before .before .before in c .shape2 .ensures (operatorHere (rows s) (row s) (sound s)) (coded (c .before .before .before .before))
 
-  -- an answer of the form that ends with the row is one of the form that ends before row e
-  answer : (s : Start) {r : Bool} → r ≡ typedPart (schema s) (scope s) ((ending (rows s) (suc (row s))) .form) → r ≡ typedPart (schema s) (scope s) ((ending (rows s) (s .args .e)) .form)
+  -- an answer of the form that ends with the row is one of the form at the place
+  answer : (s : Start) {r : Bool} → r ≡ typedPart (schema s) (scope s) ((ending (rows s) (suc (row s))) .form) → r ≡ typedPart (schema s) (scope s) ((ending (rows s) (s .args .at .end)) .form)
   answer s p = p ∙ ap (λ n. typedPart (schema s) (scope s) ((ending (rows s) n) .form)) (whole s)
 
-  -- the second part ends before the row
-  second-sound : (c : typed-lts.Else1 (calls t) (typed-at t) typed.Post) → let s = c .before .before .before .before .before .before .before in T ((ending (rows s) (row s)) .sound)
-  second-sound c = let s = c .before .before .before .before .before .before .before in second-here (rows s) (row s) (sound s) (λ q. c .if1 .left (second (c .before) ∙ q))
+  -- ---- the second part, which ends before the row
 
-  -- what a call for the second part asks, with one more variable or none
-  second-asks : (c : typed-lts.Else1 (calls t) (typed-at t) typed.Post) (env : List ℕ) (depth : ℕ) → let s = c .before .before .before .before .before .before .before in length env ≡ 64 → depth + row s ≤ 65 → (row s < t) × ((Starts (rows s) (s .args .starts .now) (row s)) × T ((ending (rows s) (row s)) .sound) × (length env ≡ 64) × (depth + row s ≤ 65))
+  second-sound : (c : typed-lts.Else1 (calls t) (typed-at t) typed.Post) → let s = c .before .before .before .before .before .before .before .before in T ((ending (rows s) (row s)) .sound)
+  second-sound c = let s = c .before .before .before .before .before .before .before .before in second-here (rows s) (row s) (sound s) (λ q. c .if1 .left (second (c .before) ∙ q))
+
+  -- what a call asks, with one more variable or none
+  second-asks : (c : typed-lts.Else1 (calls t) (typed-at t) typed.Post) (env : List ℕ) (depth : ℕ) → let s = c .before .before .before .before .before .before .before .before in length env ≡ 64 → depth + row s ≤ 65 → (row s < t) × ((Starts (rows s) (s .args .starts .now) (row s)) × T ((ending (rows s) (row s)) .sound) × (length env ≡ 64) × (depth + row s ≤ 65))
   second-asks c env depth l h =
-      let s = c .before .before .before .before .before .before .before in
+      let s = c .before .before .before .before .before .before .before .before in
       let k = positive s in
       let m = s .pre .0 in
       (omega arith, (starts-less (s .pre .1 .0) (row s) (omega arith), second-sound c, l, h))
 
-  -- a form with one part
-  one : (c : typed-lts.Then2 (calls t) (typed-at t) typed.Post) → let s = c .before .before .before .before .before .before .before .before .before in cond (summed (schema s) (scope s) ((rows s (row s)) .code) ((rows s (row s)) .x) ((secondPart (rows s) (row s)) .form)) (typedPart (schema s) (scope s) ((secondPart (rows s) (row s)) .form)) false ≡ typedPart (schema s) (scope s) ((ending (rows s) (suc (row s))) .form)
+  -- ---- a form with one part
+
+  one : (c : typed-lts.Then2 (calls t) (typed-at t) typed.Post) → let s = c .before .before .before .before .before .before .before .before .before .before in cond (summed (schema s) (scope s) ((rows s (row s)) .code) ((rows s (row s)) .x) ((secondPart (rows s) (row s)) .form)) (typedPart (schema s) (scope s) ((secondPart (rows s) (row s)) .form)) false ≡ typedPart (schema s) (scope s) ((ending (rows s) (suc (row s))) .form)
   one c =
-      let s = c .before .before .before .before .before .before .before .before .before in
+      let s = c .before .before .before .before .before .before .before .before .before .before in
       one-here (rows s) (row s) (sound s) (schema s) (scope s) (word (c .before .before .before .before)) (λ q. c .before .before .if1 .left (second (c .before .before .before) ∙ q)) (sym (first (c .before)) ∙ c .if2 .taken)
 
-  sum-is : (c : typed-lts.After-summable (calls t) (typed-at t) typed.Post) → let s = c .before .before .before .before .before .before .before .before .before .before in summed (schema s) (scope s) ((rows s (row s)) .code) ((rows s (row s)) .x) ((secondPart (rows s) (row s)) .form) ≡ c .summable .result
+  sum-is : (c : typed-lts.After-summable (calls t) (typed-at t) typed.Post) → let s = c .before .before .before .before .before .before .before .before .before .before .before in summed (schema s) (scope s) ((rows s (row s)) .code) ((rows s (row s)) .x) ((secondPart (rows s) (row s)) .form) ≡ c .summable .result
   sum-is c =
-      let s = c .before .before .before .before .before .before .before .before .before .before in
+      let s = c .before .before .before .before .before .before .before .before .before .before .before in
       let code = sym (c .before .before .before .before .before .before .field .ensures) in
       let x = sym (c .before .before .before .before .before .field2 .ensures) in
       (λ j. summed (schema s) (scope s) (code j) (x j) ((secondPart (rows s) (row s)) .form)) ∙ sym (c .summable .ensures (scope s))
 
-  -- a form with two parts: the first ends before the start of the second
+  -- ---- a form with two parts: the first ends before the start of the second
+
   middle-is : (s : Start) → getD (s .args .starts .now) (row s) 0 ≡ (ending (rows s) (row s)) .start
   middle-is s = s .pre .1 .0 .right (row s) (omega arith)
 
   middle-low : (s : Start) → getD (s .args .starts .now) (row s) 0 ≤ row s
   middle-low s = subst (λ n. n ≤ row s) (sym (middle-is s)) (ending-start (rows s) (row s))
 
-  second-some : (c : typed-lts.Else2 (calls t) (typed-at t) typed.Post) → secondSort (parts (c .before .before .before .before .before .before .before .before .before)) ≡ 3 → ⊥
+  second-some : (c : typed-lts.Else2 (calls t) (typed-at t) typed.Post) → secondSort (parts (c .before .before .before .before .before .before .before .before .before .before)) ≡ 3 → ⊥
   second-some c q = c .before .before .if1 .left (second (c .before .before .before) ∙ q)
 
-  first-some : (c : typed-lts.Else2 (calls t) (typed-at t) typed.Post) → firstSort (parts (c .before .before .before .before .before .before .before .before .before)) ≡ 3 → ⊥
+  first-some : (c : typed-lts.Else2 (calls t) (typed-at t) typed.Post) → firstSort (parts (c .before .before .before .before .before .before .before .before .before .before)) ≡ 3 → ⊥
   first-some c q = c .if2 .left (first (c .before) ∙ q)
 
-  first-typed : (c : typed-lts.After-typed2 (calls t) (typed-at t) typed.Post) → let s = c .before .before .before .before .before .before .before .before .before .before .before in typedPart (schema s) (scope s) ((firstPart (rows s) (row s)) .form) ≡ c .typed2 .result
+  first-typed : (c : typed-lts.After-typed2 (calls t) (typed-at t) typed.Post) → let s = c .before .before .before .before .before .before .before .before .before .before .before .before in typedPart (schema s) (scope s) ((firstPart (rows s) (row s)) .form) ≡ c .typed2 .result
   first-typed c =
-      let s = c .before .before .before .before .before .before .before .before .before .before .before in
+      let s = c .before .before .before .before .before .before .before .before .before .before .before .before in
       ap (λ n. typedPart (schema s) (scope s) ((ending (rows s) n) .form)) (sym (middle-is s)) ∙ sym (c .typed2 .ensures)
 
-  binds : (c : typed-lts.After-shape3 (calls t) (typed-at t) typed.Post) → c .shape3 .result ≡ firstSort (parts (c .before .before .before .before .before .before .before .before .before .before .before .before .before))
-  binds c = let s = c .before .before .before .before .before .before .before .before .before .before .before .before .before in c .shape3 .ensures (operatorHere (rows s) (row s) (sound s)) (coded (c .before .before .before .before .before .before .before .before .before))
+  binds : (c : typed-lts.After-shape3 (calls t) (typed-at t) typed.Post) → c .shape3 .result ≡ firstSort (parts (c .before .before .before .before .before .before .before .before .before .before .before .before .before .before))
+  binds c = let s = c .before .before .before .before .before .before .before .before .before .before .before .before .before .before in c .shape3 .ensures (operatorHere (rows s) (row s) (sound s)) (coded (c .before .before .before .before .before .before .before .before .before))
 
   -- where a variable is bound there is room for it
-  room : (c : typed-lts.Else1 (calls t) (typed-at t) typed.Post) → let s = c .before .before .before .before .before .before .before in s .args .depth < 64
-  room c = let s = c .before .before .before .before .before .before .before in let h = s .pre .1 .3 in let k = sound-pos (rows s) (row s) (second-sound c) in omega arith
+  room : (c : typed-lts.Else1 (calls t) (typed-at t) typed.Post) → let s = c .before .before .before .before .before .before .before .before in s .args .at .depth < 64
+  room c = let s = c .before .before .before .before .before .before .before .before in let h = s .pre .1 .3 in let k = sound-pos (rows s) (row s) (second-sound c) in omega arith
+
+  -- ---- the needs, in the order of the code
 
   sub-row : typed-lts.Need-sub-row (calls t) (typed-at t) typed.Post
-  sub-row c = positive (c .before .before .before)
+  sub-row c = positive (c .before .before .before .before)
 
   field-requires : typed-lts.Need-field-requires (calls t) (typed-at t) typed.Post
-  field-requires c κs = (inside (c .before .before .before), omega arith)
+  field-requires c κs = (inside (c .before .before .before .before), omega arith)
 
   field-requires-2 : typed-lts.Need-field-requires-2 (calls t) (typed-at t) typed.Post
-  field-requires-2 c κs = (inside (c .before .before .before .before), omega arith)
+  field-requires-2 c κs = (inside (c .before .before .before .before .before), omega arith)
 
   shape-requires : typed-lts.Need-shape-requires (calls t) (typed-at t) typed.Post
   shape-requires c κs = (low (c .before), omega arith)
 
   field-requires-3 : typed-lts.Need-field-requires-3 (calls t) (typed-at t) typed.Post
-  field-requires-3 c κs = (inside (c .before .before .before .before .before .before .before), omega arith)
+  field-requires-3 c κs = (inside (c .before .before .before .before .before .before .before .before), omega arith)
 
   leaf-requires : typed-lts.Need-leaf-requires (calls t) (typed-at t) typed.Post
-  leaf-requires c κs = let s = c .before .before .before .before .before .before .before .before in let h = positive s in (s .pre .1 .2, omega (arith, s .pre .1 .3))
+  leaf-requires c κs = let s = c .before .before .before .before .before .before .before .before .before in let h = positive s in (s .pre .1 .2, omega (arith, s .pre .1 .3))
 
   returns : typed-lts.Need-returns (calls t) (typed-at t) typed.Post
   returns c =
-      let s = c .before .before .before .before .before .before .before .before .before in
+      let s = c .before .before .before .before .before .before .before .before .before .before in
       let code = c .before .before .before .before .before .field .ensures in
       let x = c .before .before .before .before .field2 .ensures in
       let y = c .before .field3 .ensures in
@@ -180,37 +185,37 @@ module _ (t : ℕ) where
 
   summable-requires : typed-lts.Need-summable-requires (calls t) (typed-at t) typed.Post
   summable-requires c κs =
-      let s = c .before .before .before .before .before .before .before .before .before in
+      let s = c .before .before .before .before .before .before .before .before .before .before in
       (starts-less (s .pre .1 .0) (row s) (omega arith), λ q. sums-here (rows s) (row s) (sound s) (sym (c .before .before .before .before .before .field .ensures) ∙ q))
 
   returns-2 : typed-lts.Need-returns-2 (calls t) (typed-at t) typed.Post
   returns-2 c =
-      let s = c .before .before .before .before .before .before .before .before .before .before .before in
+      let s = c .before .before .before .before .before .before .before .before .before .before .before .before in
       answer s (simp (sum-is (c .before) ∙ not-true (c .before .summable .result) (c .if3 .taken)) at (one (c .before .before)))
 
   typed-requires : typed-lts.Need-typed-requires (calls t) (typed-at t) typed.Post
   typed-requires c κs =
-      let s = c .before .before .before .before .before .before .before .before .before .before .before in
+      let s = c .before .before .before .before .before .before .before .before .before .before .before .before in
       let h = s .pre .1 .3 in
-      second-asks (c .before .before .before .before) (s .args .env .now) (s .args .depth) (s .pre .1 .2) (omega arith)
+      second-asks (c .before .before .before .before) (s .args .env .now) (s .args .at .depth) (s .pre .1 .2) (omega arith)
 
   returns-3 : typed-lts.Need-returns-3 (calls t) (typed-at t) typed.Post
   returns-3 c =
-      let s = c .before .before .before .before .before .before .before .before .before .before .before .before in
+      let s = c .before .before .before .before .before .before .before .before .before .before .before .before .before in
       answer s (c .typed .ensures ∙ simp (sum-is (c .before .before) ∙ not-false (c .before .before .summable .result) (c .before .if3 .left)) at (one (c .before .before .before)))
 
-  cast-at : typed-lts.Need-cast-at (calls t) (typed-at t) typed.Post
-  cast-at c = let h = inside (c .before .before .before .before .before .before .before .before .before) in omega arith
+  cast-index : typed-lts.Need-cast-index (calls t) (typed-at t) typed.Post
+  cast-index c = let h = inside (c .before .before .before .before .before .before .before .before .before .before) in omega arith
 
-  mul-middle : typed-lts.Need-mul-middle (calls t) (typed-at t) typed.Post
-  mul-middle c = let h = inside (c .before .before .before .before .before .before .before .before .before) in omega arith
+  mul-first : typed-lts.Need-mul-first (calls t) (typed-at t) typed.Post
+  mul-first c = let h = inside (c .before .before .before .before .before .before .before .before .before .before) in omega arith
 
-  element-copy-out-middle : typed-lts.Need-element-copy-out-middle (calls t) (typed-at t) typed.Post
-  element-copy-out-middle c = let h = inside (c .before .before .before .before .before .before .before .before .before) in omega arith
+  element-copy-out-first : typed-lts.Need-element-copy-out-first (calls t) (typed-at t) typed.Post
+  element-copy-out-first c = let h = inside (c .before .before .before .before .before .before .before .before .before .before) in omega arith
 
   typed-requires-2 : typed-lts.Need-typed-requires-2 (calls t) (typed-at t) typed.Post
   typed-requires-2 c κs =
-      let s = c .before .before .before .before .before .before .before .before .before .before in
+      let s = c .before .before .before .before .before .before .before .before .before .before .before in
       let low = middle-low s in
       let k = positive s in
       let h = s .pre .1 .3 in
@@ -226,7 +231,7 @@ module _ (t : ℕ) where
 
   returns-4 : typed-lts.Need-returns-4 (calls t) (typed-at t) typed.Post
   returns-4 c =
-      let s = c .before .before .before .before .before .before .before .before .before .before .before .before in
+      let s = c .before .before .before .before .before .before .before .before .before .before .before .before .before in
       let w = c .before .before .before in
       answer s
       (fails-here (rows s) (row s) (sound s) (schema s) (scope s) (word (c .before .before .before .before .before .before .before)) (second-some w) (first-some w)
@@ -237,62 +242,65 @@ module _ (t : ℕ) where
 
   typed-requires-3 : typed-lts.Need-typed-requires-3 (calls t) (typed-at t) typed.Post
   typed-requires-3 c κs =
-      let s = c .before .before .before .before .before .before .before .before .before .before .before .before .before .before in
+      let s = c .before .before .before .before .before .before .before .before .before .before .before .before .before .before .before in
       let h = s .pre .1 .3 in
-      second-asks (c .before .before .before .before .before .before .before) (s .args .env .now) (s .args .depth) (s .pre .1 .2) (omega arith)
+      second-asks (c .before .before .before .before .before .before .before) (s .args .env .now) (s .args .at .depth) (s .pre .1 .2) (omega arith)
 
   returns-5 : typed-lts.Need-returns-5 (calls t) (typed-at t) typed.Post
   returns-5 c =
-      let s = c .before .before .before .before .before .before .before .before .before .before .before .before .before .before .before in
+      let s = c .before .before .before .before .before .before .before .before .before .before .before .before .before .before .before .before in
       let w = c .before .before .before .before .before .before in
       let yes = first-typed (c .before .before .before .before) ∙ not-false (c .before .before .before .before .typed2 .result) (c .before .before .before .if4 .left) in
       answer s
       (c .typed3 .ensures
       ∙ simp yes at (plain-here (rows s) (row s) (sound s) (schema s) (scope s) (word (c .before .before .before .before .before .before .before .before .before .before)) (second-some w) (first-some w) (λ q. c .before .if5 .taken (binds (c .before .before) ∙ q))))
 
+  cast-new : typed-lts.Need-cast-new (calls t) (typed-at t) typed.Post
+  cast-new c = let h = room (c .before .before .before .before .before .before .before .before .before) in omega arith
+
   member-type-requires : typed-lts.Need-member-type-requires (calls t) (typed-at t) typed.Post
   member-type-requires c κs =
-      let s = c .before .before .before .before .before .before .before .before .before .before .before .before .before .before .before in
+      let s = c .before .before .before .before .before .before .before .before .before .before .before .before .before .before .before .before .before in
       let low = middle-low s in (
         starts-less (s .pre .1 .0) (getD (s .args .starts .now) (row s) 0) (omega arith),
-        subst (λ n. T (reads collection (ending (rows s) n))) (sym (middle-is s)) (binds-here (rows s) (row s) (sound s) (sym (binds (c .before .before)) ∙ c .before .if5 .left)),
+        subst (λ n. T (reads collection (ending (rows s) n))) (sym (middle-is s)) (binds-here (rows s) (row s) (sound s) (sym (binds (c .before .before .before)) ∙ c .before .before .if5 .left)),
       )
 
   mul-inner : typed-lts.Need-mul-inner (calls t) (typed-at t) typed.Post
-  mul-inner c = let h = room (c .before .before .before .before .before .before .before .before .before) in omega arith
+  mul-inner c = let h = room (c .before .before .before .before .before .before .before .before .before .before) in omega arith
 
   array-write-inner : typed-lts.Need-array-write-inner (calls t) (typed-at t) typed.Post
-  array-write-inner c = let h = room (c .before .before .before .before .before .before .before .before .before) in omega arith
+  array-write-inner c = let h = room (c .before .before .before .before .before .before .before .before .before .before) in omega arith
 
-  add-typed : typed-lts.Need-add-typed (calls t) (typed-at t) typed.Post
-  add-typed c = let h = room (c .before .before .before .before .before .before .before .before .before) in omega arith
+  add-second : typed-lts.Need-add-second (calls t) (typed-at t) typed.Post
+  add-second c = let h = room (c .before .before .before .before .before .before .before .before .before .before .before) in omega arith
 
   typed-requires-4 : typed-lts.Need-typed-requires-4 (calls t) (typed-at t) typed.Post
   typed-requires-4 c κs =
-      let s = c .before .before .before .before .before .before .before .before .before .before .before .before .before .before .before .before .before in
-      let m = c .before .member-type .result in
+      let s = c .before .before .before .before .before .before .before .before .before .before .before .before .before .before .before .before .before .before .before .before in
+      let m = c .before .before .member-type .result in
       let h = s .pre .1 .3 in
       let k = positive s in
-      second-asks (c .before .before .before .before .before .before .before .before .before .before) (set (s .args .env .now) (s .args .depth) m) (s .args .depth + 1) (length-set (s .args .env .now) (s .args .depth) m ∙ s .pre .1 .2) (omega arith)
+      second-asks (c .before .before .before .before .before .before .before .before .before .before .before .before) (set (s .args .env .now) (s .args .at .depth) m) (s .args .at .depth + 1) (length-set (s .args .env .now) (s .args .at .depth) m ∙ s .pre .1 .2) (omega arith)
 
   returns-6 : typed-lts.Need-returns-6 (calls t) (typed-at t) typed.Post
   returns-6 c =
-      let s = c .before .before .before .before .before .before .before .before .before .before .before .before .before .before .before .before .before .before in
-      let w = c .before .before .before .before .before .before .before .before .before in
-      let m = c .before .before .member-type .result in
+      let s = c .before .before .before .before .before .before .before .before .before .before .before .before .before .before .before .before .before .before .before .before .before in
+      let w = c .before .before .before .before .before .before .before .before .before .before .before in
+      let m = c .before .before .before .member-type .result in
       let l = s .pre .1 .2 in
-      let k = room (c .before .before .before .before .before .before .before .before .before .before .before) in
-      let yes = first-typed (c .before .before .before .before .before .before .before) ∙ not-false (c .before .before .before .before .before .before .before .typed2 .result) (c .before .before .before .before .before .before .if4 .left) in
+      let k = room (c .before .before .before .before .before .before .before .before .before .before .before .before .before) in
+      let yes = first-typed (c .before .before .before .before .before .before .before .before .before) ∙ not-false (c .before .before .before .before .before .before .before .before .before .typed2 .result) (c .before .before .before .before .before .before .before .before .if4 .left) in
       let member : m ≡ memberOf (schema s) (scope s) ((firstPart (rows s) (row s)) .form) =
-      c .before .before .member-type .ensures (schema s .types) (scope s) ∙ ap (λ n. memberOf (schema s) (scope s) ((ending (rows s) n) .form)) (middle-is s) in
-      let inner : take (s .args .depth + 1) (set (s .args .env .now) (s .args .depth) m) ≡ bind (scope s) (memberOf (schema s) (scope s) ((firstPart (rows s) (row s)) .form)) =
-      bind-take (s .args .env .now) (s .args .depth) m (omega arith) ∙ ap (bind (scope s)) member in
+      c .before .before .before .member-type .ensures (schema s .types) (scope s) ∙ ap (λ n. memberOf (schema s) (scope s) ((ending (rows s) n) .form)) (middle-is s) in
+      let inner : take (s .args .at .depth + 1) (set (s .args .env .now) (s .args .at .depth) m) ≡ bind (scope s) (memberOf (schema s) (scope s) ((firstPart (rows s) (row s)) .form)) =
+      bind-take (s .args .env .now) (s .args .at .depth) m (omega arith) ∙ ap (bind (scope s)) member in
       answer s
       (c .typed4 .ensures
       ∙ ap (λ vs. typedPart (schema s) vs ((secondPart (rows s) (row s)) .form)) inner
-      ∙ simp yes at (bound-here (rows s) (row s) (sound s) (schema s) (scope s) (word (c .before .before .before .before .before .before .before .before .before .before .before .before .before)) (second-some w) (first-some w) (sym (binds (c .before .before .before .before .before)) ∙ c .before .before .before .before .if5 .left)))
+      ∙ simp yes at (bound-here (rows s) (row s) (sound s) (schema s) (scope s) (word (c .before .before .before .before .before .before .before .before .before .before .before .before .before .before .before)) (second-some w) (first-some w) (sym (binds (c .before .before .before .before .before .before .before)) ∙ c .before .before .before .before .before .before .if5 .left)))
 
 pub +typed-spec : {M : Type 1} → statement M
 +typed-spec =
     close μ-typed λ t.
-    typed-lts.spec (calls t) (typed-at t) typed.Post (sub-row t) (field-requires t) (field-requires-2 t) (shape-requires t) (field-requires-3 t) (leaf-requires t) (returns t) (shape-requires-2 t) (summable-requires t) (returns-2 t) (typed-requires t) (returns-3 t) (cast-at t) (mul-middle t) (element-copy-out-middle t) (typed-requires-2 t) (returns-4 t) (shape-requires-3 t) (typed-requires-3 t) (returns-5 t) (member-type-requires t) (mul-inner t) (array-write-inner t) (add-typed t) (typed-requires-4 t) (returns-6 t)
+    typed-lts.spec (calls t) (typed-at t) typed.Post (sub-row t) (field-requires t) (field-requires-2 t) (shape-requires t) (field-requires-3 t) (leaf-requires t) (returns t) (shape-requires-2 t) (summable-requires t) (returns-2 t) (typed-requires t) (returns-3 t) (cast-index t) (mul-first t) (element-copy-out-first t) (typed-requires-2 t) (returns-4 t) (shape-requires-3 t) (typed-requires-3 t) (returns-5 t) (cast-new t) (member-type-requires t) (mul-inner t) (array-write-inner t) (add-second t) (typed-requires-4 t) (returns-6 t)

@@ -1,0 +1,208 @@
+-- The form that ends before row e, by the code of its row.
+use Prim.Native.Nat.{ℕ, zero, suc, _+_, _-_, _≤_, _<_}
+use mathlib.Core.Path.{_≡_, refl, sym, ap, subst, _∙_}
+use mathlib.Core.Bool.{Bool, true, false, _&&_}
+use mathlib.Core.List.{List, [], _∷_}
+use mathlib.Core.Option.{Option, none, some, Option·some-injective}
+use native.Mathlib.Omega.{arith}
+use lib.Dec.{T, ltb, leb}
+use mir.Facts.{and-yes, ltb-yes, leb-yes}
+use Rattle.meaning.specs.Forms.{Sort, truth, number, collection, le, lt, eq, ne, ge, gt, and, or, xor, implies, forall, exists, add, sub}
+use Rattle.tables.specs.Codes.{Operator, comparing, negating, connecting, quantifying, kindOf, literal, cellOf, sizeOf, sumOf, combining, roleOf, allOf, selecting, operators, operatorOf, codeOf, shapeOf}
+use Rattle.tables.specs.Bodies.{BodyRow, Part, sortOf, sameSort, Reading, formOf, reads, partsFit}
+use Rattle.tables.proofs.Readings.{ending, ending-start, firstPart, secondPart, node, code-of}
+use Rattle.number.specs.Comparing.{comparisonOf}
+use Rattle.ocl.specs.Values.{connectiveOf, quantifierOf, arithmeticOf}
+
+-- ---- codes of the operators of each sort
+
+unfoldable pub lowest : Sort → ℕ
+lowest truth = 0
+lowest number = 14
+lowest collection = 20
+
+unfoldable pub past : Sort → ℕ
+past truth = 14
+past number = 20
+past collection = 23
+
+between : ℕ → Sort → Bool
+between code s = leb (lowest s) code && ltb code (past s)
+
+codes : (o : Operator) → T (between (codeOf o) ((shapeOf o) .result))
+unfolding codeOf shapeOf between lowest past
+codes (comparing o) = elim o [ le ↦ tt | lt ↦ tt | eq ↦ tt | ne ↦ tt | ge ↦ tt | gt ↦ tt ]
+codes negating = tt
+codes (connecting o) = elim o [ and ↦ tt | or ↦ tt | xor ↦ tt | implies ↦ tt ]
+codes (quantifying q) = elim q [ forall ↦ tt | exists ↦ tt ]
+codes kindOf = tt
+codes literal = tt
+codes cellOf = tt
+codes sizeOf = tt
+codes sumOf = tt
+codes (combining o) = elim o [ add ↦ tt | sub ↦ tt ]
+codes roleOf = tt
+codes allOf = tt
+codes selecting = tt
+
+result-sort : (o : Operator) (r : BodyRow) (a b : Part) → sortOf (formOf o r a b) ≡ (shapeOf o) .result
+unfolding sortOf formOf shapeOf
+result-sort (comparing o) r a b = refl
+result-sort negating r a b = refl
+result-sort (connecting o) r a b = refl
+result-sort (quantifying q) r a b = refl
+result-sort kindOf r a b = refl
+result-sort literal r a b = refl
+result-sort cellOf r a b = refl
+result-sort sizeOf r a b = refl
+result-sort sumOf r a b = refl
+result-sort (combining o) r a b = refl
+result-sort roleOf r a b = refl
+result-sort allOf r a b = refl
+result-sort selecting r a b = refl
+
+same-is : (s t : Sort) → T (sameSort s t) → s ≡ t
+same-is truth truth h = refl
+same-is truth number h = absurd h
+same-is truth collection h = absurd h
+same-is number truth h = absurd h
+same-is number number h = refl
+same-is number collection h = absurd h
+same-is collection truth h = absurd h
+same-is collection number h = absurd h
+same-is collection collection h = refl
+
+-- ---- operators by ranges of codes
+
+pub comparing-at : (k : ℕ) → k < 6 → operatorOf k ≡ some (comparing (comparisonOf k))
+unfolding operatorOf operators comparisonOf
+comparing-at zero h = refl
+comparing-at (suc zero) h = refl
+comparing-at (suc (suc zero)) h = refl
+comparing-at (suc (suc (suc zero))) h = refl
+comparing-at (suc (suc (suc (suc zero)))) h = refl
+comparing-at (suc (suc (suc (suc (suc zero))))) h = refl
+comparing-at (suc (suc (suc (suc (suc (suc k)))))) h = absurd (omega arith)
+
+connecting-from : (d : ℕ) → d < 4 → operatorOf (7 + d) ≡ some (connecting (connectiveOf (7 + d)))
+unfolding operatorOf operators connectiveOf
+connecting-from zero h = refl
+connecting-from (suc zero) h = refl
+connecting-from (suc (suc zero)) h = refl
+connecting-from (suc (suc (suc zero))) h = refl
+connecting-from (suc (suc (suc (suc d)))) h = absurd (omega arith)
+
+pub connecting-at : (k : ℕ) → 7 ≤ k → k < 11 → operatorOf k ≡ some (connecting (connectiveOf k))
+connecting-at k h l = let e : 7 + (k - 7) ≡ k = omega arith in subst (λ j. operatorOf j ≡ some (connecting (connectiveOf j))) e (connecting-from (k - 7) (omega arith))
+
+quantifying-from : (d : ℕ) → d < 2 → operatorOf (11 + d) ≡ some (quantifying (quantifierOf (11 + d)))
+unfolding operatorOf operators quantifierOf
+quantifying-from zero h = refl
+quantifying-from (suc zero) h = refl
+quantifying-from (suc (suc d)) h = absurd (omega arith)
+
+pub quantifying-at : (k : ℕ) → 11 ≤ k → k < 13 → operatorOf k ≡ some (quantifying (quantifierOf k))
+quantifying-at k h l = let e : 11 + (k - 11) ≡ k = omega arith in subst (λ j. operatorOf j ≡ some (quantifying (quantifierOf j))) e (quantifying-from (k - 11) (omega arith))
+
+combining-from : (d : ℕ) → d < 2 → operatorOf (18 + d) ≡ some (combining (arithmeticOf (18 + d)))
+unfolding operatorOf operators arithmeticOf
+combining-from zero h = refl
+combining-from (suc zero) h = refl
+combining-from (suc (suc d)) h = absurd (omega arith)
+
+pub combining-at : (k : ℕ) → 18 ≤ k → k < 20 → operatorOf k ≡ some (combining (arithmeticOf k))
+combining-at k h l = let e : 18 + (k - 18) ≡ k = omega arith in subst (λ j. operatorOf j ≡ some (combining (arithmeticOf j))) e (combining-from (k - 18) (omega arith))
+
+-- codes that are left by tests
+pub above-cell : (k : ℕ) → 14 ≤ k → (k ≡ 14 → ⊥) → (k ≡ 15 → ⊥) → 16 ≤ k
+above-cell k h a b = omega arith
+
+pub above-all : (k j : ℕ) → j ≡ k → 20 ≤ k → (j ≡ 20 → ⊥) → (j ≡ 21 → ⊥) → 22 ≤ k
+above-all k j q h a b = omega arith
+
+pub only-select : (k : ℕ) → 22 ≤ k → k < 23 → k ≡ 22
+only-select k h l = omega arith
+
+-- an operator by its code
+pub code-is : (k m : ℕ) (o : Operator) → operatorOf m ≡ some o → k ≡ m → operatorOf k ≡ some o
+code-is k m o h e = ap operatorOf e ∙ h
+
+-- ---- the form that ends before row e
+
+pub record Made (rows : ℕ → BodyRow) (e : ℕ) (o : Operator) : Type 0 where
+  pub parts : T (partsFit ((shapeOf o) .parts) (e - 1) (firstPart rows (e - 1)) (secondPart rows (e - 1)))
+  pub form : (ending rows e) .form ≡ formOf o (rows (e - 1)) ((firstPart rows (e - 1)) .form) ((secondPart rows (e - 1)) .form)
+
+module _ (rows : ℕ → BodyRow) where
+  pub sound-pos : (e : ℕ) → T ((ending rows e) .sound) → 0 < e
+  unfolding ending
+  sound-pos zero t = absurd t
+  sound-pos (suc i) t = omega arith
+
+  module _ (e : ℕ) (t : T ((ending rows e) .sound)) where
+    back : suc (e - 1) ≡ e
+    back = let h = sound-pos e t in omega arith
+
+    last-sound : T ((ending rows (suc (e - 1))) .sound)
+    last-sound = subst (λ k. T ((ending rows k) .sound)) (sym back) t
+
+    pub made : (o : Operator) → operatorOf ((rows (e - 1)) .code) ≡ some o → Made rows e o
+    made o c =
+        let d = node rows (e - 1) last-sound in
+        let same : d .operator ≡ o = Option·some-injective (d .operator) o (sym (d .coded) ∙ c) in
+        record {
+          parts = subst (λ p. T (partsFit ((shapeOf p) .parts) (e - 1) (firstPart rows (e - 1)) (secondPart rows (e - 1)))) same (d .parts);
+          form = ap (λ k. (ending rows k) .form) (sym back) ∙ d .form ∙ ap (λ p. formOf p (rows (e - 1)) ((firstPart rows (e - 1)) .form) ((secondPart rows (e - 1)) .form)) same;
+        }
+
+    -- the code of a form of a sort
+    pub code-range : (s : Sort) → T (sameSort s (sortOf ((ending rows e) .form))) → (lowest s ≤ (rows (e - 1)) .code) × ((rows (e - 1)) .code < past s)
+    unfolding between
+    code-range s h =
+        let d = node rows (e - 1) last-sound in
+        let o = d .operator in
+        let sort : (shapeOf o) .result ≡ s =
+        sym (same-is s (sortOf ((ending rows e) .form)) h ∙ ap sortOf (ap (λ k. (ending rows k) .form) (sym back) ∙ d .form) ∙ result-sort o (rows (e - 1)) ((firstPart rows (e - 1)) .form) ((secondPart rows (e - 1)) .form)) in
+        let code : codeOf o ≡ (rows (e - 1)) .code = code-of ((rows (e - 1)) .code) o (d .coded) in
+        let r = and-yes (leb (lowest s) ((rows (e - 1)) .code)) (ltb ((rows (e - 1)) .code) (past s)) (subst (λ k. T (between k s)) code (subst (λ u. T (between (codeOf o) u)) sort (codes o))) in
+        (leb-yes (r .0), ltb-yes (r .1))
+
+  pub truth-code : (e : ℕ) → T (reads truth (ending rows e)) → (rows (e - 1)) .code < 14
+  unfolding past
+  truth-code e t = let r = and-yes ((ending rows e) .sound) (sameSort truth (sortOf ((ending rows e) .form))) t in code-range e (r .0) truth (r .1) .1
+
+  pub number-code : (e : ℕ) → T (reads number (ending rows e)) → (14 ≤ (rows (e - 1)) .code) × ((rows (e - 1)) .code < 20)
+  unfolding past lowest
+  number-code e t = let r = and-yes ((ending rows e) .sound) (sameSort number (sortOf ((ending rows e) .form))) t in code-range e (r .0) number (r .1)
+
+  pub collection-code : (e : ℕ) → T (reads collection (ending rows e)) → (20 ≤ (rows (e - 1)) .code) × ((rows (e - 1)) .code < 23)
+  unfolding past lowest
+  collection-code e t = let r = and-yes ((ending rows e) .sound) (sameSort collection (sortOf ((ending rows e) .form))) t in code-range e (r .0) collection (r .1)
+
+  pub read-sound : (e : ℕ) (s : Sort) → T (reads s (ending rows e)) → T ((ending rows e) .sound)
+  read-sound e s t = and-yes ((ending rows e) .sound) (sameSort s (sortOf ((ending rows e) .form))) t .0
+
+-- the parts of the form that ends before row e
+pub record Two (rows : ℕ → BodyRow) (e : ℕ) (s u : Sort) : Type 0 where
+  pub second : T (reads u (ending rows (e - 1)))
+  pub first : T (reads s (ending rows ((ending rows (e - 1)) .start)))
+  pub start : (ending rows (e - 1)) .start ≤ e - 1
+
+module _ (rows : ℕ → BodyRow) (e : ℕ) (o : Operator) (m : Made rows e o) where
+  pub two : (s u : Sort) → (shapeOf o) .parts ≡ s ∷ u ∷ [] → Two rows e s u
+  unfolding partsFit
+  two s u h =
+      let f = firstPart rows (e - 1) in
+      let g = secondPart rows (e - 1) in
+      let i = e - 1 in
+      let a = and-yes (ltb 0 i && reads u g && ltb 0 (g .start)) (reads s f) (subst (λ ps. T (partsFit ps i f g)) h (m .parts)) in
+      let b = and-yes (ltb 0 i && reads u g) (ltb 0 (g .start)) (a .0) in
+      let c = and-yes (ltb 0 i) (reads u g) (b .0) in
+      record { second = c .1; first = a .1; start = ending-start rows i }
+
+  pub one : (s : Sort) → (shapeOf o) .parts ≡ s ∷ [] → T (reads s (ending rows (e - 1)))
+  unfolding partsFit
+  one s h =
+      let f = firstPart rows (e - 1) in
+      let g = secondPart rows (e - 1) in
+      and-yes (ltb 0 (e - 1)) (reads s g) (subst (λ ps. T (partsFit ps (e - 1) f g)) h (m .parts)) .1

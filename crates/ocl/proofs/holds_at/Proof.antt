@@ -1,0 +1,18 @@
+use mathlib.Core.Path.{refl}
+use Rattle.ocl.specs.Values.{truthOf}
+use borrow.Author.Needs.{needs}
+use Rattle.ocl.proofs.holds_at.Statement.{statement}
+use Rattle.ocl.proofs.holds_at.Tie as tie
+
+array-write-vars : tie.Need-array-write-vars
+array-write-vars c = search needs
+
+truth-requires : tie.Need-truth-requires
+truth-requires c κs = c .before .before .before .before .before .pre _ refl
+
+returns : tie.Need-returns
+unfolding truthOf
+returns c = c .truth .ensures
+
+pub holds-at-spec : {M : Type 1} → statement M
+holds-at-spec = tie.close (tie.spec array-write-vars truth-requires returns)

@@ -1,0 +1,17 @@
+use mathlib.Core.Path.{refl, ap}
+use mathlib.Core.Bool.{cond}
+use borrow.Author.Tests.{eq-eqb, ne-eqb}
+use Rattle.ocl.specs.Values.{quantifierOf, stopping}
+use Rattle.ocl.proofs.stops.Statement.{statement}
+use Rattle.ocl.proofs.stops.Tie as tie
+
+returns : tie.Need-returns
+unfolding quantifierOf stopping
+returns c = rw (eq-eqb _ _ (c .if1 .taken))
+
+returns-2 : tie.Need-returns-2
+unfolding quantifierOf stopping
+returns-2 c = rw (ne-eqb _ _ (c .if1 .left))
+
+pub stops-spec : {M : Type 1} → statement M
+stops-spec = tie.close (tie.spec returns returns-2)
