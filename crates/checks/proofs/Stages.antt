@@ -1,6 +1,6 @@
 -- The stages of the checks are the definitions' first refusal.
 use Prim.Native.Nat.{ℕ}
-use mathlib.Core.Path.{_≡_, refl, sym, ap, _∙_}
+use mathlib.Core.Path.{_≡_, refl, ap, _∙_}
 use mathlib.Core.Bool.{Bool, true, false, _||_}
 use mathlib.Core.Option.{Option, none, some}
 use Rattle.meaning.specs.Lists.{any, firstOf}
@@ -10,7 +10,6 @@ use Rattle.meaning.specs.Forms.{ruleFault}
 use Rattle.meaning.specs.Events.{Refusal}
 use Rattle.meaning.specs.Answers.{refusalAt, bookRefusal, registerRefusal, refusal}
 use Rattle.tables.specs.Refusals.{foundOf, verdictOf, overfull, broken, tableRefusal, Tables, bookOf, registerIn, tablesOf, lentRefusal}
-use Rattle.tables.specs.declared.Verdict.{Verdict}
 use Rattle.tables.specs.declared.Verdict.the-variants.{Clear, Refused}
 use Rattle.checks.specs.Stages.{staged}
 

@@ -3,7 +3,7 @@ use Prim.Native.Nat.{ℕ}
 use Rattle.tables.specs.declared.Found.{Found}
 use Rattle.tables.specs.declared.Found.the-variants.{At, Nothing}
 use Rattle.tables.specs.declared.Verdict.{Verdict}
-use Rattle.tables.specs.declared.Verdict.the-variants.{Clear, Refused}
+use Rattle.tables.specs.declared.Verdict.the-variants.{Refused}
 
 abbrev pub staged : ℕ → Found → Verdict → Verdict
 staged number (At place) rest = Refused number place

@@ -28,7 +28,7 @@ fn or(a: bool, b: bool) -> bool
 }
 
 // 2, of every table of a book and a register. A rule has 64 body rows.
-fn any_too_many(
+pub fn any_too_many(
     n: Counts,
     types: &[u32],
     relationships: &[u32],
@@ -55,7 +55,7 @@ fn not_whole(t: &[u32], width: u32) -> bool
 }
 
 // 6: whether a table of a book or a register is not whole rows.
-fn any_broken(
+pub fn any_broken(
     types: &[u32],
     relationships: &[u32],
     rules: &[u32],

@@ -1,17 +1,16 @@
 -- What each evaluator answers is the meaning of its form, by what it is told of the parts.
-use Prim.Native.Nat.{ℕ, suc, _+_, _-_, _*_, _^_, _≤_, _<_}
-use mathlib.Core.Path.{_≡_, refl, sym, ap, ap₂, subst, _∙_}
+use Prim.Native.Nat.{ℕ, _+_, _-_, _*_, _^_, _≤_, _<_}
+use mathlib.Core.Path.{_≡_, sym, ap, ap₂, subst, _∙_}
 use mathlib.Core.Bool.{Bool, true, false, not}
-use mathlib.Core.List.{List, [], _∷_, map}
-use mathlib.Core.Option.{Option, none, some}
+use mathlib.Core.List.{List, [], map}
 use native.Mathlib.Omega.{arith}
 use lib.Dec.{eqb}
 use lib.ListN.{length, getD, take, set}
 use lib.IntN.{ℤ, pos, natAbs, _+ℤ_, _-ℤ_, +ℤ-assoc, +ℤ-idl, +ℤ-idr}
-use borrow.Author.Tests.{eq-eqb, ne-eqb}
+use borrow.Author.Tests.{ne-eqb}
 use Rattle.meaning.specs.Schema.{Relationship}
 use Rattle.meaning.specs.Register.{isUnder, cellAt, instances, farEnds}
-use Rattle.meaning.specs.Forms.{Sort, truth, number, collection, variable, Arithmetic, add, sub}
+use Rattle.meaning.specs.Forms.{Sort, number, variable}
 use Rattle.meaning.specs.Meaning.{compared, connected, quantified, combined, total}
 use Rattle.meaning.specs.Lists.{keep}
 use Rattle.meaning.proofs.Integers.{natAbs-add}

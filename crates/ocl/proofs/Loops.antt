@@ -1,18 +1,17 @@
 -- One more member of an ascending collection: of a quantifier, of a select and of a sum.
-use Prim.Native.Nat.{ℕ, suc, _+_, _*_, _^_, _≤_, _<_}
-use mathlib.Core.Path.{_≡_, refl, sym, ap, ap₂, subst, _∙_}
+use Prim.Native.Nat.{ℕ, suc, _<_}
+use mathlib.Core.Path.{_≡_, refl, sym, ap, _∙_}
 use mathlib.Core.Bool.{Bool, true, false, not, cond}
 use mathlib.Core.List.{List, [], _∷_, map}
-use mathlib.Core.Option.{Option, none, some}
+use mathlib.Core.Option.{none, some}
 use native.Mathlib.Omega.{arith}
 use lib.Dec.{eqb}
 use lib.ListN.{length}
-use lib.IntN.{ℤ, pos, natAbs, _+ℤ_}
+use lib.IntN.{ℤ, pos, _+ℤ_}
 use Rattle.meaning.specs.Lists.{keep}
-use Rattle.meaning.specs.Forms.{Quantifier, forall, exists}
+use Rattle.meaning.specs.Forms.{forall, exists}
 use Rattle.meaning.specs.Meaning.{quantified, total}
 use Rattle.meaning.proofs.Lists.{Ascending}
-use Rattle.meaning.proofs.Integers.{natAbs-add}
 use Rattle.tables.specs.Refusals.{foundOf}
 use Rattle.tables.specs.declared.Found.the-variants.{At, Nothing}
 use Rattle.schema.proofs.Founds.{found-none, found-some}

@@ -1,15 +1,15 @@
 -- The form that ends before row e, by the code of its row.
 use Prim.Native.Nat.{ℕ, zero, suc, _+_, _-_, _≤_, _<_}
 use mathlib.Core.Path.{_≡_, refl, sym, ap, subst, _∙_}
-use mathlib.Core.Bool.{Bool, true, false, _&&_}
-use mathlib.Core.List.{List, [], _∷_}
-use mathlib.Core.Option.{Option, none, some, Option·some-injective}
+use mathlib.Core.Bool.{Bool, _&&_}
+use mathlib.Core.List.{[], _∷_}
+use mathlib.Core.Option.{some, Option·some-injective}
 use native.Mathlib.Omega.{arith}
 use lib.Dec.{T, ltb, leb}
 use mir.Facts.{and-yes, ltb-yes, leb-yes}
 use Rattle.meaning.specs.Forms.{Sort, truth, number, collection, le, lt, eq, ne, ge, gt, and, or, xor, implies, forall, exists, add, sub}
 use Rattle.tables.specs.Codes.{Operator, comparing, negating, connecting, quantifying, kindOf, literal, cellOf, sizeOf, sumOf, combining, roleOf, allOf, selecting, operators, operatorOf, codeOf, shapeOf}
-use Rattle.tables.specs.Bodies.{BodyRow, Part, sortOf, sameSort, Reading, formOf, reads, partsFit}
+use Rattle.tables.specs.Bodies.{BodyRow, Part, sortOf, sameSort, formOf, reads, partsFit}
 use Rattle.tables.proofs.Readings.{ending, ending-start, firstPart, secondPart, node, code-of}
 use Rattle.number.specs.Comparing.{comparisonOf}
 use Rattle.ocl.specs.Values.{connectiveOf, quantifierOf, arithmeticOf}

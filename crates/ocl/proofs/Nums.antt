@@ -1,19 +1,19 @@
 -- The numbers of a form that is read from words are words, and what it computes is small.
-use Prim.Native.Nat.{ℕ, zero, suc, _+_, _-_, _*_, _^_, _≤_, _<_}
-use mathlib.Core.Path.{_≡_, refl, sym, ap, subst, _∙_}
+use Prim.Native.Nat.{ℕ, zero, suc, _-_, _^_, _≤_, _<_}
+use mathlib.Core.Path.{_≡_, refl, sym, ap, subst}
 use mathlib.Core.Bool.{Bool, true, false, _&&_, cond}
 use mathlib.Core.List.{List, [], _∷_}
 use native.Mathlib.Omega.{arith}
 use lib.Dec.{T, ltb}
 use lib.ListN.{length, take}
-use lib.IntN.{ℤ, pos, negsuc, natAbs}
+use lib.IntN.{pos, negsuc, natAbs}
 use lib.Signed.{mag}
-use mir.Facts.{and-yes, yes-and, ltb-yes, yes-ltb}
+use mir.Facts.{and-yes, yes-and, yes-ltb}
 use borrow.Author.Tests.{ltb-true, ltb-false}
-use Rattle.meaning.specs.Limits.{maxForms, fitsWord}
+use Rattle.meaning.specs.Limits.{fitsWord}
 use Rattle.meaning.specs.Schema.{Relationship}
-use Rattle.meaning.specs.Forms.{Sort, truth, number, collection, Form, formCount}
-use Rattle.rows.specs.Rows.{signed, readRows, rowsFrom}
+use Rattle.meaning.specs.Forms.{Sort, truth, number, collection, formCount}
+use Rattle.rows.specs.Rows.{signed, rowsFrom}
 use Rattle.tables.specs.Codes.{Operator, comparing, negating, connecting, quantifying, kindOf, literal, cellOf, sizeOf, sumOf, combining, roleOf, allOf, selecting, shapeOf}
 use Rattle.tables.specs.Bodies.{BodyRow, Part, part, sortOf, sameSort, asTruth, asNumber, asCollection, Reading, formOf, reads, partsFit}
 use Rattle.tables.specs.Columns.{objectRow}

@@ -2,24 +2,23 @@
 use Prim.Native.Nat.{ℕ, _+_, _≤_, _<_}
 use mathlib.Core.Path.{_≡_, refl, sym, ap, subst, _∙_}
 use mathlib.Core.Bool.{Bool, true, false, _&&_, not, cond}
-use mathlib.Core.List.{List, [], _∷_, map}
+use mathlib.Core.List.{List, [], _∷_}
 use mathlib.Core.Option.{Option, none, some, Option·map}
 use lib.Dec.{T, ltb}
 use lib.ListN.{getD}
 use lib.IntN.{ℤ, pos}
 use mir.Facts.{yes-and, yes-ltb, no-ltb}
 use borrow.Author.Tests.{lt-ltb, le-ltb}
-use Rattle.meaning.specs.Lists.{first, keep}
+use Rattle.meaning.specs.Lists.{first}
 use Rattle.meaning.specs.Limits.{cellCount}
 use Rattle.meaning.specs.Schema.{Schema, under}
-use Rattle.meaning.specs.Register.{Object, Link, Register, objectKey, objectAt, cellAt, instances}
+use Rattle.meaning.specs.Register.{Object, Link, objectKey, cellAt, instances}
 use Rattle.meaning.proofs.Lists.{not-and-left, not-and-right}
 use Rattle.meaning.proofs.Order.{before-one}
 use native.Mathlib.Nat.{le-of-lt}
 use Rattle.rows.specs.Rows.{wordAt, readRows, signed}
 use Rattle.tables.specs.Columns.{objectRow}
 use Rattle.tables.specs.Refusals.{foundOf}
-use Rattle.tables.specs.declared.Found.{Found}
 use Rattle.tables.specs.declared.Found.the-variants.{At, Nothing}
 use Rattle.schema.proofs.Rows.{row-used}
 use Rattle.schema.proofs.Scan.{Passed, passed-all}

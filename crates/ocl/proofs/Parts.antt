@@ -1,8 +1,8 @@
 -- The parts of a form are ready where the form is, and its meaning is made of theirs.
-use Prim.Native.Nat.{ℕ, suc, _+_, _-_, _*_, _^_, _≤_, _<_}
+use Prim.Native.Nat.{ℕ, _+_, _-_, _^_, _≤_, _<_}
 use mathlib.Core.Path.{_≡_, refl, sym, ap, ap₂, subst, fun-ext, _∙_}
 use mathlib.Core.Bool.{Bool, true, false, not, cond}
-use mathlib.Core.List.{List, [], _∷_, _++_, map}
+use mathlib.Core.List.{List, [], _∷_, map}
 use mathlib.Core.Option.{some}
 use native.Mathlib.Numerals.{add-one}
 use native.Mathlib.Omega.{arith}
@@ -16,15 +16,14 @@ use borrow.Author.Tests.{eqb-true, eqb-false}
 use lib.ListN.{length, getD, take, set, length-set}
 use lib.Seq.{take-suc-set}
 use lib.IntN.{ℤ, pos, natAbs, _+ℤ_}
-use Rattle.meaning.specs.Limits.{maxForms}
 use Rattle.meaning.specs.Schema.{Relationship}
-use Rattle.meaning.specs.Register.{Register, isUnder, cellAt, instances, farEnds}
-use Rattle.meaning.specs.Forms.{Sort, truth, number, collection, Form, bind, variable}
+use Rattle.meaning.specs.Register.{isUnder, cellAt, instances, farEnds}
+use Rattle.meaning.specs.Forms.{Sort, truth, number, collection, bind, variable}
 use Rattle.meaning.specs.Meaning.{compared, connected, quantified, combined, total, meaning}
 use Rattle.meaning.specs.Lists.{keep}
-use Rattle.rows.specs.Rows.{wordAt, signed}
+use Rattle.rows.specs.Rows.{signed}
 use Rattle.tables.specs.Codes.{Operator, comparing, negating, connecting, quantifying, kindOf, literal, cellOf, sizeOf, sumOf, combining, roleOf, allOf, selecting, operators, operatorOf, shapeOf}
-use Rattle.tables.specs.Bodies.{BodyRow, Part, asTruth, asNumber, asCollection, Reading, formOf, reads}
+use Rattle.tables.specs.Bodies.{BodyRow, Part, asTruth, asNumber, asCollection, formOf, reads}
 use Rattle.tables.specs.declared.Counts.{Counts}
 use Rattle.tables.proofs.Readings.{ending}
 use Rattle.schema.specs.Tables.{typesWith}

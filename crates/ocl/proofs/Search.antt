@@ -4,7 +4,7 @@ use mathlib.Core.Path.{_≡_, refl, sym, ap, ap₂, subst, _∙_}
 use mathlib.Core.Logic.{⊎-elim}
 use mathlib.Core.Bool.{Bool, true, false, _&&_, not, cond}
 use mathlib.Core.List.{List, [], _∷_, _++_, map}
-use mathlib.Core.Option.{Option, none, some}
+use mathlib.Core.Option.{some}
 use native.Mathlib.Nat.{sub-zero}
 use native.Mathlib.Numerals.{add-one}
 use native.Mathlib.Omega.{arith}
@@ -13,15 +13,15 @@ use lib.ListN.{length, getD, getElem?}
 use mir.Facts.{yes-and}
 use Rattle.meaning.specs.Lists.{first, holds}
 use Rattle.meaning.specs.Limits.{maxForms}
-use Rattle.meaning.specs.Schema.{Schema, Relationship, knownType}
+use Rattle.meaning.specs.Schema.{Schema, Relationship}
 use Rattle.meaning.specs.Register.{Register, isUnder, instances}
-use Rattle.meaning.specs.Forms.{truth, all, kind, wellTyped, Rule}
+use Rattle.meaning.specs.Forms.{truth, all, wellTyped, Rule}
 use Rattle.meaning.specs.Meaning.{meaning, broken}
 use Rattle.meaning.specs.Reach.{Pair, pairOf, pairsFrom, contextPairs, ofRule}
 use Rattle.meaning.specs.Answers.{foundAnswer, firstBroken}
-use Rattle.meaning.proofs.Lists.{_∈_, decide, first-some}
+use Rattle.meaning.proofs.Lists.{decide, first-some}
 use Rattle.meaning.proofs.Agreement.{checked}
-use Rattle.rows.specs.Rows.{wordAt, rowsFrom, readRows}
+use Rattle.rows.specs.Rows.{wordAt, rowsFrom}
 use Rattle.tables.specs.Bodies.{sortOf, sameSort, reads, wholeBody, readBody}
 use Rattle.tables.specs.Columns.{ruleRow}
 use Rattle.tables.specs.Refusals.{foundOf}

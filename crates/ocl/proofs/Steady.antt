@@ -1,8 +1,8 @@
 -- What a register that fits its schema gives the evaluators, and what its collections and numbers keep to.
 use Prim.Native.Nat.{ℕ, _+_, _*_, _^_, _≤_, _<_, zero-le}
-use mathlib.Core.Path.{_≡_, refl, sym, ap, subst, _∙_}
-use mathlib.Core.Bool.{Bool, true, _&&_}
-use mathlib.Core.List.{List, [], _∷_, map}
+use mathlib.Core.Path.{_≡_, refl, sym, subst}
+use mathlib.Core.Bool.{true}
+use mathlib.Core.List.{List, map}
 use mathlib.Core.Option.{Option, none, some}
 use native.Mathlib.Nat.{le-trans, lt-irrefl, lt-trans}
 use native.Mathlib.Omega.{arith}
@@ -12,15 +12,15 @@ use lib.IntN.{ℤ, pos, natAbs}
 use lib.Signed.{natAbs-le}
 use mir.Facts.{and-yes, ltb-yes, leb-yes}
 use Rattle.meaning.specs.Limits.{maxId, validId, fitsWord}
-use Rattle.meaning.specs.Schema.{Schema, farType, relationshipOf, forward, under}
-use Rattle.meaning.specs.Register.{Object, Link, Register, objectKey, linkKey, objectAt, present, isUnder, cellAt, instances, farEnd, nearEnd, farEnds, startsAt}
+use Rattle.meaning.specs.Schema.{Schema, farType, under}
+use Rattle.meaning.specs.Register.{Object, Register, objectKey, objectAt, present, isUnder, cellAt, instances, farEnd, farEnds}
 use Rattle.meaning.specs.Forms.{number, collection, Arithmetic, add, sub, Form, num, cell, size, sum, combine, role, all, select, bind, variable, formCount}
-use Rattle.meaning.specs.Meaning.{combined, total, meaning}
+use Rattle.meaning.specs.Meaning.{combined, meaning}
 use Rattle.meaning.specs.Lists.{keep}
 use Rattle.meaning.proofs.Lists.{_∈_, every-getD, holds-some, keep-from, Ascending, ascending-keep, ascending-shorter, map-in, map-from, ascending-map}
 use Rattle.meaning.proofs.Order.{Before, before-one}
 use Rattle.meaning.proofs.Integers.{natAbs-add, natAbs-sub}
-use Rattle.meaning.proofs.Registers.{RegisterFits, object-parts, object-at, ascending-found, under-present, far-from, far-under, far-ends-ascend, instances-ascend}
+use Rattle.meaning.proofs.Registers.{RegisterFits, object-parts, object-at, ascending-found, under-present, far-from, far-under, far-ends-ascend}
 use Rattle.meaning.proofs.Bounds.{total-size}
 use Rattle.tables.proofs.Forms.{numsFit}
 use Rattle.ocl.specs.Ready.{Steady}

@@ -1,7 +1,7 @@
 -- The evaluators meet their contracts. The measure is twice the row where the form ends: a helper keeps the row, and lies below the
 -- function that calls it; every other call is of a part, which ends before.
-use Prim.Native.Nat.{ℕ, _+_, _-_, _*_, _^_, _≤_, _<_}
-use mathlib.Core.Path.{_≡_, refl, sym, ap, subst, _∙_}
+use Prim.Native.Nat.{ℕ, _+_, _-_, _≤_, _<_}
+use mathlib.Core.Path.{_≡_, sym, subst, _∙_}
 use mathlib.Core.List.{List, []}
 use native.Mathlib.Omega.{arith}
 use mir.Syntax.{w64}

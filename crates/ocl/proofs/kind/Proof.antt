@@ -1,4 +1,3 @@
-use mathlib.Core.List.{List}
 use borrow.Author.Needs.{needs}
 use Rattle.ocl.proofs.kind.Statement.{statement}
 use Rattle.ocl.proofs.kind.Tie as tie

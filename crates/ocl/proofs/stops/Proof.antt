@@ -1,5 +1,3 @@
-use mathlib.Core.Path.{refl, ap}
-use mathlib.Core.Bool.{cond}
 use borrow.Author.Tests.{eq-eqb, ne-eqb}
 use Rattle.ocl.specs.Values.{quantifierOf, stopping}
 use Rattle.ocl.proofs.stops.Statement.{statement}

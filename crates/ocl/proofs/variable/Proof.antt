@@ -1,8 +1,5 @@
-use mathlib.Core.Path.{_≡_, refl, sym, _∙_}
-use Prim.Native.Nat.{_≤_}
-use native.Mathlib.Omega.{arith}
+use mathlib.Core.Path.{sym}
 use borrow.Author.Needs.{needs}
-use lib.ListN.{getD, take, length}
 use lib.Seq.{getD-take}
 use Rattle.ocl.proofs.Variables.{past-take}
 use Rattle.ocl.proofs.variable.Statement.{statement}
