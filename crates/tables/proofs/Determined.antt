@@ -1,5 +1,5 @@
 -- The model determines the tables: two tables of the same length, with zeros past their used rows, that read to the same rows
--- are the same words. One law over the width and the row's reader, and its instances.
+-- are the same words. One law over the width and the row's reader, and its instances; and the rule table with the bodies that it measures.
 use Prim.Native.Nat.{ℕ, zero, suc, _+_, _*_, _/_, _%_, _^_, _≤_, _<_}
 use mathlib.Core.Path.{_≡_, refl, sym, ap, subst, _∙_}
 use mathlib.Core.Logic.{_≢_, ⊎-elim}
@@ -7,19 +7,23 @@ use mathlib.Core.Bool.{Bool, true, false, cond}
 use mathlib.Core.List.{List, [], _∷_, map}
 use mathlib.Core.Option.{Option, none, some}
 use native.Mathlib.Nat.{not-suc-le-zero, le-of-suc-le-suc, add-zero, add-suc, suc-add, zero-add, div-add-mod', mod-lt, div-lt-iff-lt-mul}
+use native.Mathlib.Omega.{arith}
 use borrow.Author.Tests.{eqb-true}
 use lib.Dec.{T, ltb, eqb, ltb→lt, nltb→le, lit<}
-use lib.ListN.{length, getD}
-use lib.Seq.{ext-getD}
-use Rattle.meaning.specs.Limits.{cellCount}
+use lib.ListN.{length, getD, drop}
+use lib.Seq.{ext-getD, getD-take, getD-drop}
+use Rattle.meaning.specs.Limits.{cellCount, maxForms}
 use Rattle.meaning.specs.Schema.{ObjectType, Relationship}
 use Rattle.meaning.specs.Register.{Object, Link}
+use Rattle.meaning.specs.Forms.{Rule}
 use Rattle.meaning.specs.Events.{Event, insert, delete, set, join, part, special, general}
 use Rattle.meaning.proofs.Lists.{decide}
 use Rattle.rows.specs.Rows.{wordAt, rowsFrom, readRows, zeroPast, signed, wordOf}
 use Rattle.rows.proofs.Words.{word-signed}
 use Rattle.rows.proofs.Zeros.{zero-past}
-use Rattle.tables.specs.Columns.{noParent, typeRow, relationshipRow, objectRow, linkRow, noEvent, eventOf, eventRow}
+use Rattle.tables.specs.Bodies.{BodyRow, bodyRow, wholeBody, readBody}
+use Rattle.tables.specs.Columns.{noParent, typeRow, relationshipRow, ruleRow, objectRow, linkRow, noEvent, eventOf, eventRow, rulesOf}
+use Rattle.tables.proofs.Forms.{wordsFrom, whole-body, same-bodies, table-words}
 
 -- words of 32 bits
 abbrev pub Words : List ℕ → Type 0
@@ -173,3 +177,100 @@ module _ (used : ℕ) (t t′ : List ℕ) (e : length t ≡ length t′) where
       → readRows (eventRow t) used ≡ readRows (eventRow t′) used → t ≡ t′
   events-determined c c′ events =
       determined 4 (lit< tt) eventRow (λ v. v ≢ noEvent) eventWords event-back used t t′ e c c′ events
+
+-- ---- the rules and their bodies
+
+-- the body rows of rule i, and their number
+abbrev pub slotOf : List ℕ → ℕ → ℕ → BodyRow
+slotOf bodies i j = bodyRow bodies (i * maxForms + j)
+
+abbrev pub bodySize : List ℕ → ℕ → ℕ
+bodySize rules i = wordAt rules 2 i 1
+
+-- bodies of so many rules: the slot of each, 256 words, holds one whole form and zeros after it; past the slots are zeros
+pub record CleanBodies (used : ℕ) (rules bodies : List ℕ) : Type 0 where
+  pub words : Words bodies
+  pub whole : (i : ℕ) → i < used → T (wholeBody (slotOf bodies i) (bodySize rules i))
+  pub rest : (i j : ℕ) → i < used → bodySize rules i * 4 ≤ j → j < 256 → getD bodies (i * 256 + j) 0 ≡ 0
+  pub past : (k : ℕ) → used * 256 ≤ k → getD bodies k 0 ≡ 0
+
+-- rows that are the same one by one are the same as a list
+same-rows : {A : Type 0} (f g : ℕ → A) (j n : ℕ) → ((i : ℕ) → i < j + n → f i ≡ g i) → rowsFrom f j n ≡ rowsFrom g j n
+same-rows f g j zero h = refl
+same-rows f g j (suc n) h =
+    let first : f j ≡ g j = h j (omega arith) in
+    cc (first, same-rows f g (suc j) n (λ i l. h i (omega arith)))
+
+same-context : (rules rules′ bodies bodies′ : List ℕ) (i : ℕ) → ruleRow rules bodies i ≡ ruleRow rules′ bodies′ i → wordAt rules 2 i 0 ≡ wordAt rules′ 2 i 0
+unfolding ruleRow
+same-context rules rules′ bodies bodies′ i e = ap (λ (r : Rule). r .context) e
+
+same-body : (rules rules′ bodies bodies′ : List ℕ) (i : ℕ) → ruleRow rules bodies i ≡ ruleRow rules′ bodies′ i
+    → readBody (slotOf bodies i) (bodySize rules i) ≡ readBody (slotOf bodies′ i) (bodySize rules′ i)
+unfolding ruleRow
+same-body rules rules′ bodies bodies′ i e = ap (λ (r : Rule). r .body) e
+
+relationship-same : (t t′ : List ℕ) (i : ℕ) → wordAt t 2 i 0 ≡ wordAt t′ 2 i 0 → wordAt t 2 i 1 ≡ wordAt t′ 2 i 1 → relationshipRow t i ≡ relationshipRow t′ i
+unfolding relationshipRow
+relationship-same t t′ i a b = cc (a, b)
+
+-- word j of the body of n rows in slot i
+slot-word : (t : List ℕ) (i n j : ℕ) → (i * maxForms + n) * 4 ≤ length t → j < n * 4 → getD (wordsFrom (slotOf t i) 0 n) j 0 ≡ getD t (i * 256 + j) 0
+slot-word t i n j room h =
+    let start : (i * 64 + 0) * 4 + j ≡ i * 256 + j = omega arith in
+    ap (λ (ws : List ℕ). getD ws j 0) (table-words t (i * maxForms) 0 n (omega arith))
+    ∙ getD-take (n * 4) (drop ((i * maxForms + 0) * 4) t) j 0 h
+    ∙ getD-drop ((i * maxForms + 0) * 4) t j 0
+    ∙ ap (λ (k : ℕ). getD t k 0) start
+
+-- the rules determine both tables
+module _ (used : ℕ) (rules rules′ bodies bodies′ : List ℕ) (e : length rules ≡ length rules′) (e′ : length bodies ≡ length bodies′)
+    (c : Clean 2 used rules) (c′ : Clean 2 used rules′) (d : CleanBodies used rules bodies) (d′ : CleanBodies used rules′ bodies′)
+    (room : used * 256 ≤ length bodies) (same : rulesOf used rules bodies ≡ rulesOf used rules′ bodies′) where
+  rule-at : (i : ℕ) → i < used → ruleRow rules bodies i ≡ ruleRow rules′ bodies′ i
+  rule-at i l = same-row (ruleRow rules bodies) (ruleRow rules′ bodies′) used same i l
+
+  body-at : (i : ℕ) → i < used
+      → (bodySize rules i ≡ bodySize rules′ i) × (wordsFrom (slotOf bodies i) 0 (bodySize rules i) ≡ wordsFrom (slotOf bodies′ i) 0 (bodySize rules′ i))
+  body-at i l =
+      same-bodies (slotOf bodies i) (slotOf bodies′ i) (λ k. d .words _) (λ k. d′ .words _) (bodySize rules i) (bodySize rules′ i)
+      (d .whole i l) (d′ .whole i l) (same-body rules rules′ bodies bodies′ i (rule-at i l))
+
+  rules-same : rules ≡ rules′
+  rules-same =
+      relationships-determined used rules rules′ e c c′
+      (same-rows (relationshipRow rules) (relationshipRow rules′) 0 used
+      (λ i l.
+      let l′ : i < used = omega arith in
+      relationship-same rules rules′ i (same-context rules rules′ bodies bodies′ i (rule-at i l′)) (body-at i l′ .0)))
+
+  in-body : (i j : ℕ) → i < used → j < bodySize rules i * 4 → getD bodies (i * 256 + j) 0 ≡ getD bodies′ (i * 256 + j) 0
+  in-body i j l h =
+      let n : ℕ = bodySize rules i in
+      let few : n ≤ 64 = whole-body (slotOf bodies i) n (d .whole i l) .few in
+      let ws : wordsFrom (slotOf bodies i) 0 n ≡ wordsFrom (slotOf bodies′ i) 0 n =
+      body-at i l .1 ∙ ap (wordsFrom (slotOf bodies′ i) 0) (sym (body-at i l .0)) in
+      let fits : (i * 64 + n) * 4 ≤ length bodies = omega arith in
+      let fits′ : (i * 64 + n) * 4 ≤ length bodies′ = omega arith in
+      sym (slot-word bodies i n j fits h) ∙ ap (λ (w : List ℕ). getD w j 0) ws ∙ slot-word bodies′ i n j fits′ h
+
+  in-rest : (i j : ℕ) → i < used → bodySize rules i * 4 ≤ j → j < 256 → getD bodies (i * 256 + j) 0 ≡ getD bodies′ (i * 256 + j) 0
+  in-rest i j l h m = d .rest i j l h m ∙ sym (d′ .rest i j l (subst (λ (n : ℕ). n * 4 ≤ j) (body-at i l .0) h) m)
+
+  in-slot : (i j : ℕ) → i < used → j < 256 → getD bodies (i * 256 + j) 0 ≡ getD bodies′ (i * 256 + j) 0
+  in-slot i j l m =
+      ⊎-elim (λ h. in-body i j l (ltb→lt _ _ h)) (λ h. in-rest i j l (nltb→le _ _ h) m) (decide (ltb j (bodySize rules i * 4)))
+
+  in-slots : (k : ℕ) → k < used * 256 → getD bodies k 0 ≡ getD bodies′ k 0
+  in-slots k h =
+      let v : getD bodies (k / 256 * 256 + k % 256) 0 ≡ getD bodies′ (k / 256 * 256 + k % 256) 0 =
+      in-slot (k / 256) (k % 256) (div-lt-iff-lt-mul (lit< tt) .1 h) (mod-lt k (lit< tt)) in
+      rw div-add-mod' at v
+
+  bodies-same : bodies ≡ bodies′
+  bodies-same =
+      ext-getD 0 bodies bodies′ e′
+      (λ k h. ⊎-elim (λ l. in-slots k (ltb→lt _ _ l)) (λ l. d .past k (nltb→le _ _ l) ∙ sym (d′ .past k (nltb→le _ _ l))) (decide (ltb k (used * 256))))
+
+  pub rules-determined : (rules ≡ rules′) × (bodies ≡ bodies′)
+  rules-determined = (rules-same, bodies-same)

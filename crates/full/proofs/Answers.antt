@@ -1,0 +1,116 @@
+-- What a verdict and a search say about the full check's answer.
+use Prim.Native.Nat.{ℕ, zero, suc, min, _≤_}
+use mathlib.Core.Path.{_≡_, refl, sym, ap, _∙_}
+use mathlib.Core.Bool.{Bool, true, false, _||_, cond}
+use mathlib.Core.List.{List, [], _∷_}
+use mathlib.Core.Option.{Option, none, some}
+use native.Mathlib.Omega.{arith}
+use lib.Dec.{ltb}
+use lib.ListN.{drop}
+use borrow.Author.Tests.{ltb-false}
+use Rattle.meaning.specs.Lists.{firstOf, any}
+use Rattle.meaning.specs.Limits.{maxObjects, maxLinks}
+use Rattle.meaning.specs.Events.{Refusal}
+use Rattle.meaning.specs.Reach.{Pair, contextPairs}
+use Rattle.meaning.specs.Answers as Meaning
+use Rattle.meaning.specs.Answers.{accepted, brokenAt, refused, refusal, unlessRefused, foundAnswer, firstBroken}
+use Rattle.rows.specs.Rows.{readRows, rowsLent}
+use Rattle.tables.specs.Refusals.{Table, Tables, bookOf, registerIn, lentTables, verdictOf, overfull, tablesOf, tableRefusal, lentRefusal}
+use Rattle.tables.specs.declared.Counts.{Counts}
+use Rattle.tables.specs.declared.Verdict.the-variants.{Clear, Refused}
+use Rattle.tables.specs.Columns.{relationshipRow}
+use Rattle.ocl.specs.Search.{Checked, brokenOf, searched}
+use Rattle.ocl.specs.declared.Broken.the-variants.{At, Nowhere}
+use Rattle.full.specs.Answers.{answerOf, lentAnswer}
+use Rattle.full.specs.declared.Answer.the-variants as Answers
+
+-- the search's answer
+abbrev found : Tables → Meaning.Answer
+found t = firstBroken (bookOf t) (registerIn t) (contextPairs (bookOf t) (registerIn t))
+
+clear-none : (o : Option Refusal) → Clear ≡ verdictOf o → o ≡ none
+clear-none none e = refl
+clear-none (some r) e = cc
+
+pub answer-refused : (t : Tables) {number place : ℕ} → Refused number place ≡ verdictOf (lentRefusal t false) → Answers.Refused number place ≡ answerOf (lentAnswer t)
+unfolding lentAnswer unlessRefused
+answer-refused t e = step (lentRefusal t false) (found t) e
+  where
+    step : (o : Option Refusal) (a : Meaning.Answer) {number place : ℕ} → Refused number place ≡ verdictOf o → Answers.Refused number place ≡ answerOf (unlessRefused o a)
+    step none a e = cc
+    step (some r) a e = cc
+
+-- ---- what no refusal gives the search
+
+first-left : (a b : Option Refusal) → firstOf a b ≡ none → a ≡ none
+first-left none b e = refl
+first-left (some r) b e = cc
+
+first-right : (a b : Option Refusal) → firstOf a b ≡ none → b ≡ none
+first-right none b e = e
+first-right (some r) b e = cc
+
+or-left : (a b : Bool) → (a || b) ≡ false → a ≡ false
+or-left true b e = e
+or-left false b e = refl
+
+or-right : (a b : Bool) → (a || b) ≡ false → b ≡ false
+or-right true b e = cc
+or-right false b e = e
+
+not-refused : (b : Bool) (r : Refusal) (o : Option Refusal) → cond b (some r) o ≡ none → b ≡ false
+not-refused true r o e = cc
+not-refused false r o e = refl
+
+any-drop : (k : ℕ) (l : List Table) → any overfull l ≡ false → any overfull (drop k l) ≡ false
+any-drop zero l e = e
+any-drop (suc k) [] e = e
+any-drop (suc k) (x ∷ xs) e = any-drop k xs (or-right (overfull x) (any overfull xs) e)
+
+few-objects : (t : Tables) → tableRefusal (tablesOf t) false ≡ none → t .objectCount ≤ maxObjects
+unfolding tableRefusal tablesOf
+few-objects t e =
+    let objects = ltb (min maxObjects (rowsLent (t .objects) 10)) (t .objectCount) in
+    let links = any overfull (record { words = t .links; width = 3; used = t .linkCount; limit = maxLinks } ∷ []) in
+    let within : objects ≡ false = or-left objects links (any-drop 4 (tablesOf t) (not-refused (any overfull (tablesOf t)) _ _ e)) in
+    omega (arith, ltb-false (min maxObjects (rowsLent (t .objects) 10)) (t .objectCount) within)
+
+pub checked : (n : Counts) (types relationships rules bodies objects links : List ℕ) → Clear ≡ verdictOf (lentRefusal (lentTables n types relationships rules bodies objects links) false) → Checked n types rules bodies objects links
+unfolding lentRefusal
+checked n types relationships rules bodies objects links e =
+    let t = lentTables n types relationships rules bodies objects links in
+    let clear = clear-none (lentRefusal t false) e in
+    record {
+      relationships = readRows (relationshipRow relationships) (n .relationships);
+      clear = first-right (tableRefusal (tablesOf t) false) (refusal (bookOf t) (registerIn t)) clear;
+      few = few-objects t (first-left (tableRefusal (tablesOf t) false) (refusal (bookOf t) (registerIn t)) clear);
+    }
+
+-- ---- the search's result as the answer
+
+pair-found : (a : Meaning.Answer) {rule id : ℕ} → At rule id ≡ brokenOf a → Answers.Broken rule id ≡ answerOf a
+pair-found accepted e = cc
+pair-found (brokenAt r i) e = cc
+pair-found (refused m p) e = cc
+
+none-found : (o : Option Pair) → Nowhere ≡ brokenOf (foundAnswer o) → Answers.Accepted ≡ answerOf (foundAnswer o)
+unfolding foundAnswer
+none-found none e = refl
+none-found (some p) e = cc
+
+clear-answer : (t : Tables) → Clear ≡ verdictOf (lentRefusal t false) → answerOf (found t) ≡ answerOf (lentAnswer t)
+unfolding lentAnswer unlessRefused
+clear-answer t e = ap (λ o. answerOf (unlessRefused o (found t))) (sym (clear-none (lentRefusal t false) e))
+
+module _ (n : Counts) (types relationships rules bodies objects links : List ℕ) (clear : Clear ≡ verdictOf (lentRefusal (lentTables n types relationships rules bodies objects links) false)) where
+  pub answer-broken : {rule id : ℕ} → At rule id ≡ searched n types rules bodies objects links (readRows (relationshipRow relationships) (n .relationships)) → Answers.Broken rule id ≡ answerOf (lentAnswer (lentTables n types relationships rules bodies objects links))
+  unfolding searched
+  answer-broken f =
+      let t = lentTables n types relationships rules bodies objects links in
+      pair-found (found t) f ∙ clear-answer t clear
+
+  pub answer-accepted : Nowhere ≡ searched n types rules bodies objects links (readRows (relationshipRow relationships) (n .relationships)) → Answers.Accepted ≡ answerOf (lentAnswer (lentTables n types relationships rules bodies objects links))
+  unfolding searched firstBroken
+  answer-accepted f =
+      let t = lentTables n types relationships rules bodies objects links in
+      none-found _ f ∙ clear-answer t clear
