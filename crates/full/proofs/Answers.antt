@@ -32,13 +32,20 @@ clear-none : (o : Option Refusal) → Clear ≡ verdictOf o → o ≡ none
 clear-none none e = refl
 clear-none (some r) e = cc
 
+-- ---- an answer unless a refusal is met
+
+pub refused-answer : (o : Option Refusal) (a : Meaning.Answer) {number place : ℕ} → Refused number place ≡ verdictOf o → Answers.Refused number place ≡ answerOf (unlessRefused o a)
+unfolding unlessRefused
+refused-answer none a e = cc
+refused-answer (some r) a e = cc
+
+pub clear-answer : (o : Option Refusal) (a : Meaning.Answer) → Clear ≡ verdictOf o → answerOf a ≡ answerOf (unlessRefused o a)
+unfolding unlessRefused
+clear-answer o a e = ap (λ o. answerOf (unlessRefused o a)) (sym (clear-none o e))
+
 pub answer-refused : (t : Tables) {number place : ℕ} → Refused number place ≡ verdictOf (lentRefusal t false) → Answers.Refused number place ≡ answerOf (lentAnswer t)
-unfolding lentAnswer unlessRefused
-answer-refused t e = step (lentRefusal t false) (found t) e
-  where
-    step : (o : Option Refusal) (a : Meaning.Answer) {number place : ℕ} → Refused number place ≡ verdictOf o → Answers.Refused number place ≡ answerOf (unlessRefused o a)
-    step none a e = cc
-    step (some r) a e = cc
+unfolding lentAnswer
+answer-refused t e = refused-answer (lentRefusal t false) (found t) e
 
 -- ---- what no refusal gives the search
 
@@ -98,19 +105,15 @@ unfolding foundAnswer
 none-found none e = refl
 none-found (some p) e = cc
 
-clear-answer : (t : Tables) → Clear ≡ verdictOf (lentRefusal t false) → answerOf (found t) ≡ answerOf (lentAnswer t)
-unfolding lentAnswer unlessRefused
-clear-answer t e = ap (λ o. answerOf (unlessRefused o (found t))) (sym (clear-none (lentRefusal t false) e))
-
 module _ (n : Counts) (types relationships rules bodies objects links : List ℕ) (clear : Clear ≡ verdictOf (lentRefusal (lentTables n types relationships rules bodies objects links) false)) where
   pub answer-broken : {rule id : ℕ} → At rule id ≡ searched n types rules bodies objects links (readRows (relationshipRow relationships) (n .relationships)) → Answers.Broken rule id ≡ answerOf (lentAnswer (lentTables n types relationships rules bodies objects links))
-  unfolding searched
+  unfolding lentAnswer searched
   answer-broken f =
       let t = lentTables n types relationships rules bodies objects links in
-      pair-found (found t) f ∙ clear-answer t clear
+      pair-found (found t) f ∙ clear-answer (lentRefusal t false) (found t) clear
 
   pub answer-accepted : Nowhere ≡ searched n types rules bodies objects links (readRows (relationshipRow relationships) (n .relationships)) → Answers.Accepted ≡ answerOf (lentAnswer (lentTables n types relationships rules bodies objects links))
-  unfolding searched firstBroken
+  unfolding lentAnswer searched firstBroken
   answer-accepted f =
       let t = lentTables n types relationships rules bodies objects links in
-      none-found _ f ∙ clear-answer t clear
+      none-found _ f ∙ clear-answer (lentRefusal t false) (found t) clear

@@ -1,9 +1,17 @@
--- The full check's answer for lent tables.
-use mathlib.Core.Bool.{false}
-use Rattle.meaning.specs.Reach.{contextPairs}
+-- The answers of the full check, and of one rule at one object, for lent tables.
+use Prim.Native.Nat.{ℕ}
+use mathlib.Core.Bool.{false, cond}
+use mathlib.Core.List.{[], _∷_}
+use mathlib.Core.Option.{Option}
+use lib.Dec.{ltb, eqb}
+use Rattle.meaning.specs.Lists.{firstOf}
+use Rattle.meaning.specs.Events.{Refusal}
+use Rattle.meaning.specs.Reach.{pairOf, contextPairs}
 use Rattle.meaning.specs.Answers as Meaning
-use Rattle.meaning.specs.Answers.{accepted, brokenAt, refused, unlessRefused, firstBroken}
-use Rattle.tables.specs.Refusals.{Tables, bookOf, registerIn, lentRefusal}
+use Rattle.meaning.specs.Answers.{accepted, brokenAt, refused, refusalFor, unlessRefused, firstBroken}
+use Rattle.tables.specs.Refusals.{Tables, bookOf, registerIn, tablesOf, tableRefusal, lentRefusal}
+use Rattle.tables.specs.declared.Verdict.{Verdict}
+use Rattle.tables.specs.declared.Verdict.the-variants as Verdict
 use Rattle.full.specs.declared.Answer.{Answer}
 use Rattle.full.specs.declared.Answer.the-variants.{Accepted, Broken, Refused}
 
@@ -19,3 +27,20 @@ lentAnswer t =
     let k = bookOf t in
     let g = registerIn t in
     unlessRefused (lentRefusal t false) (firstBroken k g (contextPairs k g))
+
+-- refusals 2, 6, 3, 4 and 5 of a question about one rule, "checked from the top"
+unfoldable pub lentRefusalFor : Tables → ℕ → Option Refusal
+lentRefusalFor t rule = firstOf (tableRefusal (tablesOf t) false) (refusalFor (bookOf t) (registerIn t) rule)
+
+-- One rule at one object: broken there, or accepted. "A rule is *broken* at an object under its context type", so it is accepted where
+-- the object is not there or not under that type.
+unfoldable pub lentAnswerAt : Tables → ℕ → ℕ → Meaning.Answer
+lentAnswerAt t rule id = unlessRefused (lentRefusalFor t rule) (firstBroken (bookOf t) (registerIn t) (pairOf rule id ∷ []))
+
+-- A verdict on the tables, with the stage of a lacked rule put before that of the register.
+abbrev pub lacking : Verdict → ℕ → Verdict
+lacking (Verdict.Refused number place) rule = cond (eqb number 5) (Verdict.Refused 4 rule) (Verdict.Refused number place)
+lacking Verdict.Clear rule = Verdict.Refused 4 rule
+
+abbrev pub verdictFor : Verdict → ℕ → ℕ → Verdict
+verdictFor verdict rules rule = cond (ltb rule rules) verdict (lacking verdict rule)

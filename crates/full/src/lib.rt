@@ -4,7 +4,7 @@ use tables::Counts;
 use tables::Verdict;
 ghost use mathlib.Core.Path.{_≡_};
 ghost use Rattle.tables.specs.Refusals.{lentTables};
-ghost use Rattle.full.specs.Answers.{answerOf, lentAnswer};
+ghost use Rattle.full.specs.Answers.{answerOf, lentAnswer, verdictFor, lentAnswerAt};
 
 // What a check says: accepted, the first broken rule and object, or a refusal's number and place.
 pub enum Answer {
@@ -40,5 +40,59 @@ pub fn check(
             Broken::At(rule, id) => Answer::Broken(rule, id),
             Broken::Nowhere => Answer::Accepted,
         },
+    }
+}
+
+// The verdict on a question about one rule: 4 where the book has no such rule, after every faulty rule and before the register.
+fn verdict_for(verdict: Verdict, rules: u32, rule: u32) -> Verdict
+    ensures { λ r. ⌜ r ≡ verdictFor verdict rules rule ⌝ }
+{
+    if rule < rules {
+        return verdict;
+    }
+    match verdict {
+        Verdict::Refused(number, place) => {
+            if number == 5 {
+                return Verdict::Refused(4, rule);
+            }
+            Verdict::Refused(number, place)
+        }
+        Verdict::Clear => Verdict::Refused(4, rule),
+    }
+}
+
+// One rule at one object: the first refusal, else broken there, else accepted.
+pub fn check_rule(
+    n: Counts,
+    types: &[u32],
+    relationships: &[u32],
+    rules: &[u32],
+    bodies: &[u32],
+    objects: &[u32],
+    links: &[u32],
+    rule: u32,
+    id: u32,
+) -> Answer
+    ensures { λ r. ⌜ r ≡ answerOf (lentAnswerAt (lentTables n (now (types .entry)) (now (relationships .entry)) (now (rules .entry)) (now (bodies .entry)) (now (objects .entry)) (now (links .entry))) «rule» id) ⌝ }
+{
+    let verdict = checks::check(
+        n,
+        types,
+        relationships,
+        rules,
+        bodies,
+        objects,
+        links,
+        false,
+    );
+    match verdict_for(verdict, n.rules, rule) {
+        Verdict::Refused(number, place) => Answer::Refused(number, place),
+        Verdict::Clear => {
+            if ocl::broken_at(n, types, rules, bodies, objects, links, rule, id) {
+                Answer::Broken(rule, id)
+            } else {
+                Answer::Accepted
+            }
+        }
     }
 }

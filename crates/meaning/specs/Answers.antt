@@ -37,6 +37,14 @@ registerRefusal S g = refusalAt 5 (firstOf (objectFault S g) (linkFault S g))
 unfoldable pub refusal : Book → Register → Option Refusal
 refusal k g = firstOf (bookRefusal k) (registerRefusal (k .schema) g)
 
+-- 4: "a rule number the book lacks", at that number
+unfoldable pub lackedRule : Book → ℕ → Option Refusal
+lackedRule k rule = cond (ltb rule (length (k .rules))) none (some (record { number = 4; place = rule }))
+
+-- refusals 3, 4 and 5 of a question about one rule; a rule that is lacked comes after every faulty rule
+unfoldable pub refusalFor : Book → Register → ℕ → Option Refusal
+refusalFor k g rule = firstOf (bookRefusal k) (firstOf (lackedRule k rule) (registerRefusal (k .schema) g))
+
 -- the first pair of a list that is broken in the register, else accepted
 unfoldable pub foundAnswer : Option Pair → Answer
 foundAnswer none = accepted

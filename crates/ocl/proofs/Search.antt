@@ -35,7 +35,7 @@ use Rattle.schema.proofs.Founds.{found-none, found-some}
 use Rattle.book.specs.Marks.{bodyOf, Starts}
 use Rattle.ocl.specs.Ready.{Steady, Ready}
 use Rattle.ocl.specs.Values.{registerBy, truthOf}
-use Rattle.ocl.specs.Search.{bookWith, Checked, brokenOf, searched}
+use Rattle.ocl.specs.Search.{bookWith, Checked, brokenOf, searched, brokenPair}
 use Rattle.ocl.specs.declared.Broken.the-variants.{Nowhere}
 use Rattle.ocl.specs.declared.Broken.the-variants as Answer
 use Rattle.ocl.proofs.Members.{later, nextAfter, later-all, later-none, later-next}
@@ -45,6 +45,10 @@ use Rattle.ocl.proofs.Loops.{fewer}
 T-true : (b : Bool) → T b → b ≡ true
 T-true true t = refl
 T-true false t = absurd t
+
+not-not : (b : Bool) → not (not b) ≡ b
+not-not true = refl
+not-not false = refl
 
 element : {A : Type 0} (read : ℕ → A) (j m i : ℕ) → i < m → getElem? (rowsFrom read j m) i ≡ some (read (j + i))
 element read j zero i h = absurd (omega arith)
@@ -158,6 +162,32 @@ module _ {n : Counts} {types rules bodies objects links : List ℕ} (ck : Checke
         let none-left : n .rules - i ≡ 0 = omega arith in
         sym (ap (λ o. brokenOf (foundAnswer o)) (s .same ∙ ap (λ m. first test (pairsFrom S g i (rowsFrom (ruleRow rules bodies) i m))) none-left))
 
+    pair-is : {i : ℕ} (id : ℕ) → i < n .rules → test (pairOf i id) ≡ isUnder S g id (wordAt rules 2 i 0) && not (meaning S g ((ruleAt i) .body) (id ∷ []))
+    unfolding ofRule broken ruleRow
+    pair-is id h = ap (holds (λ r. broken S g r id)) (rule-there rs _ h)
+
+    -- a pair whose body was evaluated
+    pair-judged : {i size : ℕ} {held under : Bool} (id : ℕ) → i < n .rules → size ≡ sizeAt i → held ≡ truthOf n types objects links bodies i size (id ∷ []) 1 rs → under ≡ isUnder S g id (wordAt rules 2 i 0) → test (pairOf i id) ≡ under && not held
+    unfolding truthOf ruleRow
+    pair-judged {i} id h sized holding u =
+        let body-holds =
+        ap (λ f. meaning S g f (id ∷ [])) (body-ending (bodyOf bodies i) (sizeAt i) (whole i h))
+        ∙ sym (holding ∙ ap (λ k. truthOf n types objects links bodies i k (id ∷ []) 1 rs) sized) in
+        pair-is id h ∙ ap₂ (λ a b. a && not b) (sym u) body-holds
+
+    -- what the code found of an object and a rule's context, the type c
+    module _ {i c : ℕ} {found : Bool} (id : ℕ) (h : i < n .rules) (context : c ≡ wordAt rules 2 i 0) (under : found ≡ isUnder S g id c) where
+      in-type : found ≡ isUnder S g id (wordAt rules 2 i 0)
+      in-type = under ∙ ap (isUnder S g id) context
+
+      pub pair-passed : not found ≡ true → false ≡ brokenPair n types rules bodies objects links rs i id
+      unfolding brokenPair
+      pair-passed f = sym (pair-is id h ∙ ap (λ b. b && not (meaning S g ((ruleAt i) .body) (id ∷ []))) (sym in-type ∙ sym (not-not found) ∙ ap not f))
+
+      pub pair-answered : not found ≡ false → {size : ℕ} {held : Bool} → size ≡ sizeAt i → held ≡ truthOf n types objects links bodies i size (id ∷ []) 1 rs → not held ≡ brokenPair n types rules bodies objects links rs i id
+      unfolding brokenPair
+      pair-answered f {held = held} sized holding = sym (pair-judged id h sized holding in-type ∙ ap (λ b. b && not held) (sym (not-not found) ∙ ap not f))
+
     -- what the code found in the rule's context, the type c
     module _ {i after c : ℕ} {found : Found} (w : Within n types rules bodies objects links rs i after) (context : c ≡ wordAt rules 2 i 0) (next : found ≡ foundOf (nextAfter after (instances S g c))) where
       in-context : found ≡ foundOf (nextAfter after (members i))
@@ -179,24 +209,11 @@ module _ {n : Counts} {types rules bodies objects links : List ℕ} (ck : Checke
         left = ap (λ l. map (pairOf i) l ++ after-rule (suc i)) (later-next after (members i) (instances-up S g steady-register (wordAt rules 2 i 0)) id there)
 
         module _ {size : ℕ} {held : Bool} (h : i < n .rules) (sized : size ≡ sizeAt i) (holding : held ≡ truthOf n types objects links bodies i size (id ∷ []) 1 rs) where
-          body-holds : meaning S g ((ruleAt i) .body) (id ∷ []) ≡ held
-          unfolding truthOf ruleRow
-          body-holds =
-              ap (λ f. meaning S g f (id ∷ [])) (body-ending (bodyOf bodies i) (sizeAt i) (whole i h))
-              ∙ sym (holding ∙ ap (λ k. truthOf n types objects links bodies i k (id ∷ []) 1 rs) sized)
-
-          under-context : isUnder S g id ((ruleAt i) .context) ≡ true
-          unfolding ruleRow
-          under-context = T-true (isUnder S g id (wordAt rules 2 i 0)) (instance-under S g steady-register id (wordAt rules 2 i 0) (first-some (λ y. ltb after y) (members i) there .0))
-
-          pair-broken : test (pairOf i id) ≡ not held
-          unfolding ofRule broken
-          pair-broken =
-              ap (holds (λ r. broken S g r id)) (rule-there rs i h)
-              ∙ ap₂ (λ a b. a && not b) under-context body-holds
+          under-context : true ≡ isUnder S g id (wordAt rules 2 i 0)
+          under-context = sym (T-true (isUnder S g id (wordAt rules 2 i 0)) (instance-under S g steady-register id (wordAt rules 2 i 0) (first-some (λ y. ltb after y) (members i) there .0)))
 
           first-left : first test (contextPairs (bookWith n types rs rules bodies) g) ≡ cond (not held) (some (pairOf i id)) (first test (map (pairOf i) (later id (members i)) ++ after-rule (suc i)))
-          first-left = w .same ∙ ap (first test) left ∙ ap (λ b. cond b (some (pairOf i id)) (first test (map (pairOf i) (later id (members i)) ++ after-rule (suc i)))) pair-broken
+          first-left = w .same ∙ ap (first test) left ∙ ap (λ b. cond b (some (pairOf i id)) (first test (map (pairOf i) (later id (members i)) ++ after-rule (suc i)))) (pair-judged id h sized holding under-context)
 
           pub within-broken : not held ≡ true → Answer.At i id ≡ searched n types rules bodies objects links rs
           unfolding searched firstBroken foundAnswer

@@ -1,12 +1,14 @@
 -- The search of the full check: what it is given, and its answer.
 use Prim.Native.Nat.{ℕ, _≤_}
 use mathlib.Core.Path.{_≡_}
+use mathlib.Core.Bool.{Bool}
 use mathlib.Core.List.{List}
 use mathlib.Core.Option.{none}
 use Rattle.meaning.specs.Limits.{maxObjects}
 use Rattle.meaning.specs.Schema.{Relationship}
 use Rattle.meaning.specs.Forms.{Book}
-use Rattle.meaning.specs.Reach.{contextPairs}
+use Rattle.meaning.specs.Meaning.{broken}
+use Rattle.meaning.specs.Reach.{contextPairs, ofRule}
 use Rattle.meaning.specs.Answers.{Answer, accepted, brokenAt, refused, refusal, firstBroken}
 use Rattle.tables.specs.Columns.{rulesOf}
 use Rattle.tables.specs.declared.Counts.{Counts}
@@ -38,3 +40,8 @@ searched n types rules bodies objects links relationships =
     let k = bookWith n types relationships rules bodies in
     let g = registerBy n objects links in
     brokenOf (firstBroken k g (contextPairs k g))
+
+-- "A rule is *broken* at an object": the rule of that number, at the object of that id
+unfoldable pub brokenPair : Counts → List ℕ → List ℕ → List ℕ → List ℕ → List ℕ → List Relationship → ℕ → ℕ → Bool
+brokenPair n types rules bodies objects links relationships rule id =
+    ofRule (bookWith n types relationships rules bodies) (λ r. broken (typesWith (n .types) types relationships) (registerBy n objects links) r id) rule

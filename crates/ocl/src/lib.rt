@@ -16,8 +16,8 @@ ghost use Rattle.meaning.specs.Meaning.{connected};
 ghost use Rattle.tables.specs.Refusals.{foundOf};
 ghost use Rattle.schema.specs.Tables.{typesWith};
 ghost use Rattle.ocl.specs.Ready.{Steady, Ready};
-ghost use Rattle.ocl.specs.Search.{Checked, searched};
-ghost use Rattle.ocl.specs.Values.{codeAt, registerBy, truthOf, numberOf, membersOf, connectiveOf, quantifierOf, arithmeticOf, weightOf, stopping};
+ghost use Rattle.ocl.specs.Search.{Checked, searched, brokenPair};
+ghost use Rattle.ocl.specs.Values.{codeAt, registerBy, truthOf, numberOf, membersOf, connectiveOf, quantifierOf, weightOf, stopping};
 
 // The id that a variable stands for; 0 where there is no such variable.
 fn variable(vars: &[u32; 64], depth: u32, v: u32) -> u32
@@ -501,4 +501,28 @@ pub fn first_broken(
         rule += 1;
     }
     answer
+}
+
+// Whether a rule of the book is broken at an object: the object is there, under the rule's context type, and the body does not hold.
+pub fn broken_at(
+    n: Counts,
+    types: &[u32],
+    rules: &[u32],
+    bodies: &[u32],
+    objects: &[u32],
+    links: &[u32],
+    rule: u32,
+    id: u32,
+) -> bool
+    requires { ⌜ (Checked n (now types) (now rules) (now bodies) (now objects) (now links)) × (rule < n .rules) ⌝ }
+    ensures { λ r. ⌜ ((rs : List Relationship) → r ≡ brokenPair n (now (types .entry)) (now (rules .entry)) (now (bodies .entry)) (now (objects .entry)) (now (links .entry)) rs rule id) ⌝ }
+{
+    let context = rows::word(rules, 2, rule, 0);
+    if !kind(n, types, objects, links, id, context) {
+        return false;
+    }
+    let size = rows::word(rules, 2, rule, 1);
+    let spans = book::body::scan(bodies, rule, size);
+    let starts = spans.starts;
+    !holds_at(n, types, objects, links, bodies, &starts, rule, size, id)
 }

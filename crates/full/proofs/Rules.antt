@@ -1,0 +1,101 @@
+-- What a verdict says about the answer for one rule at one object.
+use Prim.Native.Nat.{ℕ, _<_}
+use mathlib.Core.Path.{_≡_, refl, sym, ap, _∙_}
+use mathlib.Core.Bool.{Bool, true, false, _||_, cond, false≢true}
+use mathlib.Core.List.{List, [], _∷_}
+use mathlib.Core.Option.{Option, none, some}
+use lib.Dec.{ltb, eqb}
+use borrow.Author.Tests.{ltb-true}
+use Rattle.meaning.specs.Lists.{firstOf, any}
+use Rattle.meaning.specs.Schema.{typeFault, relationshipFault}
+use Rattle.meaning.specs.Register.{Register, objectFault, linkFault}
+use Rattle.meaning.specs.Forms.{Book, ruleFault}
+use Rattle.meaning.specs.Events.{Refusal}
+use Rattle.meaning.specs.Reach.{pairOf}
+use Rattle.meaning.specs.Answers.{refusalAt, bookRefusal, registerRefusal, refusal, lackedRule, refusalFor, foundAnswer, firstBroken}
+use Rattle.rows.specs.Rows.{readRows}
+use Rattle.tables.specs.Columns.{ruleRow, relationshipRow}
+use Rattle.tables.specs.Refusals.{Tables, bookOf, registerIn, lentTables, verdictOf, overfull, broken, tablesOf, tableRefusal, lentRefusal}
+use Rattle.tables.specs.declared.Counts.{Counts}
+use Rattle.tables.specs.declared.Verdict.{Verdict}
+use Rattle.tables.specs.declared.Verdict.the-variants.{Clear, Refused}
+use Rattle.schema.proofs.Rows.{length-rows}
+use Rattle.ocl.specs.Search.{brokenPair}
+use Rattle.full.specs.Answers.{answerOf, lentRefusalFor, lentAnswerAt, lacking, verdictFor}
+use Rattle.full.specs.declared.Answer.the-variants as Answers
+use Rattle.full.proofs.Answers.{refused-answer, clear-answer}
+
+-- 5 alone comes after a lacked rule
+lacked : (p q : Bool) (x y z : Option ℕ) (rule : ℕ) →
+    lacking (verdictOf (firstOf (cond p (some (record { number = 2; place = 0 })) (cond q (some (record { number = 6; place = 0 })) none)) (firstOf (firstOf (refusalAt 3 x) (refusalAt 4 y)) (refusalAt 5 z)))) rule
+    ≡ verdictOf (firstOf (cond p (some (record { number = 2; place = 0 })) (cond q (some (record { number = 6; place = 0 })) none)) (firstOf (firstOf (refusalAt 3 x) (refusalAt 4 y)) (firstOf (some (record { number = 4; place = rule })) (refusalAt 5 z))))
+unfolding refusalAt
+lacked true q x y z rule = refl
+lacked false true x y z rule = refl
+lacked false false (some i) y z rule = refl
+lacked false false none (some i) z rule = refl
+lacked false false none none (some i) rule = refl
+lacked false false none none none rule = refl
+
+pub verdict-for : (t : Tables) (rule : ℕ) → verdictFor (verdictOf (lentRefusal t false)) (t .ruleCount) rule ≡ verdictOf (lentRefusalFor t rule)
+unfolding lentRefusal lentRefusalFor tableRefusal refusal refusalFor bookRefusal registerRefusal lackedRule
+verdict-for t rule =
+    by-known (ltb rule (t .ruleCount))
+    ∙ ap (λ m. verdictOf (staged (ltb rule m))) (sym (length-rows (ruleRow (t .rules) (t .bodies)) (t .ruleCount)))
+  where
+    k : Book
+    k = bookOf t
+
+    g : Register
+    g = registerIn t
+
+    staged : Bool → Option Refusal
+    staged known = firstOf (tableRefusal (tablesOf t) false) (firstOf (bookRefusal k) (firstOf (cond known none (some (record { number = 4; place = rule }))) (registerRefusal (k .schema) g)))
+
+    by-known : (known : Bool) → cond known (verdictOf (lentRefusal t false)) (lacking (verdictOf (lentRefusal t false)) rule) ≡ verdictOf (staged known)
+    by-known true = refl
+    by-known false = lacked (any overfull (tablesOf t)) (any broken (tablesOf t) || false) (firstOf (typeFault (k .schema)) (relationshipFault (k .schema))) (ruleFault k) (firstOf (objectFault (k .schema) g) (linkFault (k .schema) g)) rule
+
+-- ---- what the code finds
+
+never-clear : (b : Bool) (number place rule : ℕ) → Clear ≡ cond b (Refused 4 rule) (Refused number place) → false ≡ true
+never-clear true number place rule e = cc
+never-clear false number place rule e = cc
+
+pub known-rule : (v : Verdict) (rules rule : ℕ) → Clear ≡ verdictFor v rules rule → rule < rules
+known-rule v rules rule e = ltb-true rule rules (step (ltb rule rules) v e)
+  where
+    step : (b : Bool) (v : Verdict) → Clear ≡ cond b v (lacking v rule) → b ≡ true
+    step true v e = refl
+    step false (Refused number place) e = never-clear (eqb number 5) number place rule e
+    step false Clear e = cc
+
+pub clear-before : (v : Verdict) (rules rule : ℕ) → Clear ≡ verdictFor v rules rule → Clear ≡ v
+clear-before v rules rule e = step (ltb rule rules) v e
+  where
+    step : (b : Bool) (v : Verdict) → Clear ≡ cond b v (lacking v rule) → Clear ≡ v
+    step true v e = e
+    step false (Refused number place) e = absurd (false≢true (never-clear (eqb number 5) number place rule e))
+    step false Clear e = refl
+
+pub rule-refused : (t : Tables) (rule id : ℕ) {number place : ℕ} → Refused number place ≡ verdictFor (verdictOf (lentRefusal t false)) (t .ruleCount) rule → Answers.Refused number place ≡ answerOf (lentAnswerAt t rule id)
+unfolding lentAnswerAt
+rule-refused t rule id e = refused-answer (lentRefusalFor t rule) (firstBroken (bookOf t) (registerIn t) (pairOf rule id ∷ [])) (e ∙ verdict-for t rule)
+
+module _ (n : Counts) (types relationships rules bodies objects links : List ℕ) (rule id : ℕ) (clear : Clear ≡ verdictFor (verdictOf (lentRefusal (lentTables n types relationships rules bodies objects links) false)) (n .rules) rule) {found : Bool} (judged : found ≡ brokenPair n types rules bodies objects links (readRows (relationshipRow relationships) (n .relationships)) rule id) where
+  abbrev t : Tables
+  t = lentTables n types relationships rules bodies objects links
+
+  pair-answer : answerOf (foundAnswer (cond found (some (pairOf rule id)) none)) ≡ answerOf (lentAnswerAt t rule id)
+  unfolding lentAnswerAt firstBroken brokenPair
+  pair-answer =
+      ap (λ b. answerOf (foundAnswer (cond b (some (pairOf rule id)) none))) judged
+      ∙ clear-answer (lentRefusalFor t rule) (firstBroken (bookOf t) (registerIn t) (pairOf rule id ∷ [])) (clear ∙ verdict-for t rule)
+
+  pub rule-broken : found ≡ true → Answers.Broken rule id ≡ answerOf (lentAnswerAt t rule id)
+  unfolding foundAnswer
+  rule-broken f = ap (λ b. answerOf (foundAnswer (cond b (some (pairOf rule id)) none))) (sym f) ∙ pair-answer
+
+  pub rule-accepted : found ≡ false → Answers.Accepted ≡ answerOf (lentAnswerAt t rule id)
+  unfolding foundAnswer
+  rule-accepted f = ap (λ b. answerOf (foundAnswer (cond b (some (pairOf rule id)) none))) (sym f) ∙ pair-answer
