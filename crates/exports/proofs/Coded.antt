@@ -1,11 +1,15 @@
--- A verdict's number is that of the refusal that it stands for.
+-- What the code gives for a verdict or an answer is what its definition says.
 use Prim.Native.Nat.{ℕ, _+_, _*_, _^_}
 use mathlib.Core.Path.{_≡_, refl}
+use mathlib.Core.List.{[], _∷_}
 use mathlib.Core.Option.{Option, none, some}
 use Rattle.meaning.specs.Events.{Refusal}
+use Rattle.meaning.specs.Answers.{Answer, accepted, brokenAt, refused}
 use Rattle.tables.specs.Refusals.{verdictOf}
 use Rattle.tables.specs.declared.Verdict.the-variants.{Clear, Refused}
-use Rattle.exports.specs.Coded.{coded}
+use Rattle.full.specs.Answers.{answerOf}
+use Rattle.full.specs.declared.Answer.the-variants as Answers
+use Rattle.exports.specs.Coded.{coded, wordsOf}
 
 pub coded-clear : (o : Option Refusal) → Clear ≡ verdictOf o → coded o ≡ 0
 unfolding coded
@@ -16,3 +20,21 @@ pub coded-refused : (o : Option Refusal) {n p : ℕ} → Refused n p ≡ verdict
 unfolding coded
 coded-refused none e = cc
 coded-refused (some r) e = cc
+
+pub words-accepted : (a : Answer) → Answers.Accepted ≡ answerOf a → 0 ∷ 0 ∷ 0 ∷ [] ≡ wordsOf a
+unfolding wordsOf
+words-accepted accepted e = refl
+words-accepted (brokenAt rule id) e = cc
+words-accepted (refused number place) e = cc
+
+pub words-broken : (a : Answer) {rule id : ℕ} → Answers.Broken rule id ≡ answerOf a → 1 ∷ rule ∷ id ∷ [] ≡ wordsOf a
+unfolding wordsOf
+words-broken accepted e = cc
+words-broken (brokenAt rule id) e = cc
+words-broken (refused number place) e = cc
+
+pub words-refused : (a : Answer) {number place : ℕ} → Answers.Refused number place ≡ answerOf a → 2 ∷ number ∷ place ∷ [] ≡ wordsOf a
+unfolding wordsOf
+words-refused accepted e = cc
+words-refused (brokenAt rule id) e = cc
+words-refused (refused number place) e = cc

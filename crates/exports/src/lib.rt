@@ -1,10 +1,12 @@
 // What Rust and C programs link: the checker's entries over pointers and numbers.
+use full::Answer;
 use tables::Counts;
 use tables::Verdict;
 ghost use mathlib.Core.Path.{_≡_};
 ghost use mathlib.Core.Bool.{false};
 ghost use Rattle.tables.specs.Refusals.{lentTables, lentRefusal};
-ghost use Rattle.exports.specs.Coded.{coded, countsOf};
+ghost use Rattle.full.specs.Answers.{lentAnswer};
+ghost use Rattle.exports.specs.Coded.{coded, countsOf, wordsOf};
 
 // Refusals 2, 6, 3, 4 and 5 of a lent book and register: a refusal's number times 2^32 plus its place, or 0.
 #[no_mangle]
@@ -43,4 +45,36 @@ pub extern "C" fn checker_check(
         Verdict::Clear => 0,
         Verdict::Refused(number, place) => (number as u64) * 4294967296 + (place as u64),
     }
+}
+
+// The full check of a lent book and register. The answer is 0 where it is accepted; 1, rule and id; or 2, a refusal's number and place.
+#[no_mangle]
+pub extern "C" fn checker_full_check(
+    types_used: u32,
+    relationships_used: u32,
+    rules_used: u32,
+    objects_used: u32,
+    links_used: u32,
+    types: &[u32],
+    relationships: &[u32],
+    rules: &[u32],
+    bodies: &[u32],
+    objects: &[u32],
+    links: &[u32],
+    answer: &mut [u32; 3],
+)
+    ensures { λ r. ⌜ now (answer .exit) ≡ wordsOf (lentAnswer (lentTables (countsOf «types_used» «relationships_used» «rules_used» «objects_used» «links_used») (now (types .entry)) (now (relationships .entry)) (now (rules .entry)) (now (bodies .entry)) (now (objects .entry)) (now (links .entry)))) ⌝ }
+{
+    let n = Counts {
+        types: types_used,
+        relationships: relationships_used,
+        rules: rules_used,
+        objects: objects_used,
+        links: links_used,
+    };
+    *answer = match full::check(n, types, relationships, rules, bodies, objects, links) {
+        Answer::Accepted => [0, 0, 0],
+        Answer::Broken(rule, id) => [1, rule, id],
+        Answer::Refused(number, place) => [2, number, place],
+    };
 }

@@ -1,0 +1,59 @@
+// The proved library's entries, over the tables of a park.
+use crate::park::Tables;
+use std::time::Instant;
+
+// Both entries take the five counts, then each table by its address and length.
+macro_rules! entries {
+    ($($(#[$note:meta])* $name:ident($($last:ident: $type:ty)?) $(-> $result:ty)?;)*) => {
+        extern "C" {
+            $($(#[$note])* fn $name(
+                types_used: u32, relationships_used: u32, rules_used: u32, objects_used: u32, links_used: u32,
+                types: *const u32, types_len: usize, relationships: *const u32, relationships_len: usize,
+                rules: *const u32, rules_len: usize, bodies: *const u32, bodies_len: usize,
+                objects: *const u32, objects_len: usize, links: *const u32, links_len: usize,
+                $($last: $type)?
+            ) $(-> $result)?;)*
+        }
+    };
+}
+
+entries! {
+    /// a refusal's number times 2^32 plus its place; 0 where none is met
+    checker_check() -> u64;
+    /// 0 where accepted; 1, rule, id; 2, number, place
+    checker_full_check(answer: *mut u32);
+}
+
+macro_rules! on_tables {
+    ($entry:ident, $t:ident $(, $last:expr)?) => {
+        unsafe {
+            $entry(
+                ($t.types.len() / 2) as u32, ($t.relationships.len() / 2) as u32, ($t.rules.len() / 2) as u32,
+                ($t.objects.len() / 10) as u32, ($t.links.len() / 3) as u32,
+                $t.types.as_ptr(), $t.types.len(), $t.relationships.as_ptr(), $t.relationships.len(),
+                $t.rules.as_ptr(), $t.rules.len(), $t.bodies.as_ptr(), $t.bodies.len(),
+                $t.objects.as_ptr(), $t.objects.len(), $t.links.as_ptr(), $t.links.len(),
+                $($last)?
+            )
+        }
+    };
+}
+
+pub fn check(t: &Tables) -> u64 {
+    on_tables!(checker_check, t)
+}
+
+pub fn full_check(t: &Tables) -> [u32; 3] {
+    let mut answer = [0; 3];
+    on_tables!(checker_full_check, t, answer.as_mut_ptr());
+    answer
+}
+
+// Microseconds a round.
+pub fn time<T, F: FnMut() -> T>(rounds: u32, mut f: F) -> f64 {
+    let start = Instant::now();
+    for _ in 0..rounds {
+        std::hint::black_box(f());
+    }
+    start.elapsed().as_secs_f64() * 1e6 / rounds as f64
+}
