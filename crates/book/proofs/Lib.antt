@@ -2,14 +2,10 @@
 --   Shapes     the table of the operators' shapes
 --   Marks      the form that ends before a row, by what is kept of the rows before it
 --   Kept       what the scan of a body keeps
---   Lent       the types and relationships of lent tables
 --   Types      whether a form is well typed, by its row and its parts
---   Rules      whether a rule is faulty, and the first that is
---   Climbs     the laws behind src/schema.rt
+--   Rules      whether a rule is faulty
 pub mod Shapes
 pub mod Marks
 pub mod Kept
-pub mod Lent
 pub mod Types
 pub mod Rules
-pub mod Climbs

@@ -1,28 +1,24 @@
--- Whether a rule of lent tables is faulty, and the first that is.
-use Prim.Native.Nat.{ℕ, suc, _+_, _-_, _^_, _≤_, _<_, zero-le}
+-- Whether a rule of lent tables is faulty.
+use Prim.Native.Nat.{ℕ, _^_, _≤_, _<_}
 use mathlib.Core.Path.{_≡_, refl, sym, ap, subst, _∙_}
-use mathlib.Core.Bool.{Bool, true, false, _&&_, not, cond}
+use mathlib.Core.Bool.{Bool, true, false, _&&_, not}
 use mathlib.Core.List.{List, [], _∷_}
-use mathlib.Core.Option.{Option, none, some}
-use native.Mathlib.Nat.{sub-zero}
-use native.Mathlib.Numerals.{add-one}
-use native.Mathlib.Omega.{arith}
+use mathlib.Core.Option.{Option}
 use lib.Dec.{T, leb}
 use mir.Facts.{yes-and, yes-leb, no-leb, yes-eqb, no-eqb}
 use borrow.Author.Tests.{lt-ltb, le-ltb, le-leb}
-use Rattle.meaning.specs.Lists.{faultFrom, firstFault}
 use Rattle.meaning.specs.Limits.{maxForms}
 use Rattle.meaning.specs.Schema.{Schema, knownType}
 use Rattle.meaning.specs.Forms.{truth, Form, kind, wellTyped, formCount, Rule, faultyRule}
 use Rattle.meaning.proofs.Lists.{not-and-left, not-and-right}
-use Rattle.rows.specs.Rows.{wordAt, rowsFrom, readRows}
+use Rattle.rows.specs.Rows.{wordAt}
 use Rattle.tables.specs.Bodies.{BodyRow, reads, wholeBody, readBody}
 use Rattle.tables.specs.Columns.{ruleRow}
 use Rattle.tables.proofs.Readings.{ending, is-truth}
 use Rattle.tables.proofs.Forms.{whole-ending, whole-body, body-ending, body-none, body-count}
+use Rattle.schema.proofs.Types.{type-known}
 use Rattle.book.specs.Marks.{bodyOf, mark}
 use Rattle.book.specs.Types.{typedPart}
-use Rattle.book.proofs.Lent.{known-type}
 use Rattle.book.proofs.Marks.{reads-mark}
 use Rattle.book.proofs.Types.{lent}
 
@@ -71,7 +67,7 @@ module _ (typeCount : ℕ) (types : List ℕ) (relationshipCount : ℕ) (relatio
   unknown-context h =
       sym
       (ap (λ a. not (a && wellTyped S (context ∷ []) body && leb (formCount body) maxForms))
-      (sym (known-type types typeCount (S .relationships) context) ∙ le-ltb context typeCount h))
+      (type-known typeCount types (S .relationships) context ∙ le-ltb context typeCount h))
       ∙ tests
 
   -- rows that are no body are read as one that names variable 1
@@ -92,7 +88,7 @@ module _ (typeCount : ℕ) (types : List ℕ) (relationshipCount : ℕ) (relatio
   judged h words whole b e =
       let rows = bodyOf bodies rule in
       let w = whole-body rows size whole in
-      let known : true ≡ knownType S context = sym (lt-ltb context typeCount h) ∙ known-type types typeCount (S .relationships) context in
+      let known : true ≡ knownType S context = sym (type-known typeCount types (S .relationships) context ∙ lt-ltb context typeCount h) in
       let few : true ≡ leb (formCount body) maxForms = sym (ap (λ n. leb n maxForms) (body-count rows words size whole) ∙ le-leb size maxForms (w .few)) in
       let same : b ≡ wellTyped S (context ∷ []) body =
       e ∙ ap (typedPart S (context ∷ [])) (is-truth ((ending rows size) .form) (w .isTruth)) ∙ ap (wellTyped S (context ∷ [])) (sym (body-ending rows size whole)) in
@@ -101,33 +97,3 @@ module _ (typeCount : ℕ) (types : List ℕ) (relationshipCount : ℕ) (relatio
       all-three : (b : Bool) → (true && b && true) ≡ b
       all-three true = refl
       all-three false = refl
-
--- ---- the first faulty row of a table
-
--- no row before row i is faulty: the first faulty one is the first from row i on
-pub record Passed {A : Type 0} (faulty : ℕ → Option A → A → Bool) (read : ℕ → A) (n i : ℕ) : Type 0 where
-  pub within : i ≤ n
-  pub previous : Option A
-  pub same : faultFrom faulty i previous (rowsFrom read i (n - i)) ≡ firstFault faulty (readRows read n)
-
-pub passed-none : {A : Type 0} (faulty : ℕ → Option A → A → Bool) (read : ℕ → A) (n : ℕ) → Passed faulty read n 0
-passed-none faulty read n = record { within = zero-le; previous = none; same = ap (λ m. faultFrom faulty 0 none (rowsFrom read 0 m)) (sub-zero n) }
-
-module _ {A : Type 0} {faulty : ℕ → Option A → A → Bool} {read : ℕ → A} {n i : ℕ} (w : Passed faulty read n i) where
-  pub passed-all : n ≤ i → none ≡ firstFault faulty (readRows read n)
-  passed-all h = let m : 0 ≡ n - i = omega arith in ap (λ m. faultFrom faulty i (w .previous) (rowsFrom read i m)) m ∙ w .same
-
-  abbrev rest : Option ℕ
-  rest = faultFrom faulty (suc i) (some (read i)) (rowsFrom read (suc i) (n - suc i))
-
-  -- the row's test, and what is left
-  split : i < n → (b : Bool) → b ≡ faulty i (w .previous) (read i) → cond b (some i) rest ≡ firstFault faulty (readRows read n)
-  split h b e =
-      let m : suc (n - suc i) ≡ n - i = omega arith in
-      ap (λ b. cond b (some i) rest) e ∙ ap (λ m. faultFrom faulty i (w .previous) (rowsFrom read i m)) m ∙ w .same
-
-  pub passed-fault : i < n → true ≡ faulty i (w .previous) (read i) → some i ≡ firstFault faulty (readRows read n)
-  passed-fault h e = split h true e
-
-  pub passed-more : i < n → false ≡ faulty i (w .previous) (read i) → Passed faulty read n (i + 1)
-  passed-more h e = subst (Passed faulty read n) (sym (add-one i)) (record { within = h; previous = some (read i); same = split h false e })

@@ -22,11 +22,11 @@ use Rattle.tables.specs.Codes.{Operator, comparing, negating, connecting, quant
 use Rattle.tables.specs.Bodies.{BodyRow, Part, part, sortOf, sameSort, asTruth, asNumber, asCollection, formOf, reads, partsFit}
 use Rattle.tables.specs.Columns.{schemaOf}
 use Rattle.tables.proofs.Readings.{ending, firstPart, secondPart, ending-start, node, only-fits, both-fit, code-of, sorted, sorted-parts, is-truth, is-number, is-collection}
+use Rattle.schema.proofs.Types.{type-known, relationship-known}
 use Rattle.book.specs.Marks.{firstSort, secondSort}
 use Rattle.book.specs.Types.{typedPart, memberOf, summed, typedLeaf}
 use Rattle.book.proofs.Shapes.{coded-below}
 use Rattle.book.proofs.Marks.{result-sort}
-use Rattle.book.proofs.Lent.{known-type, known-role}
 
 -- ---- a row without parts, in lent tables
 
@@ -45,9 +45,9 @@ module _ (typeCount : ℕ) (types : List ℕ) (relationshipCount : ℕ) (relatio
         (ltb (y / 2) relationshipCount && under lent (getD env x 0) (nearType lent y))))))
 
     pub leaf-words : leafWords ≡ typedLeaf lent (take depth env) code x y
-    unfolding typedLeaf
+    unfolding typedLeaf knownRole
     leaf-words =
-        ap₂ (λ a b. cond (eqb code 14) true (cond (eqb code 21) a b)) (known-type types typeCount (lent .relationships) x)
+        ap₂ (λ a b. cond (eqb code 14) true (cond (eqb code 21) a b)) (sym (type-known typeCount types (lent .relationships) x))
         (ap (λ n. cond (leb n x) false (rest (getD env x 0) (ltb y typeCount) (ltb (y / 2) relationshipCount))) (sym size)
         ∙ guarded (leb (length (take depth env)) x) refl)
       where
@@ -63,8 +63,8 @@ module _ (typeCount : ℕ) (types : List ℕ) (relationshipCount : ℕ) (relatio
         guarded false e =
             let inside : x < depth = omega (arith, leb-false (length (take depth env)) x e, size) in
             λ j.
-            rest (sym (getD-take depth env x 0 inside) j) (known-type types typeCount (lent .relationships) y j)
-            (known-role relationships relationshipCount (lent .types) y j)
+            rest (sym (getD-take depth env x 0 inside) j) (sym (type-known typeCount types (lent .relationships) y) j)
+            (sym (relationship-known (lent .types) relationshipCount relationships (y / 2)) j)
 
 -- ---- the members of a collection
 

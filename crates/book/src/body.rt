@@ -2,7 +2,6 @@
 ghost use mathlib.Core.Path.{_≡_};
 ghost use mathlib.Core.Option.{some};
 ghost use Prim.Native.Nat.{suc, _+_, _*_, _<_, _≤_};
-ghost use lib.ListN.{getD};
 ghost use Rattle.meaning.specs.Limits.{maxForms};
 ghost use Rattle.rows.specs.Rows.{wordAt};
 ghost use Rattle.tables.specs.Codes.{Operator, operatorOf, shapeOf};

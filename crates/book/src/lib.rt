@@ -2,7 +2,6 @@
 use tables::Found;
 
 pub mod body;
-mod schema;
 mod typing;
 
 use typing::Place;

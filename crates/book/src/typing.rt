@@ -5,7 +5,6 @@ use crate::body::NONE;
 use crate::body::SECOND;
 use crate::body::field;
 use crate::body::shape;
-use crate::schema;
 ghost use mathlib.Core.Path.{_≡_};
 ghost use mathlib.Core.List.{List};
 ghost use Prim.Native.Nat.{ℕ, _+_, _≤_};
@@ -13,10 +12,10 @@ ghost use lib.Dec.{T};
 ghost use lib.ListN.{length, take};
 ghost use Rattle.meaning.specs.Schema.{ObjectType};
 ghost use Rattle.meaning.specs.Forms.{collection};
-ghost use Rattle.rows.specs.Rows.{readRows};
 ghost use Rattle.tables.specs.Bodies.{reads};
-ghost use Rattle.tables.specs.Columns.{relationshipRow, schemaOf};
+ghost use Rattle.tables.specs.Columns.{schemaOf};
 ghost use Rattle.tables.proofs.Readings.{ending};
+ghost use Rattle.schema.specs.Tables.{relationshipsWith};
 ghost use Rattle.book.specs.Marks.{bodyOf, Starts};
 ghost use Rattle.book.specs.Types.{typedPart, memberOf, summed, typedLeaf};
 
@@ -46,7 +45,7 @@ pub struct Place {
 // The type of a collection's members.
 fn member_type(relationships: &[u32], bodies: &[u32], starts: &[u32; 65], at: Place) -> u32
     requires { ⌜ (Starts (bodyOf (now bodies) (at .rule)) (now starts) (at .end)) × T (reads collection (ending (bodyOf (now bodies) (at .rule)) (at .end))) ⌝ }
-    ensures { λ r. ⌜ ((ts : List ObjectType) (vs : List ℕ) → r ≡ memberOf (record { types = ts; relationships = readRows (relationshipRow (now (relationships .entry))) (at .relationships) }) vs ((ending (bodyOf (now (bodies .entry)) (at .rule)) (at .end)) .form)) ⌝ }
+    ensures { λ r. ⌜ ((ts : List ObjectType) (vs : List ℕ) → r ≡ memberOf (relationshipsWith ts (at .relationships) (now (relationships .entry))) vs ((ending (bodyOf (now (bodies .entry)) (at .rule)) (at .end)) .form)) ⌝ }
 {
     let rule = at.rule;
     let mut row = at.end - 1;

@@ -1,12 +1,11 @@
 -- `book::check` meets its contract. The loop's invariant: no rule before this one is faulty.
 use Prim.Native.Nat.{_-_}
-use mathlib.Core.Path.{sym, ap, _∙_}
+use mathlib.Core.Path.{sym, _∙_}
 use native.Mathlib.Omega.{arith}
 use borrow.Author.Needs.{needs}
 use Rattle.meaning.specs.Forms.{faultyRule, ruleFault}
 use Rattle.tables.specs.Columns.{ruleRow, schemaOf}
-use Rattle.tables.specs.Refusals.{foundOf}
-use Rattle.book.proofs.Rules.{Passed, passed-none, passed-fault, passed-more, passed-all}
+use Rattle.schema.proofs.Scan.{Passed, passed-none, passed-more, passed-found, passed-all}
 use Rattle.book.proofs.check.Statement.{statement}
 use Rattle.book.proofs.check.Tie as tie
 
@@ -18,18 +17,14 @@ abbrev μ-loop : tie.MeasureT-loop
 μ-loop type-count types relationship-count relationships rule-count rules bodies rule₀ rule = rule-count - rule
 
 loop-holds : tie.Need-loop-holds Inv-loop μ-loop
-loop-holds c =
-    let a = c .before .before .before .before .args in
-    passed-none (faultyRule (schemaOf (a .type-count) (a .types .now) (a .relationship-count) (a .relationships .now))) (ruleRow (a .rules .now) (a .bodies .now)) (a .rule-count)
+loop-holds c = passed-none _ _ _
 
 faulty-requires : tie.Need-faulty-requires Inv-loop μ-loop
 faulty-requires c κs = search needs
 
 returns : tie.Need-returns Inv-loop μ-loop
 unfolding ruleFault
-returns c =
-    let w = c .before .before .before .loop .inv in
-    ap foundOf (passed-fault w (c .before .before .loop-test .taken) (sym (c .if1 .taken) ∙ c .before .faulty .ensures (w .previous)))
+returns c = rw (passed-found _ _ _ (c .before .before .before .loop .inv) (c .before .before .loop-test .taken) (sym (c .before .faulty .ensures _) ∙ c .if1 .taken))
 
 add-rule : tie.Need-add-rule Inv-loop μ-loop
 add-rule c = omega arith
@@ -38,13 +33,11 @@ loop-less : tie.Need-loop-less Inv-loop μ-loop
 loop-less c = omega arith
 
 loop-again : tie.Need-loop-again Inv-loop μ-loop
-loop-again c =
-    let w = c .before .before .before .loop .inv in
-    passed-more w (c .before .before .loop-test .taken) (sym (c .if1 .left) ∙ c .before .faulty .ensures (w .previous))
+loop-again c = passed-more _ _ _ (c .before .before .before .loop .inv) (c .before .before .loop-test .taken) (sym (c .before .faulty .ensures _) ∙ c .if1 .left)
 
 returns-2 : tie.Need-returns-2 Inv-loop μ-loop
 unfolding ruleFault
-returns-2 c = ap foundOf (passed-all (c .before .loop .inv) (c .loop-test .left))
+returns-2 c = rw (passed-all _ _ _ (c .before .loop .inv) (c .loop-test .left))
 
 pub check-spec : {M : Type 1} → statement M
 check-spec =

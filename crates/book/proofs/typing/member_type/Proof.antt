@@ -6,8 +6,8 @@ use native.Mathlib.Omega.{arith}
 use lib.ListN.{getD}
 use borrow.Author.Needs.{needs}
 use Rattle.meaning.specs.Schema.{farType}
+use Rattle.schema.specs.Tables.{relationshipsWith}
 use Rattle.book.specs.Marks.{bodyOf}
-use Rattle.book.proofs.Lent.{rolesOf}
 use Rattle.book.proofs.Types.{Members, members-none, members-more, members-all, members-role}
 use Rattle.book.proofs.typing.member_type.Statement.{statement}
 use Rattle.book.proofs.typing.member_type.Tie as tie
@@ -64,7 +64,7 @@ returns : tie.Need-returns Inv-loop μ-loop
 returns c = λ ts vs.
     let a = c .before .before .before .before .before .before .before .before .before .args in
     c .before .before .field2 .ensures
-    ∙ members-all (c .before .before .before .before .before .loop .inv) (rolesOf (a .relationships .now) (a .at .relationships) ts) vs (sym (c .before .field3 .ensures) ∙ c .if2 .taken)
+    ∙ members-all (c .before .before .before .before .before .loop .inv) (relationshipsWith ts (a .at .relationships) (a .relationships .now)) vs (sym (c .before .field3 .ensures) ∙ c .if2 .taken)
 
 field-requires-4 : tie.Need-field-requires-4 Inv-loop μ-loop
 field-requires-4 c κs = search needs
@@ -75,7 +75,7 @@ far-type-requires c κs = search needs
 returns-2 : tie.Need-returns-2 Inv-loop μ-loop
 returns-2 c = λ ts vs.
     let a = c .before .before .before .before .before .before .before .before .before .before .before .args in
-    let S = rolesOf (a .relationships .now) (a .at .relationships) ts in
+    let S = relationshipsWith ts (a .at .relationships) (a .relationships .now) in
     c .far-type .ensures ts
     ∙ ap (farType S) (c .before .field4 .ensures)
     ∙ members-role (c .before .before .before .before .before .before .before .loop .inv) S vs (λ q. c .before .before .before .before .before .if1 .left (c .before .before .before .before .before .before .field .ensures ∙ q)) (λ q. c .before .before .if2 .left (c .before .before .before .field3 .ensures ∙ q))
