@@ -8,8 +8,8 @@ use native.Mathlib.Numerals.{add-one}
 use native.Mathlib.Omega.{arith}
 use lib.ListN.{length, getD, set, replicate, length-set, length-replicate}
 use lib.Seq.{getD-set-same, getD-set-other}
-use Rattle.tables.specs.Bodies.{BodyRow}
-use Rattle.tables.proofs.Readings.{ending, ending-start, firstPart, secondPart}
+use Rattle.tables.specs.Bodies.{BodyRow, ending, firstPart, secondPart}
+use Rattle.tables.proofs.Readings.{ending-start}
 use Rattle.book.specs.Marks.{mark, Starts}
 
 -- an array with one value more

@@ -9,8 +9,8 @@ use lib.Dec.{T, ltb, leb, eqb}
 use borrow.Author.Tests.{lt-ltb, le-leb}
 use Rattle.meaning.specs.Forms.{Sort, truth, number, collection}
 use Rattle.tables.specs.Codes.{Operator, comparing, negating, connecting, quantifying, kindOf, literal, cellOf, sizeOf, sumOf, combining, roleOf, allOf, selecting, operatorOf, shapeOf}
-use Rattle.tables.specs.Bodies.{BodyRow, Part, sortOf, sameSort, Reading, formOf, startOf, reads, partsFit, fieldsFit, readingOf}
-use Rattle.tables.proofs.Readings.{ending, firstPart, secondPart, Agree, ending-step}
+use Rattle.tables.specs.Bodies.{BodyRow, Part, sortOf, sameSort, Reading, formOf, startOf, reads, partsFit, fieldsFit, readingOf, ending, firstPart, secondPart}
+use Rattle.tables.proofs.Readings.{Agree, ending-step}
 use Rattle.book.specs.Marks.{sortCode, mark, firstSort, secondSort, serves}
 
 -- the fields that a row does not use, test by test

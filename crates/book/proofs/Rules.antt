@@ -12,9 +12,9 @@ use Rattle.meaning.specs.Schema.{Schema, knownType}
 use Rattle.meaning.specs.Forms.{truth, Form, kind, wellTyped, formCount, Rule, faultyRule}
 use Rattle.meaning.proofs.Lists.{not-and-left, not-and-right}
 use Rattle.rows.specs.Rows.{wordAt}
-use Rattle.tables.specs.Bodies.{BodyRow, reads, wholeBody, readBody}
+use Rattle.tables.specs.Bodies.{BodyRow, reads, wholeBody, readBody, ending}
 use Rattle.tables.specs.Columns.{ruleRow}
-use Rattle.tables.proofs.Readings.{ending, is-truth}
+use Rattle.tables.proofs.Readings.{is-truth}
 use Rattle.tables.proofs.Forms.{whole-ending, whole-body, body-ending, body-none, body-count}
 use Rattle.schema.proofs.Types.{type-known}
 use Rattle.book.specs.Marks.{bodyOf, mark}

@@ -19,9 +19,9 @@ use Rattle.meaning.specs.Schema.{Schema, knownType, knownRole, cellsOf, under, 
 use Rattle.meaning.specs.Forms.{Sort, truth, number, collection, Form, bind, variable, memberType, wellTyped}
 use Rattle.rows.specs.Rows.{signed}
 use Rattle.tables.specs.Codes.{Operator, comparing, negating, connecting, quantifying, kindOf, literal, cellOf, sizeOf, sumOf, combining, roleOf, allOf, selecting, operators, operatorOf, codeOf, shapeOf}
-use Rattle.tables.specs.Bodies.{BodyRow, Part, part, sortOf, sameSort, asTruth, asNumber, asCollection, formOf, reads, partsFit}
+use Rattle.tables.specs.Bodies.{BodyRow, Part, part, sortOf, sameSort, asTruth, asNumber, asCollection, formOf, reads, partsFit, ending, firstPart, secondPart}
 use Rattle.tables.specs.Columns.{schemaOf}
-use Rattle.tables.proofs.Readings.{ending, firstPart, secondPart, ending-start, node, only-fits, both-fit, code-of, sorted, sorted-parts, is-truth, is-number, is-collection}
+use Rattle.tables.proofs.Readings.{ending-start, node, only-fits, both-fit, code-of, sorted, sorted-parts, is-truth, is-number, is-collection}
 use Rattle.schema.proofs.Types.{type-known, relationship-known}
 use Rattle.book.specs.Marks.{firstSort, secondSort}
 use Rattle.book.specs.Types.{typedPart, memberOf, summed, typedLeaf}

@@ -8,8 +8,7 @@ use lib.ListN.{getD}
 use Rattle.meaning.specs.Limits.{maxForms}
 use Rattle.meaning.specs.Forms.{Sort, truth, number, collection}
 use Rattle.tables.specs.Codes.{Shape}
-use Rattle.tables.specs.Bodies.{BodyRow, bodyRow, sortOf, Reading}
-use Rattle.tables.proofs.Readings.{ending}
+use Rattle.tables.specs.Bodies.{BodyRow, bodyRow, sortOf, Reading, ending}
 
 -- the rows of a rule's body
 abbrev pub bodyOf : List ℕ → ℕ → ℕ → BodyRow

@@ -5,8 +5,7 @@ ghost use Prim.Native.Nat.{suc, _+_, _*_, _<_, _≤_};
 ghost use Rattle.meaning.specs.Limits.{maxForms};
 ghost use Rattle.rows.specs.Rows.{wordAt};
 ghost use Rattle.tables.specs.Codes.{Operator, operatorOf, shapeOf};
-ghost use Rattle.tables.specs.Bodies.{fieldsFit};
-ghost use Rattle.tables.proofs.Readings.{ending, firstPart, secondPart};
+ghost use Rattle.tables.specs.Bodies.{fieldsFit, ending, firstPart, secondPart};
 ghost use Rattle.book.specs.Marks.{bodyOf, mark, serves, shapeWord, Starts};
 
 // The sorts of forms: 0 truth, 1 number, 2 collection. NONE is no form, and no part.

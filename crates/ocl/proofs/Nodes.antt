@@ -9,8 +9,8 @@ use lib.Dec.{T, ltb, leb}
 use mir.Facts.{and-yes, ltb-yes, leb-yes}
 use Rattle.meaning.specs.Forms.{Sort, truth, number, collection, le, lt, eq, ne, ge, gt, and, or, xor, implies, forall, exists, add, sub}
 use Rattle.tables.specs.Codes.{Operator, comparing, negating, connecting, quantifying, kindOf, literal, cellOf, sizeOf, sumOf, combining, roleOf, allOf, selecting, operators, operatorOf, codeOf, shapeOf}
-use Rattle.tables.specs.Bodies.{BodyRow, Part, sortOf, sameSort, formOf, reads, partsFit}
-use Rattle.tables.proofs.Readings.{ending, ending-start, firstPart, secondPart, node, code-of}
+use Rattle.tables.specs.Bodies.{BodyRow, Part, sortOf, sameSort, formOf, reads, partsFit, ending, firstPart, secondPart}
+use Rattle.tables.proofs.Readings.{ending-start, node, code-of}
 use Rattle.number.specs.Comparing.{comparisonOf}
 use Rattle.ocl.specs.Values.{connectiveOf, quantifierOf, arithmeticOf}
 

@@ -15,10 +15,10 @@ use Rattle.meaning.specs.Schema.{Relationship}
 use Rattle.meaning.specs.Forms.{Sort, truth, number, collection, formCount}
 use Rattle.rows.specs.Rows.{signed, rowsFrom}
 use Rattle.tables.specs.Codes.{Operator, comparing, negating, connecting, quantifying, kindOf, literal, cellOf, sizeOf, sumOf, combining, roleOf, allOf, selecting, shapeOf}
-use Rattle.tables.specs.Bodies.{BodyRow, Part, part, sortOf, sameSort, asTruth, asNumber, asCollection, Reading, formOf, reads, partsFit}
+use Rattle.tables.specs.Bodies.{BodyRow, Part, part, sortOf, sameSort, asTruth, asNumber, asCollection, Reading, formOf, reads, partsFit, ending, firstPart, secondPart}
 use Rattle.tables.specs.Columns.{objectRow}
 use Rattle.tables.specs.declared.Counts.{Counts}
-use Rattle.tables.proofs.Readings.{ending, ending-start, node, firstPart, secondPart}
+use Rattle.tables.proofs.Readings.{ending-start, node}
 use Rattle.tables.proofs.Forms.{numsFit, partCount, count-read}
 use Rattle.schema.specs.Tables.{typesWith}
 use Rattle.ocl.specs.Ready.{Ready}

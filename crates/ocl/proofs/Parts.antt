@@ -23,9 +23,8 @@ use Rattle.meaning.specs.Meaning.{compared, connected, quantified, combined, to
 use Rattle.meaning.specs.Lists.{keep}
 use Rattle.rows.specs.Rows.{signed}
 use Rattle.tables.specs.Codes.{Operator, comparing, negating, connecting, quantifying, kindOf, literal, cellOf, sizeOf, sumOf, combining, roleOf, allOf, selecting, operators, operatorOf, shapeOf}
-use Rattle.tables.specs.Bodies.{BodyRow, Part, asTruth, asNumber, asCollection, formOf, reads}
+use Rattle.tables.specs.Bodies.{BodyRow, Part, asTruth, asNumber, asCollection, formOf, reads, ending}
 use Rattle.tables.specs.declared.Counts.{Counts}
-use Rattle.tables.proofs.Readings.{ending}
 use Rattle.schema.specs.Tables.{typesWith}
 use Rattle.number.specs.Comparing.{comparisonOf}
 use Rattle.ocl.specs.Ready.{Ready}

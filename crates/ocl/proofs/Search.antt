@@ -22,13 +22,12 @@ use Rattle.meaning.specs.Answers.{foundAnswer, firstBroken}
 use Rattle.meaning.proofs.Lists.{decide, first-some}
 use Rattle.meaning.proofs.Agreement.{checked}
 use Rattle.rows.specs.Rows.{wordAt, rowsFrom}
-use Rattle.tables.specs.Bodies.{sortOf, sameSort, reads, wholeBody, readBody}
+use Rattle.tables.specs.Bodies.{sortOf, sameSort, reads, wholeBody, readBody, ending}
 use Rattle.tables.specs.Columns.{ruleRow}
 use Rattle.tables.specs.Refusals.{foundOf}
 use Rattle.tables.specs.declared.Counts.{Counts}
 use Rattle.tables.specs.declared.Found.{Found}
 use Rattle.tables.specs.declared.Found.the-variants.{At, Nothing}
-use Rattle.tables.proofs.Readings.{ending}
 use Rattle.tables.proofs.Forms.{whole-body, body-ending, body-none}
 use Rattle.schema.specs.Tables.{typesWith}
 use Rattle.schema.proofs.Founds.{found-none, found-some}

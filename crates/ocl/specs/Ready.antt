@@ -10,9 +10,8 @@ use Rattle.meaning.specs.Register.{Register, objectKey, linkKey, present, cellA
 use Rattle.meaning.specs.Forms.{Sort}
 use Rattle.meaning.proofs.Lists.{_∈_, Ascending}
 use Rattle.meaning.proofs.Order.{Before}
-use Rattle.tables.specs.Bodies.{reads}
+use Rattle.tables.specs.Bodies.{reads, ending}
 use Rattle.tables.specs.declared.Counts.{Counts}
-use Rattle.tables.proofs.Readings.{ending}
 use Rattle.book.specs.Marks.{bodyOf}
 use Rattle.ocl.specs.Values.{registerBy}
 

@@ -9,10 +9,9 @@ use Rattle.meaning.specs.Schema.{Relationship}
 use Rattle.meaning.specs.Register.{Register, cellAt}
 use Rattle.meaning.specs.Forms.{Connective, and, or, xor, implies, Quantifier, forall, exists, Arithmetic, add, sub}
 use Rattle.meaning.specs.Meaning.{meaning}
-use Rattle.tables.specs.Bodies.{asTruth, asNumber, asCollection}
+use Rattle.tables.specs.Bodies.{asTruth, asNumber, asCollection, ending}
 use Rattle.tables.specs.Columns.{registerOf}
 use Rattle.tables.specs.declared.Counts.{Counts}
-use Rattle.tables.proofs.Readings.{ending}
 use Rattle.schema.specs.Tables.{typesWith}
 use Rattle.book.specs.Marks.{bodyOf}
 

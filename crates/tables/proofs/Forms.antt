@@ -20,8 +20,8 @@ use Rattle.rows.proofs.Words
 use Rattle.rows.proofs.Words.{word-signed}
 use Rattle.rows.specs.Rows.{signed, wordOf}
 use Rattle.tables.specs.Codes.{Operator, comparing, negating, connecting, quantifying, kindOf, literal, cellOf, sizeOf, sumOf, combining, roleOf, allOf, selecting, operatorOf, codeOf, shapeOf}
-use Rattle.tables.specs.Bodies.{rowWords, writeForm, BodyRow, bodyRow, Part, part, sortOf, sameSort, asTruth, asNumber, asCollection, Reading, formOf, startOf, reads, partsFit, fieldsFit, readingOf, readAt, wholeBody, readBody}
-use Rattle.tables.proofs.Readings.{ending, ending-start, before-end, sound-pos, agree-sound, next, ending-step, firstPart, secondPart, node, only-fits, both-fit, code-of, operator-of, same-sort, is-truth, is-number, is-collection, sorted, sorted-parts}
+use Rattle.tables.specs.Bodies.{rowWords, writeForm, BodyRow, bodyRow, Part, part, sortOf, sameSort, asTruth, asNumber, asCollection, Reading, formOf, startOf, reads, partsFit, fieldsFit, readingOf, readAt, wholeBody, readBody, ending, firstPart, secondPart}
+use Rattle.tables.proofs.Readings.{ending-start, before-end, sound-pos, agree-sound, next, ending-step, node, only-fits, both-fit, code-of, operator-of, same-sort, is-truth, is-number, is-collection, sorted, sorted-parts}
 
 -- ---- a signed number as a word, and back
 

@@ -11,7 +11,7 @@ use lib.ListN.{getElem?}
 use mir.Facts.{and-yes, ltb-yes, eqb-yes}
 use Rattle.meaning.specs.Forms.{Sort, truth, number, collection, le, lt, eq, ne, ge, gt, and, or, xor, implies, forall, exists, add, sub}
 use Rattle.tables.specs.Codes.{Operator, comparing, negating, connecting, quantifying, kindOf, literal, cellOf, sizeOf, sumOf, combining, roleOf, allOf, selecting, operators, operatorOf, codeOf, shapeOf}
-use Rattle.tables.specs.Bodies.{BodyRow, Part, part, sortOf, sameSort, asTruth, asNumber, asCollection, Reading, formOf, startOf, reads, partsFit, fieldsFit, noReading, readingOf, readAt}
+use Rattle.tables.specs.Bodies.{BodyRow, Part, part, sortOf, sameSort, asTruth, asNumber, asCollection, Reading, formOf, startOf, reads, partsFit, fieldsFit, noReading, readingOf, readAt, ending, firstPart, secondPart}
 
 -- ---- start and fuel
 
@@ -60,11 +60,6 @@ unfolding readAt
 read-suc n rows i h = fuel n (suc n) rows (suc i) h (omega arith)
 
 -- ---- the reading that ends before a row
-
--- what is read of the rows before row e; of no row there is no reading
-unfoldable pub ending : (ℕ → BodyRow) → ℕ → Reading
-ending rows zero = noReading 0
-ending rows (suc i) = readAt (suc i) rows i
 
 pub ending-start : (rows : ℕ → BodyRow) (e : ℕ) → (ending rows e) .start ≤ e
 unfolding ending
@@ -164,9 +159,9 @@ module _ (i : ℕ) (f g s : Reading) (none-before : s .start ≡ 0) (first : f .
         forms = λ t. form-single o r (f .form) (g .form) (s .form) (fits-single parts (and-yes (partsFit parts i f s) fields t .0));
       }
 
--- row i after the forms before it: the second part ends before row i, and the first before the start of the second
+-- row i after the forms before it
 abbrev pub next : (ℕ → BodyRow) → ℕ → Reading
-next rows i = readingOf (operatorOf ((rows i) .code)) (rows i) i (ending rows ((ending rows i) .start)) (ending rows i)
+next rows i = readingOf (operatorOf ((rows i) .code)) (rows i) i (firstPart rows i) (secondPart rows i)
 
 pub ending-step : (rows : ℕ → BodyRow) (i : ℕ) → Agree (ending rows (suc i)) (next rows i)
 unfolding ending readAt
@@ -188,13 +183,6 @@ ending-step rows (suc i) = by-start ((ending rows (suc i)) .start) refl
         agree-eq (ap (λ f. readingOf (operatorOf ((rows (suc i)) .code)) (rows (suc i)) (suc i) f s) first)
 
 -- ---- what a form that ends before a row is made of
-
--- the parts of row i's form, if its operator has them
-abbrev pub secondPart : (ℕ → BodyRow) → ℕ → Reading
-secondPart rows i = ending rows i
-
-abbrev pub firstPart : (ℕ → BodyRow) → ℕ → Reading
-firstPart rows i = ending rows ((ending rows i) .start)
 
 -- row i ends a form
 pub record Node (rows : ℕ → BodyRow) (i : ℕ) : Type 0 where

@@ -145,6 +145,18 @@ readAt (suc fuel) rows (suc i) =
     let first = readAt fuel rows (second .start - 1) in
     readingOf (operatorOf ((rows (suc i)) .code)) (rows (suc i)) (suc i) first second
 
+-- "lent body rows that are exactly one whole form": the reading of the form that ends before row e. Before row 0 none ends.
+unfoldable pub ending : (ℕ → BodyRow) → ℕ → Reading
+ending rows zero = noReading 0
+ending rows (suc i) = readAt (suc i) rows i
+
+-- the parts of row i's form, if its operator has them: the second ends before row i, and the first before the start of the second
+abbrev pub secondPart : (ℕ → BodyRow) → ℕ → Reading
+secondPart rows i = ending rows i
+
+abbrev pub firstPart : (ℕ → BodyRow) → ℕ → Reading
+firstPart rows i = ending rows ((ending rows i) .start)
+
 -- "lent body rows that are exactly one whole form": n rows, the last of which is a truth that starts at the first
 unfoldable pub wholeBody : (ℕ → BodyRow) → ℕ → Bool
 wholeBody rows n =

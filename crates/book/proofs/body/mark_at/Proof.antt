@@ -6,8 +6,7 @@ use mathlib.Core.Option.{some}
 use borrow.Author.Needs.{needs}
 use borrow.Author.Tests.{not-true, not-false}
 use Rattle.tables.specs.Codes.{Operator, operatorOf, shapeOf}
-use Rattle.tables.specs.Bodies.{BodyRow, fieldsFit}
-use Rattle.tables.proofs.Readings.{firstPart, secondPart}
+use Rattle.tables.specs.Bodies.{BodyRow, fieldsFit, firstPart, secondPart}
 use Rattle.book.specs.Marks.{bodyOf, mark, firstSort, secondSort, serves}
 use Rattle.book.proofs.Shapes.{operator-at, no-operator-at}
 use Rattle.book.proofs.Marks.{mark-none, mark-some}

@@ -14,8 +14,8 @@ use borrow.Fn.PlainCycle.{Measures, is, falls, and}
 use Rattle.meaning.specs.Schema.{Schema}
 use Rattle.meaning.specs.Forms.{Sort, collection, bind}
 use Rattle.tables.specs.Codes.{operatorOf}
-use Rattle.tables.specs.Bodies.{BodyRow, reads}
-use Rattle.tables.proofs.Readings.{ending, ending-start, firstPart, secondPart, sound-pos}
+use Rattle.tables.specs.Bodies.{BodyRow, reads, ending, firstPart, secondPart}
+use Rattle.tables.proofs.Readings.{ending-start, sound-pos}
 use Rattle.book.specs.Marks.{bodyOf, firstSort, secondSort, Starts}
 use Rattle.book.specs.Types.{typedPart, memberOf, summed, typedLeaf}
 use Rattle.book.proofs.Kept.{starts-less}
