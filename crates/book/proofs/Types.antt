@@ -9,15 +9,15 @@ use native.Mathlib.Numerals.{add-one}
 use native.Mathlib.Omega.{arith}
 use lib.Dec.{T, ltb, leb, eqb}
 use lib.ListN.{length, getD, take, set}
-use lib.IntN.{pos, negsuc}
 use lib.Signed.{mag}
 use lib.Seq.{length-take-le, getD-take, take-suc-set}
 use mir.Facts.{and-yes}
-use borrow.Author.Tests.{lt-ltb, le-ltb, ltb-false, leb-true, leb-false, eqb-false, eq-eqb, ne-eqb}
+use borrow.Author.Tests.{lt-ltb, le-ltb, leb-true, leb-false, eqb-false, eq-eqb, ne-eqb}
 use Rattle.meaning.specs.Limits.{fitsWord}
 use Rattle.meaning.specs.Schema.{Schema, knownType, knownRole, cellsOf, under, nearType, farType}
 use Rattle.meaning.specs.Forms.{Sort, truth, number, collection, Form, bind, variable, memberType, wellTyped}
 use Rattle.rows.specs.Rows.{signed}
+use Rattle.rows.proofs.Words.{signed-fits}
 use Rattle.tables.specs.Codes.{Operator, comparing, negating, connecting, quantifying, kindOf, literal, cellOf, sizeOf, sumOf, combining, roleOf, allOf, selecting, operators, operatorOf, codeOf, shapeOf}
 use Rattle.tables.specs.Bodies.{BodyRow, Part, part, sortOf, sameSort, asTruth, asNumber, asCollection, formOf, reads, partsFit, ending, firstPart, secondPart}
 use Rattle.tables.specs.Columns.{schemaOf}
@@ -180,14 +180,6 @@ and-assoc : (a b c : Bool) → (a && (b && c)) ≡ (a && b && c)
 and-assoc true b c = refl
 and-assoc false b c = refl
 
-word-fits : (w : ℕ) → w < 2 ^ 32 → true ≡ fitsWord (signed w)
-unfolding fitsWord
-word-fits w h = step (ltb w (2 ^ 31)) refl
-  where
-    step : (b : Bool) → ltb w (2 ^ 31) ≡ b → true ≡ ltb (mag (cond b (pos w) (negsuc (2 ^ 32 - 1 - w)))) (2 ^ 31)
-    step true e = sym e
-    step false e = let k = ltb-false w (2 ^ 31) e in sym (lt-ltb (2 ^ 32 - 1 - w) (2 ^ 31) (omega arith))
-
 module _ (S : Schema) (vs : List ℕ) where
   -- test by test: a leaf; a form with one part, of which only a sum asks more; a form with two, of which the second has a variable
   -- more where the first is a collection
@@ -214,27 +206,27 @@ module _ (S : Schema) (vs : List ℕ) where
       ap₂ (λ x y. cond (typedPart S vs x) (typedPart S (bind vs (memberOf S vs x)) y) false) p q
       ∙ cond-and (wellTyped S vs f) (wellTyped S (bind vs (memberType S vs f)) g)
 
-  node-typed : (o : Operator) (r : BodyRow) (a b : Part) → sorted ((shapeOf o) .parts) a b → r .x < 2 ^ 32 → nodeTest ((shapeOf o) .parts) (codeOf o) r a b ≡ typedPart S vs (formOf o r a b)
-  unfolding shapeOf codeOf formOf typedPart typedLeaf memberOf wellTyped
-  node-typed (comparing o) r a b t h = plain a b (asNumber a) (asNumber b) (is-number a (t .0)) (is-number b (t .1))
-  node-typed negating r a b t h = ap (typedPart S vs) (is-truth b t)
-  node-typed (connecting o) r a b t h = plain a b (asTruth a) (asTruth b) (is-truth a (t .0)) (is-truth b (t .1))
-  node-typed (quantifying q) r a b t h = bound a b (asCollection a) (asTruth b) (is-collection a (t .0)) (is-truth b (t .1))
-  node-typed kindOf r a b t h = cond-below (length vs) (r .x) (knownType S (r .y))
-  node-typed literal r a b t h = word-fits (r .x) h
-  node-typed cellOf r a b t h = cond-below (length vs) (r .x) (ltb (r .y) (cellsOf S (variable vs (r .x))))
-  node-typed sizeOf r a b t h = ap (typedPart S vs) (is-collection b t)
-  node-typed sumOf r a b t h =
+  node-typed : (o : Operator) (r : BodyRow) (a b : Part) → sorted ((shapeOf o) .parts) a b → nodeTest ((shapeOf o) .parts) (codeOf o) r a b ≡ typedPart S vs (formOf o r a b)
+  unfolding shapeOf codeOf formOf typedPart typedLeaf memberOf wellTyped fitsWord
+  node-typed (comparing o) r a b t = plain a b (asNumber a) (asNumber b) (is-number a (t .0)) (is-number b (t .1))
+  node-typed negating r a b t = ap (typedPart S vs) (is-truth b t)
+  node-typed (connecting o) r a b t = plain a b (asTruth a) (asTruth b) (is-truth a (t .0)) (is-truth b (t .1))
+  node-typed (quantifying q) r a b t = bound a b (asCollection a) (asTruth b) (is-collection a (t .0)) (is-truth b (t .1))
+  node-typed kindOf r a b t = cond-below (length vs) (r .x) (knownType S (r .y))
+  node-typed literal r a b t = sym (lt-ltb (mag (signed (r .x))) (2 ^ 31) (signed-fits (r .x)))
+  node-typed cellOf r a b t = cond-below (length vs) (r .x) (ltb (r .y) (cellsOf S (variable vs (r .x))))
+  node-typed sizeOf r a b t = ap (typedPart S vs) (is-collection b t)
+  node-typed sumOf r a b t =
       let cells = cellsOf S (memberOf S vs b) in
       cond-and (ltb (r .x) cells) (typedPart S vs b)
       ∙ and-swap (ltb (r .x) cells) (typedPart S vs b)
       ∙ ap (λ p. typedPart S vs p && ltb (r .x) cells) (is-collection b t)
-  node-typed (combining o) r a b t h = plain a b (asNumber a) (asNumber b) (is-number a (t .0)) (is-number b (t .1))
-  node-typed roleOf r a b t h =
+  node-typed (combining o) r a b t = plain a b (asNumber a) (asNumber b) (is-number a (t .0)) (is-number b (t .1))
+  node-typed roleOf r a b t =
       cond-below (length vs) (r .x) (knownRole S (r .y) && under S (variable vs (r .x)) (nearType S (r .y)))
       ∙ and-assoc (ltb (r .x) (length vs)) (knownRole S (r .y)) (under S (variable vs (r .x)) (nearType S (r .y)))
-  node-typed allOf r a b t h = refl
-  node-typed selecting r a b t h = bound a b (asCollection a) (asTruth b) (is-collection a (t .0)) (is-truth b (t .1))
+  node-typed allOf r a b t = refl
+  node-typed selecting r a b t = bound a b (asCollection a) (asTruth b) (is-collection a (t .0)) (is-truth b (t .1))
 
 -- ---- the form that ends with a row, by what the code reads of the row
 
@@ -251,13 +243,13 @@ module _ (rows : ℕ → BodyRow) (i : ℕ) (sound : T ((ending rows (suc i)) .s
   pub code-here : (rows i) .code < 23
   code-here = coded-below ((rows i) .code) operatorHere coded-here
 
-  pub typed-here : (S : Schema) (vs : List ℕ) → (rows i) .x < 2 ^ 32 → nodeTest S vs partsHere ((rows i) .code) (rows i) ((firstPart rows i) .form) ((secondPart rows i) .form) ≡ typedPart S vs ((ending rows (suc i)) .form)
-  typed-here S vs h =
+  pub typed-here : (S : Schema) (vs : List ℕ) → nodeTest S vs partsHere ((rows i) .code) (rows i) ((firstPart rows i) .form) ((secondPart rows i) .form) ≡ typedPart S vs ((ending rows (suc i)) .form)
+  typed-here S vs =
       let d = node rows i sound in
       let f = (firstPart rows i) .form in
       let s = (secondPart rows i) .form in
       ap (λ k. nodeTest S vs partsHere k (rows i) f s) (sym (code-of ((rows i) .code) (d .operator) (d .coded)))
-      ∙ node-typed S vs (d .operator) (rows i) f s (sorted-parts partsHere i (firstPart rows i) (secondPart rows i) (d .parts)) h
+      ∙ node-typed S vs (d .operator) (rows i) f s (sorted-parts partsHere i (firstPart rows i) (secondPart rows i) (d .parts))
       ∙ ap (typedPart S vs) (sym (d .form))
 
   -- the parts that the operator wants are there
@@ -294,16 +286,16 @@ module _ (rows : ℕ → BodyRow) (i : ℕ) (sound : T ((ending rows (suc i)) .s
       only-fits collection i (firstPart rows i) (secondPart rows i) (subst (λ (o : Operator). T (partsFit ((shapeOf o) .parts) i (firstPart rows i) (secondPart rows i))) o ((node rows i sound) .parts)) .1
 
   -- the same, test by test
-  module _ (S : Schema) (vs : List ℕ) (word : (rows i) .x < 2 ^ 32) where
+  module _ (S : Schema) (vs : List ℕ) where
     pub leaf-here : secondSort partsHere ≡ 3 → typedLeaf S vs ((rows i) .code) ((rows i) .x) ((rows i) .y) ≡ typedPart S vs ((ending rows (suc i)) .form)
-    leaf-here e = simp (eq-eqb (secondSort partsHere) 3 e) at (typed-here S vs word)
+    leaf-here e = simp (eq-eqb (secondSort partsHere) 3 e) at (typed-here S vs)
 
     pub one-here : (secondSort partsHere ≡ 3 → ⊥) → firstSort partsHere ≡ 3 → cond (summed S vs ((rows i) .code) ((rows i) .x) ((secondPart rows i) .form)) (typedPart S vs ((secondPart rows i) .form)) false ≡ typedPart S vs ((ending rows (suc i)) .form)
-    one-here n e = simp (ne-eqb (secondSort partsHere) 3 n, eq-eqb (firstSort partsHere) 3 e) at (typed-here S vs word)
+    one-here n e = simp (ne-eqb (secondSort partsHere) 3 n, eq-eqb (firstSort partsHere) 3 e) at (typed-here S vs)
 
     module _ (n : secondSort partsHere ≡ 3 → ⊥) (m : firstSort partsHere ≡ 3 → ⊥) where
       two-here : twoParts S vs (firstSort partsHere) ((firstPart rows i) .form) ((secondPart rows i) .form) ≡ typedPart S vs ((ending rows (suc i)) .form)
-      two-here = simp (ne-eqb (secondSort partsHere) 3 n, ne-eqb (firstSort partsHere) 3 m) at (typed-here S vs word)
+      two-here = simp (ne-eqb (secondSort partsHere) 3 n, ne-eqb (firstSort partsHere) 3 m) at (typed-here S vs)
 
       pub plain-here : (firstSort partsHere ≡ 2 → ⊥) → cond (typedPart S vs ((firstPart rows i) .form)) (typedPart S vs ((secondPart rows i) .form)) false ≡ typedPart S vs ((ending rows (suc i)) .form)
       plain-here k = simp (ne-eqb (firstSort partsHere) 2 k) at two-here

@@ -106,7 +106,7 @@ pub read-word : (w at : ℕ) (rest : List ℕ) → w < 2 ^ 32 → isDigit (getD 
     → numberAt at (numberIn (decimalOf (signed w) ++ rest)) ≡ Value w (at + length (decimalOf (signed w)))
 unfolding fitsWord
 read-word w at rest h k =
-    rw (read-written (signed w) rest (lt-ltb (mag (signed w)) (2 ^ 31) (signed-fits w h)) k)
+    rw (read-written (signed w) rest (lt-ltb (mag (signed w)) (2 ^ 31) (signed-fits w)) k)
     (ap (λ (v : ℕ). Value v (at + length (decimalOf (signed w)))) (word-signed w h))
 
 -- the bytes from the place up to the next are the word's decimal, and no digit follows

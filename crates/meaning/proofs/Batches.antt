@@ -160,12 +160,12 @@ module _ (S : Schema) (schema-fits : SchemaFits S) (lent : Lent) (g : Register) 
       (λ x m. instance-in S g x t (at-start S _ g es (was x m)), λ x m m′. was x m′)
     where
       was : (x : ℕ) → x ∈ instances S (after S g es) t → Kept x t
-      was x m = all-end t x n (instance-from S (after S g es) end-register x t m)
+      was x m = all-end t x n (instance-from S (after S g es) (end-register .objects-ascend) x t m)
   all-leaf down t n =
       (λ x m. instance-in S (after S g es) x t (at-end S _ g es (stays x m)), λ x m m′. stays x m)
     where
       stays : (x : ℕ) → x ∈ instances S g t → Kept x t
-      stays x m = all-start t x n (instance-from S g fits x t m)
+      stays x m = all-start t x n (instance-from S g (fits .objects-ascend) x t m)
 
   -- each step, with the object under its type before and after it
   kept-sides : (x t : ℕ) → Kept x t → EachStep (λ g′ e. T (isUnder S g′ x t) × T (isUnder S (apply S e g′) x t)) S g es

@@ -1,6 +1,7 @@
 -- Document 01, theorem 5: by the limits no number that a rule computes passes 2 to the 47th.
 use Prim.Native.Nat.{ℕ, _+_, _*_, _^_, _≤_, zero-le}
 use mathlib.Core.Path.{_≡_, refl}
+use mathlib.Core.Bool.{Bool}
 use mathlib.Core.List.{List, [], _∷_, map}
 use mathlib.Core.Option.{Option, none, some}
 use native.Mathlib.Nat.{le-trans}
@@ -13,19 +14,19 @@ use mir.Facts.{and-yes, ltb-yes}
 use Rattle.meaning.specs.Limits.{fitsWord}
 use Rattle.meaning.specs.Schema.{Schema}
 use Rattle.meaning.specs.Register.{Object, Register, objectAt, cellAt}
-use Rattle.meaning.specs.Forms.{number, Arithmetic, add, sub, Form, num, cell, size, sum, combine, variable, formCount, wellTyped}
+use Rattle.meaning.specs.Forms.{number, collection, Arithmetic, add, sub, Form, num, cell, size, sum, combine, variable, formCount, wellTyped}
 use Rattle.meaning.specs.Meaning.{combined, total, meaning}
 use Rattle.meaning.proofs.Lists.{every-getD}
 use Rattle.meaning.proofs.Integers.{natAbs-add, natAbs-sub}
 use Rattle.meaning.proofs.Registers.{RegisterFits, object-parts, object-at}
-use Rattle.meaning.proofs.Collections.{members-count}
+use Rattle.meaning.proofs.Collections.{gathered, members-count}
 
 word-size : (n : ℤ) → T (fitsWord n) → natAbs n ≤ 2 ^ 31
 unfolding fitsWord
 word-size n t = natAbs-le n (ltb-yes t)
 
 -- the sum of n numbers of a word
-pub total-size : (f : ℕ → ℤ) → ((x : ℕ) → natAbs (f x) ≤ 2 ^ 31) → (l : List ℕ) → natAbs (total (map f l)) ≤ length l * 2 ^ 31
+total-size : (f : ℕ → ℤ) → ((x : ℕ) → natAbs (f x) ≤ 2 ^ 31) → (l : List ℕ) → natAbs (total (map f l)) ≤ length l * 2 ^ 31
 unfolding total
 total-size f h [] = zero-le
 total-size f h (x ∷ xs) = omega (arith, natAbs-add (f x) (total (map f xs)), h x, total-size f h xs)
@@ -35,8 +36,24 @@ unfolding combined
 combined-size add a b = natAbs-add a b
 combined-size sub a b = natAbs-sub a b
 
+-- Cells are words, a collection has at most 1024 members, and a form passes a test that asks of its numbers that they are words.
+module _ (S : Schema) (g : Register) (cells : (x k : ℕ) → natAbs (cellAt g x k) ≤ 2 ^ 31) (few : (c : Form collection) (vs : List ℕ) → length (meaning S g c vs) ≤ 1024) (fit : Form number → Bool) (word : (n : ℤ) → T (fit (num n)) → T (fitsWord n)) (parts : (o : Arithmetic) (a b : Form number) → T (fit (combine o a b)) → T (fit a) × T (fit b)) where
+  -- a form adds at most 2^41 of its own: the sum of 1024 cells
+  number-size : (f : Form number) → T (fit f) → (vs : List ℕ) → natAbs (meaning S g f vs) ≤ formCount f * 2 ^ 41
+  unfolding meaning formCount
+  number-size (num n) w vs = le-trans (word-size n (word n w)) (lit≤ tt)
+  number-size (cell v k) w vs = le-trans (cells (variable vs v) k) (lit≤ tt)
+  number-size (size c) w vs = omega (arith, few c vs)
+  number-size (sum c k) w vs = omega (arith, total-size (λ x. cellAt g x k) (λ x. cells x k) (meaning S g c vs), few c vs)
+  number-size (combine o a b) w vs =
+      let r = parts o a b w in
+      omega (arith, combined-size o (meaning S g a vs) (meaning S g b vs), number-size a (r .0) vs, number-size b (r .1) vs)
+
+  pub number-small : (f : Form number) → T (fit f) → formCount f ≤ 64 → (vs : List ℕ) → natAbs (meaning S g f vs) ≤ 2 ^ 47
+  number-small f w n vs = omega (arith, number-size f w vs)
+
 module _ (S : Schema) (g : Register) (fits : RegisterFits S g) where
-  cell-size : (x k : ℕ) → natAbs (cellAt g x k) ≤ 2 ^ 31
+  pub cell-size : (x k : ℕ) → natAbs (cellAt g x k) ≤ 2 ^ 31
   unfolding cellAt fitsWord
   cell-size x k = step (objectAt g x) refl
     where
@@ -47,17 +64,8 @@ module _ (S : Schema) (g : Register) (fits : RegisterFits S g) where
           (every-getD fitsWord (o .cells) k (pos 0) (object-parts S o (fits .objects-fit o (object-at g x e .0)) .cells-word) tt)
 
   module _ (few : length (g .objects) ≤ 1024) where
-    -- a form adds at most 2^41 of its own: the sum of 1024 cells
-    number-size : (ts : List ℕ) (f : Form number) → T (wellTyped S ts f) → (vs : List ℕ) → natAbs (meaning S g f vs) ≤ formCount f * 2 ^ 41
-    unfolding meaning wellTyped formCount
-    number-size ts (num n) w vs = le-trans (word-size n w) (lit≤ tt)
-    number-size ts (cell v k) w vs = le-trans (cell-size (variable vs v) k) (lit≤ tt)
-    number-size ts (size c) w vs = omega (arith, members-count S g fits c vs)
-    number-size ts (sum c k) w vs =
-        omega (arith, total-size (λ x. cellAt g x k) (λ x. cell-size x k) (meaning S g c vs), members-count S g fits c vs)
-    number-size ts (combine o a b) w vs =
-        let r = and-yes (wellTyped S ts a) (wellTyped S ts b) w in
-        omega (arith, combined-size o (meaning S g a vs) (meaning S g b vs), number-size ts a (r .0) vs, number-size ts b (r .1) vs)
-
     pub number-bound : (ts : List ℕ) (f : Form number) → T (wellTyped S ts f) → formCount f ≤ 64 → (vs : List ℕ) → natAbs (meaning S g f vs) ≤ 2 ^ 47
-    number-bound ts f w n vs = omega (arith, number-size ts f w vs)
+    unfolding wellTyped
+    number-bound ts =
+        number-small S g cell-size (λ c vs. le-trans (members-count S g (gathered S g fits) c vs) few) (wellTyped S ts) (λ n w. w)
+        (λ o a b. and-yes (wellTyped S ts a) (wellTyped S ts b))

@@ -1,4 +1,5 @@
--- The collections of a register that fits its schema: their members ascend, are there, and are no more than its objects.
+-- The collections of a register whose objects ascend and whose links end at objects: their members ascend, are there, and are no more than
+-- its objects.
 use Prim.Native.Nat.{ℕ, _≤_, _<_}
 use mathlib.Core.Path.{sym, subst}
 use mathlib.Core.Bool.{true}
@@ -7,7 +8,7 @@ use native.Mathlib.Nat.{lt-irrefl, lt-trans}
 use lib.Dec.{T}
 use lib.ListN.{length, length-map}
 use Rattle.meaning.specs.Schema.{Schema, farType}
-use Rattle.meaning.specs.Register.{Object, Register, objectKey, objectAt, present, farEnd}
+use Rattle.meaning.specs.Register.{Object, Register, objectKey, objectAt, present, farEnd, farEnds}
 use Rattle.meaning.specs.Forms.{collection, Form, role, all, select, bind, variable}
 use Rattle.meaning.specs.Meaning.{meaning}
 use Rattle.meaning.proofs.Lists.{_∈_, holds-some, keep-from, Ascending, ascending-keep, ascending-shorter, map-in, ascending-map}
@@ -23,19 +24,31 @@ id-in g x t =
     let r = object-at g x (holds-some (λ o. true) (objectAt g x) t .1) in
     subst (λ y. y ∈ map idOf (g .objects)) (r .1) (map-in idOf (r .0))
 
-module _ (S : Schema) (g : Register) (fits : RegisterFits S g) where
+-- what the collections of a register rest on: objects ascend, and the ends of its links ascend and are there
+pub record Gathered (g : Register) : Type 0 where
+  pub objects-ascend : Ascending (Before objectKey) (g .objects)
+  pub far-ascend : (r u : ℕ) → Ascending _<_ (farEnds g r u)
+  pub ends : (r u x : ℕ) → x ∈ farEnds g r u → T (present g x)
+
+pub gathered : (S : Schema) (g : Register) → RegisterFits S g → Gathered g
+gathered S g fits = record { objects-ascend = fits .objects-ascend; far-ascend = far-ends-ascend S g fits; ends = ends }
+  where
+    ends : (r u x : ℕ) → x ∈ farEnds g r u → T (present g x)
+    ends r u x m =
+        let (l, h, s, e) = far-from g r u x m in
+        subst (λ y. T (present g y)) (sym e) (under-present S g (farEnd r l) (farType S r) (far-under S g fits r u l h s))
+
+module _ (S : Schema) (g : Register) (h : Gathered g) where
   pub members-ascend : (c : Form collection) (vs : List ℕ) → Ascending _<_ (meaning S g c vs)
   unfolding meaning
-  members-ascend (role v r) vs = far-ends-ascend S g fits r (variable vs v)
-  members-ascend (all t) vs = instances-ascend S g fits t
+  members-ascend (role v r) vs = h .far-ascend r (variable vs v)
+  members-ascend (all t) vs = instances-ascend S g (h .objects-ascend) t
   members-ascend (select c b) vs = ascending-keep _<_ (λ x. meaning S g b (bind vs x)) (meaning S g c vs) (members-ascend c vs)
 
   pub member-present : (c : Form collection) (vs : List ℕ) (x : ℕ) → x ∈ meaning S g c vs → T (present g x)
   unfolding meaning
-  member-present (role v r) vs x m =
-      let (l, h, s, e) = far-from g r (variable vs v) x m in
-      subst (λ y. T (present g y)) (sym e) (under-present S g (farEnd r l) (farType S r) (far-under S g fits r (variable vs v) l h s))
-  member-present (all t) vs x m = under-present S g x t (instance-from S g fits x t m)
+  member-present (role v r) vs x m = h .ends r (variable vs v) x m
+  member-present (all t) vs x m = under-present S g x t (instance-from S g (h .objects-ascend) x t m)
   member-present (select c b) vs x m = member-present c vs x (keep-from (λ y. meaning S g b (bind vs y)) (meaning S g c vs) m .0)
 
   pub members-count : (c : Form collection) (vs : List ℕ) → length (meaning S g c vs) ≤ length (g .objects)
@@ -43,5 +56,5 @@ module _ (S : Schema) (g : Register) (fits : RegisterFits S g) where
       rw (← length-map (g .objects) idOf)
       (ascending-shorter _<_ lt-irrefl (λ x y z. lt-trans) (meaning S g c vs) (map idOf (g .objects))
       (members-ascend c vs)
-      (ascending-map idOf (Before objectKey) _<_ (g .objects) (λ o p m n. before-one (o .id) (p .id)) (fits .objects-ascend))
+      (ascending-map idOf (Before objectKey) _<_ (g .objects) (λ o p m n. before-one (o .id) (p .id)) (h .objects-ascend))
       (λ x m. id-in g x (member-present c vs x m)))

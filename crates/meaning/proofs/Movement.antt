@@ -21,7 +21,7 @@ use Rattle.meaning.proofs.Variables.{Each, each-at, each-bind}
 use Rattle.meaning.proofs.Registers.{RegisterFits}
 use Rattle.meaning.proofs.Monotone.{Unmoved, Through, through-none, connective-unmoved, negation-unmoved, arithmetic-unmoved, quantifier-unmoved, select-unmoved, size-unmoved, sum-unmoved}
 use Rattle.meaning.proofs.Comparisons.{comparison-unmoved}
-use Rattle.meaning.proofs.Collections.{members-ascend}
+use Rattle.meaning.proofs.Collections.{gathered, members-ascend}
 
 -- A collection that is not moved in a direction, and whose members before and after are kept in type t.
 abbrev pub UnmovedKept : (ℕ → ℕ → Type 0) → ℕ → Direction → List ℕ → List ℕ → Type 0
@@ -97,11 +97,11 @@ module _ (c : Change) (first : Register) (Kept : ℕ → ℕ → Type 0) (leaves
       let ws = and-yes (ltb v (length ts)) (ltb j (cellsOf S (variable ts v))) w in
       equal-unmoved d _ _ (leaves .cell-unmoved (variable vs v) (variable ts v) j (each-at Kept vs ts k v (ltb→lt v (length ts) (ws .0))) (ltb→lt j (cellsOf S (variable ts v)) (ws .1)) n)
   unmoved (size e) ts vs w k d n =
-      size-unmoved d _ _ (members-ascend S first (leaves .first-fits) e vs) (members-ascend S (c .end) (leaves .end-fits) e vs) (unmoved e ts vs w k d n .0)
+      size-unmoved d _ _ (members-ascend S first (gathered S first (leaves .first-fits)) e vs) (members-ascend S (c .end) (gathered S (c .end) (leaves .end-fits)) e vs) (unmoved e ts vs w k d n .0)
   unmoved (sum e j) ts vs w k d n =
       let ws = and-yes (wellTyped S ts e) (ltb j (cellsOf S (memberType S ts e))) w in
       let h = over-members either e ts vs (λ x. cellMoves c x j) d (unmoved e ts vs (ws .0) k) n in
-      sum-unmoved d _ _ _ _ (members-ascend S first (leaves .first-fits) e vs) (members-ascend S (c .end) (leaves .end-fits) e vs) (h .0 .0)
+      sum-unmoved d _ _ _ _ (members-ascend S first (gathered S first (leaves .first-fits)) e vs) (members-ascend S (c .end) (gathered S (c .end) (leaves .end-fits)) e vs) (h .0 .0)
       (λ x m m′. leaves .cell-unmoved x (memberType S ts e) j (h .0 .1 x m m′) (ltb→lt j (cellsOf S (memberType S ts e)) (ws .1)) (h .1 x m′))
   unmoved (combine o a b) ts vs w k d n =
       let ws = and-yes (wellTyped S ts a) (wellTyped S ts b) w in

@@ -50,7 +50,7 @@ module _ (S : Schema) (g : Register) where
   pairs-from-ascend f n [] = tt
   pairs-from-ascend f n (r ∷ rs) =
       ascending-append (Before pairKey) (map (pairOf n) (instances S g (r .context))) (pairsFrom S g (suc n) rs)
-      (ascending-map (pairOf n) _<_ (Before pairKey) (instances S g (r .context)) (λ x y m k h. before-tail n n (x ∷ []) (y ∷ []) refl (before-head x y [] [] h)) (instances-ascend S g f (r .context)))
+      (ascending-map (pairOf n) _<_ (Before pairKey) (instances S g (r .context)) (λ x y m k h. before-tail n n (x ∷ []) (y ∷ []) refl (before-head x y [] [] h)) (instances-ascend S g (f .objects-ascend) (r .context)))
       (pairs-from-ascend f (suc n) rs)
       (λ x y m k.
       let first = map-from (pairOf n) (instances S g (r .context)) m in
@@ -66,7 +66,7 @@ module _ (k : Book) (g : Register) where
   unfolding contextPairs
   context-pair-from f p m =
       let q = pairs-from (k .schema) g 0 (k .rules) m in
-      (q .1, subst (λ n. getElem? (k .rules) n ≡ some (q .1)) (sym (q .2 ∙ zero-add (q .0))) (q .3), instance-from (k .schema) g f (p .id) (q .1 .context) (q .4))
+      (q .1, subst (λ n. getElem? (k .rules) n ≡ some (q .1)) (sym (q .2 ∙ zero-add (q .0))) (q .3), instance-from (k .schema) g (f .objects-ascend) (p .id) (q .1 .context) (q .4))
 
   pub context-pairs-ascend : RegisterFits (k .schema) g → Ascending (Before pairKey) (contextPairs k g)
   unfolding contextPairs

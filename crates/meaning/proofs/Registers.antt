@@ -80,9 +80,6 @@ unfolding objectAt
 ascending-found g a {o} m =
     first-only (λ y. eqb (y .id) (o .id)) (g .objects) m (eqb-refl (o .id)) (λ y n t. object-one (g .objects) a n m (eqb-yes t))
 
-pub object-found : (S : Schema) (g : Register) → RegisterFits S g → {o : Object} → o ∈ g .objects → objectAt g (o .id) ≡ some o
-object-found S g r m = ascending-found g (r .objects-ascend) m
-
 -- an object under some type is there
 pub under-present : (S : Schema) (g : Register) (x t : ℕ) → T (isUnder S g x t) → T (present g x)
 unfolding isUnder present
@@ -112,19 +109,19 @@ instance-in S g x t u =
     let r = object-at g x (o .1) in
     Memᴰ·cast (sym (r .1)) (map-in (λ (o : Object). o .id) (keep-in (λ o. under S (o .type) t) (r .0) (o .2)))
 
-pub instance-from : (S : Schema) (g : Register) → RegisterFits S g → (x t : ℕ) → x ∈ instances S g t → T (isUnder S g x t)
+pub instance-from : (S : Schema) (g : Register) → Ascending (Before objectKey) (g .objects) → (x t : ℕ) → x ∈ instances S g t → T (isUnder S g x t)
 unfolding isUnder instances
-instance-from S g r x t m =
+instance-from S g a x t m =
     let o = map-from (λ (o : Object). o .id) (keep (λ o. under S (o .type) t) (g .objects)) m in
     let k = keep-from (λ o. under S (o .type) t) (g .objects) (o .1) in
-    rw (o .2) (rw (object-found S g r (k .0)) (k .1))
+    rw (o .2) (rw (ascending-found g a (k .0)) (k .1))
 
-pub instances-ascend : (S : Schema) (g : Register) → RegisterFits S g → (t : ℕ) → Ascending _<_ (instances S g t)
+pub instances-ascend : (S : Schema) (g : Register) → Ascending (Before objectKey) (g .objects) → (t : ℕ) → Ascending _<_ (instances S g t)
 unfolding instances
-instances-ascend S g r t =
+instances-ascend S g a t =
     ascending-map (λ (o : Object). o .id) (Before objectKey) _<_ (keep (λ o. under S (o .type) t) (g .objects))
     (λ x y m n b. before-one (x .id) (y .id) b)
-    (ascending-keep (Before objectKey) (λ o. under S (o .type) t) (g .objects) (r .objects-ascend))
+    (ascending-keep (Before objectKey) (λ o. under S (o .type) t) (g .objects) a)
 
 pub far-in : (g : Register) (r u : ℕ) (l : Link) → T (hasLink g l) → T (startsAt r u l) → farEnd r l ∈ farEnds g r u
 unfolding farEnds

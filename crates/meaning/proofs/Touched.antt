@@ -78,7 +78,7 @@ module _ (S : Schema) (g : Register) where
   member-under f (role v r) vs ts x m =
       let l = far-from g r (variable vs v) x m in
       rw (l .3) (far-under S g f r (variable vs v) (l .0) (l .1) (l .2))
-  member-under f (all t) vs ts x m = instance-from S g f x t m
+  member-under f (all t) vs ts x m = instance-from S g (f .objects-ascend) x t m
   member-under f (select k b) vs ts x m = member-under f k vs ts x (keep-from (λ y. meaning S g b (bind vs y)) (meaning S g k vs) m .0)
 
 -- ---- the event list

@@ -9,8 +9,9 @@ use lib.Dec.{T, ltb, leb}
 use mir.Facts.{and-yes, ltb-yes, leb-yes}
 use Rattle.meaning.specs.Forms.{Sort, truth, number, collection, le, lt, eq, ne, ge, gt, and, or, xor, implies, forall, exists, add, sub}
 use Rattle.tables.specs.Codes.{Operator, comparing, negating, connecting, quantifying, kindOf, literal, cellOf, sizeOf, sumOf, combining, roleOf, allOf, selecting, operators, operatorOf, codeOf, shapeOf}
-use Rattle.tables.specs.Bodies.{BodyRow, Part, sortOf, sameSort, formOf, reads, partsFit, ending, firstPart, secondPart}
-use Rattle.tables.proofs.Readings.{ending-start, node, code-of}
+use Rattle.tables.specs.Bodies.{BodyRow, sortOf, sameSort, formOf, reads, partsFit, ending, firstPart, secondPart}
+use Rattle.tables.proofs.Readings.{ending-start, sound-pos, node, only-fits, both-fit, code-of}
+use Rattle.book.proofs.Marks.{result-sort}
 use Rattle.number.specs.Comparing.{comparisonOf}
 use Rattle.ocl.specs.Values.{connectiveOf, quantifierOf, arithmeticOf}
 
@@ -44,22 +45,6 @@ codes (combining o) = elim o [ add ↦ tt | sub ↦ tt ]
 codes roleOf = tt
 codes allOf = tt
 codes selecting = tt
-
-result-sort : (o : Operator) (r : BodyRow) (a b : Part) → sortOf (formOf o r a b) ≡ (shapeOf o) .result
-unfolding sortOf formOf shapeOf
-result-sort (comparing o) r a b = refl
-result-sort negating r a b = refl
-result-sort (connecting o) r a b = refl
-result-sort (quantifying q) r a b = refl
-result-sort kindOf r a b = refl
-result-sort literal r a b = refl
-result-sort cellOf r a b = refl
-result-sort sizeOf r a b = refl
-result-sort sumOf r a b = refl
-result-sort (combining o) r a b = refl
-result-sort roleOf r a b = refl
-result-sort allOf r a b = refl
-result-sort selecting r a b = refl
 
 same-is : (s t : Sort) → T (sameSort s t) → s ≡ t
 same-is truth truth h = refl
@@ -134,14 +119,9 @@ pub record Made (rows : ℕ → BodyRow) (e : ℕ) (o : Operator) : Type 0 where
   pub form : (ending rows e) .form ≡ formOf o (rows (e - 1)) ((firstPart rows (e - 1)) .form) ((secondPart rows (e - 1)) .form)
 
 module _ (rows : ℕ → BodyRow) where
-  pub sound-pos : (e : ℕ) → T ((ending rows e) .sound) → 0 < e
-  unfolding ending
-  sound-pos zero t = absurd t
-  sound-pos (suc i) t = omega arith
-
   module _ (e : ℕ) (t : T ((ending rows e) .sound)) where
     back : suc (e - 1) ≡ e
-    back = let h = sound-pos e t in omega arith
+    back = let h = sound-pos rows e t in omega arith
 
     last-sound : T ((ending rows (suc (e - 1))) .sound)
     last-sound = subst (λ k. T ((ending rows k) .sound)) (sym back) t
@@ -190,19 +170,12 @@ pub record Two (rows : ℕ → BodyRow) (e : ℕ) (s u : Sort) : Type 0 where
 
 module _ (rows : ℕ → BodyRow) (e : ℕ) (o : Operator) (m : Made rows e o) where
   pub two : (s u : Sort) → (shapeOf o) .parts ≡ s ∷ u ∷ [] → Two rows e s u
-  unfolding partsFit
   two s u h =
-      let f = firstPart rows (e - 1) in
-      let g = secondPart rows (e - 1) in
       let i = e - 1 in
-      let a = and-yes (ltb 0 i && reads u g && ltb 0 (g .start)) (reads s f) (subst (λ ps. T (partsFit ps i f g)) h (m .parts)) in
-      let b = and-yes (ltb 0 i && reads u g) (ltb 0 (g .start)) (a .0) in
-      let c = and-yes (ltb 0 i) (reads u g) (b .0) in
-      record { second = c .1; first = a .1; start = ending-start rows i }
+      let r = both-fit s u [] i (firstPart rows i) (secondPart rows i) (subst (λ ps. T (partsFit ps i (firstPart rows i) (secondPart rows i))) h (m .parts)) in
+      record { second = r .1; first = r .3; start = ending-start rows i }
 
   pub one : (s : Sort) → (shapeOf o) .parts ≡ s ∷ [] → T (reads s (ending rows (e - 1)))
-  unfolding partsFit
   one s h =
-      let f = firstPart rows (e - 1) in
-      let g = secondPart rows (e - 1) in
-      and-yes (ltb 0 (e - 1)) (reads s g) (subst (λ ps. T (partsFit ps (e - 1) f g)) h (m .parts)) .1
+      let i = e - 1 in
+      only-fits s i (firstPart rows i) (secondPart rows i) (subst (λ ps. T (partsFit ps i (firstPart rows i) (secondPart rows i))) h (m .parts)) .1

@@ -1,38 +1,29 @@
 -- The numbers of a form that is read from words are words, and what it computes is small.
 use Prim.Native.Nat.{ℕ, zero, suc, _-_, _^_, _≤_, _<_}
-use mathlib.Core.Path.{_≡_, refl, sym, ap, subst}
-use mathlib.Core.Bool.{Bool, true, false, _&&_, cond}
+use mathlib.Core.Path.{_≡_, sym, ap, subst}
+use mathlib.Core.Bool.{Bool}
 use mathlib.Core.List.{List, [], _∷_}
 use native.Mathlib.Omega.{arith}
-use lib.Dec.{T, ltb}
+use lib.Dec.{T}
 use lib.ListN.{length, take}
-use lib.IntN.{pos, negsuc, natAbs}
-use lib.Signed.{mag}
+use lib.IntN.{natAbs}
 use mir.Facts.{and-yes, yes-and, yes-ltb}
-use borrow.Author.Tests.{ltb-true, ltb-false}
 use Rattle.meaning.specs.Limits.{fitsWord}
 use Rattle.meaning.specs.Schema.{Relationship}
 use Rattle.meaning.specs.Forms.{Sort, truth, number, collection, formCount}
-use Rattle.rows.specs.Rows.{signed, rowsFrom}
+use Rattle.rows.proofs.Words.{signed-fits}
 use Rattle.tables.specs.Codes.{Operator, comparing, negating, connecting, quantifying, kindOf, literal, cellOf, sizeOf, sumOf, combining, roleOf, allOf, selecting, shapeOf}
-use Rattle.tables.specs.Bodies.{BodyRow, Part, part, sortOf, sameSort, asTruth, asNumber, asCollection, Reading, formOf, reads, partsFit, ending, firstPart, secondPart}
+use Rattle.tables.specs.Bodies.{BodyRow, Part, part, sortOf, sameSort, asTruth, asNumber, asCollection, Reading, formOf, partsFit, ending, firstPart, secondPart}
 use Rattle.tables.specs.Columns.{objectRow}
 use Rattle.tables.specs.declared.Counts.{Counts}
-use Rattle.tables.proofs.Readings.{ending-start, node}
+use Rattle.tables.proofs.Readings.{ending-start, node, only-fits, both-fit, is-number}
 use Rattle.tables.proofs.Forms.{numsFit, partCount, count-read}
 use Rattle.schema.specs.Tables.{typesWith}
+use Rattle.schema.proofs.Rows.{length-rows}
 use Rattle.ocl.specs.Ready.{Ready}
 use Rattle.book.specs.Marks.{bodyOf}
 use Rattle.ocl.specs.Values.{registerBy, numberOf}
-use Rattle.ocl.proofs.Steady.{number-small}
-
-pub word-fits : (w : ℕ) → w < 2 ^ 32 → T (fitsWord (signed w))
-unfolding fitsWord
-word-fits w h = step (ltb w (2 ^ 31)) refl
-  where
-    step : (b : Bool) → ltb w (2 ^ 31) ≡ b → T (ltb (mag (cond b (pos w) (negsuc (2 ^ 32 - 1 - w)))) (2 ^ 31))
-    step true e = yes-ltb (ltb-true w (2 ^ 31) e)
-    step false e = let l = ltb-false w (2 ^ 31) e in let k : 2 ^ 32 - 1 - w < 2 ^ 31 = omega arith in yes-ltb k
+use Rattle.ocl.proofs.Steady.{numbers-small}
 
 numsIn : Part → Bool
 numsIn (part s f) = numsFit f
@@ -55,28 +46,24 @@ collection-nums (part truth f) t = tt
 collection-nums (part number f) t = tt
 collection-nums (part collection f) t = t
 
-module _ (rows : ℕ → BodyRow) (words : (k : ℕ) → (rows k) .x < 2 ^ 32) where
+module _ (rows : ℕ → BodyRow) where
   module _ (i : ℕ) (f s : Reading) (first : T (f .sound) → T (numsIn (f .form))) (second : T (s .sound) → T (numsIn (s .form))) where
     both : (p q : Sort) → T (partsFit (p ∷ q ∷ []) i f s) → T (numsIn (f .form)) × T (numsIn (s .form))
-    unfolding partsFit
     both p q t =
-        let a = and-yes (ltb 0 i && reads q s && ltb 0 (s .start)) (reads p f) t in
-        let b = and-yes (ltb 0 i && reads q s) (ltb 0 (s .start)) (a .0) in
-        let c = and-yes (ltb 0 i) (reads q s) (b .0) in
-        (first (and-yes (f .sound) (sameSort p (sortOf (f .form))) (a .1) .0), second (and-yes (s .sound) (sameSort q (sortOf (s .form))) (c .1) .0))
+        let r = both-fit p q [] i f s t in
+        (first (and-yes (f .sound) (sameSort p (sortOf (f .form))) (r .3) .0), second (and-yes (s .sound) (sameSort q (sortOf (s .form))) (r .1) .0))
 
     only : (q : Sort) → T (partsFit (q ∷ []) i f s) → T (numsIn (s .form))
-    unfolding partsFit
-    only q t = second (and-yes (s .sound) (sameSort q (sortOf (s .form))) (and-yes (ltb 0 i) (reads q s) t .1) .0)
+    only q t = second (and-yes (s .sound) (sameSort q (sortOf (s .form))) (only-fits q i f s t .1) .0)
 
     nums-of : (o : Operator) → T (partsFit ((shapeOf o) .parts) i f s) → T (numsIn (formOf o (rows i) (f .form) (s .form)))
-    unfolding numsIn numsFit formOf shapeOf
+    unfolding numsIn numsFit formOf shapeOf fitsWord
     nums-of (comparing o) t = let r = both number number t in yes-and (numsFit (asNumber (f .form))) (numsFit (asNumber (s .form))) (number-nums (f .form) (r .0)) (number-nums (s .form) (r .1))
     nums-of negating t = truth-nums (s .form) (only truth t)
     nums-of (connecting o) t = let r = both truth truth t in yes-and (numsFit (asTruth (f .form))) (numsFit (asTruth (s .form))) (truth-nums (f .form) (r .0)) (truth-nums (s .form) (r .1))
     nums-of (quantifying q) t = let r = both collection truth t in yes-and (numsFit (asCollection (f .form))) (numsFit (asTruth (s .form))) (collection-nums (f .form) (r .0)) (truth-nums (s .form) (r .1))
     nums-of kindOf t = tt
-    nums-of literal t = word-fits ((rows i) .x) (words i)
+    nums-of literal t = yes-ltb (signed-fits ((rows i) .x))
     nums-of cellOf t = tt
     nums-of sizeOf t = collection-nums (s .form) (only collection t)
     nums-of sumOf t = collection-nums (s .form) (only collection t)
@@ -99,18 +86,12 @@ module _ (rows : ℕ → BodyRow) (words : (k : ℕ) → (rows k) .x < 2 ^ 32) w
   nums-read e t = number-nums ((ending rows e) .form) (nums-below (suc e) e (omega arith) t)
 
 number-count : (p : Part) → T (sameSort number (sortOf p)) → formCount (asNumber p) ≡ partCount p
-unfolding sortOf asNumber partCount
-number-count (part truth f) t = absurd t
-number-count (part number f) t = refl
-number-count (part collection f) t = absurd t
-
-rows-count : {A : Type 0} (read : ℕ → A) (i n : ℕ) → length (rowsFrom read i n) ≡ n
-rows-count read i zero = refl
-rows-count read i (suc n) = ap suc (rows-count read (suc i) n)
+unfolding partCount
+number-count p t = sym (ap partCount (is-number p t))
 
 module _ {n : Counts} {objects links bodies : List ℕ} {rule : ℕ} {starts : List ℕ} {e : ℕ} {vars : List ℕ} {depth : ℕ} where
   pub objects-count : {s : Sort} → Ready n objects links bodies rule starts e vars depth s → length ((registerBy n objects links) .objects) ≤ 1024
-  objects-count ready = let h = ready .objects-few in omega (arith, rows-count (objectRow objects) 0 (n .objects))
+  objects-count ready = let h = ready .objects-few in omega (arith, length-rows (objectRow objects) (n .objects))
 
   pub number-within : Ready n objects links bodies rule starts e vars depth number → (types : List ℕ) (rs : List Relationship) → natAbs (numberOf n types objects links bodies rule e vars depth rs) ≤ 2 ^ 47
   unfolding numberOf
@@ -121,4 +102,4 @@ module _ {n : Counts} {objects links bodies : List ℕ} {rule : ℕ} {starts : L
       let f = asNumber ((ending rows e) .form) in
       let q : formCount f ≡ partCount ((ending rows e) .form) = number-count ((ending rows e) .form) (r .1) in
       let k : formCount f ≤ 64 = omega (arith, ready .few) in
-      number-small (typesWith (n .types) types rs) (registerBy n objects links) (ready .steady) (objects-count ready) f (nums-read rows (ready .words) e (r .0)) k (take depth vars)
+      numbers-small (typesWith (n .types) types rs) (registerBy n objects links) (ready .steady) (objects-count ready) f (nums-read rows e (r .0)) k (take depth vars)

@@ -25,12 +25,13 @@ use Rattle.rows.specs.Rows.{signed}
 use Rattle.tables.specs.Codes.{Operator, comparing, negating, connecting, quantifying, kindOf, literal, cellOf, sizeOf, sumOf, combining, roleOf, allOf, selecting, operators, operatorOf, shapeOf}
 use Rattle.tables.specs.Bodies.{BodyRow, Part, asTruth, asNumber, asCollection, formOf, reads, ending}
 use Rattle.tables.specs.declared.Counts.{Counts}
+use Rattle.tables.proofs.Readings.{sound-pos}
 use Rattle.schema.specs.Tables.{typesWith}
 use Rattle.number.specs.Comparing.{comparisonOf}
 use Rattle.ocl.specs.Ready.{Ready}
 use Rattle.book.specs.Marks.{bodyOf}
 use Rattle.ocl.specs.Values.{codeAt, registerBy, truthOf, numberOf, membersOf, connectiveOf, quantifierOf, arithmeticOf, weightOf}
-use Rattle.ocl.proofs.Nodes.{comparing-at, connecting-at, quantifying-at, combining-at, Made, sound-pos, made, truth-code, number-code, collection-code, read-sound, Two, two, one}
+use Rattle.ocl.proofs.Nodes.{comparing-at, connecting-at, quantifying-at, combining-at, Made, made, truth-code, number-code, collection-code, read-sound, Two, two, one}
 
 module _ {n : Counts} {objects links bodies : List ℕ} {rule : ℕ} {starts : List ℕ} {e : ℕ} {vars : List ℕ} {depth : ℕ} {s : Sort} (ready : Ready n objects links bodies rule starts e vars depth s) where
   sound : T ((ending (bodyOf bodies rule) e) .sound)

@@ -20,6 +20,7 @@ use Rattle.meaning.specs.Meaning.{meaning, broken}
 use Rattle.meaning.specs.Reach.{Pair, pairOf, pairsFrom, contextPairs, ofRule}
 use Rattle.meaning.specs.Answers.{foundAnswer, firstBroken}
 use Rattle.meaning.proofs.Lists.{decide, first-some}
+use Rattle.meaning.proofs.Registers.{instance-from, instances-ascend}
 use Rattle.meaning.proofs.Agreement.{checked}
 use Rattle.rows.specs.Rows.{wordAt, rowsFrom}
 use Rattle.tables.specs.Bodies.{sortOf, sameSort, reads, wholeBody, readBody, ending}
@@ -38,7 +39,7 @@ use Rattle.ocl.specs.Search.{bookWith, Checked, brokenOf, searched, brok
 use Rattle.ocl.specs.declared.Broken.the-variants.{Nowhere}
 use Rattle.ocl.specs.declared.Broken.the-variants as Answer
 use Rattle.ocl.proofs.Members.{later, nextAfter, later-all, later-none, later-next}
-use Rattle.ocl.proofs.Steady.{steady, instances-up, instance-under, member-positive}
+use Rattle.ocl.proofs.Steady.{steady, member-positive}
 use Rattle.ocl.proofs.Loops.{fewer}
 
 T-true : (b : Bool) → T b → b ≡ true
@@ -205,11 +206,11 @@ module _ {n : Counts} {types rules bodies objects links : List ℕ} (ck : Checke
         there = found-some (nextAfter after (members i)) (sym is ∙ in-context)
 
         left : map (pairOf i) (later after (members i)) ++ after-rule (suc i) ≡ pairOf i id ∷ map (pairOf i) (later id (members i)) ++ after-rule (suc i)
-        left = ap (λ l. map (pairOf i) l ++ after-rule (suc i)) (later-next after (members i) (instances-up S g steady-register (wordAt rules 2 i 0)) id there)
+        left = ap (λ l. map (pairOf i) l ++ after-rule (suc i)) (later-next after (members i) (instances-ascend S g (steady-register .objects-ascend) (wordAt rules 2 i 0)) id there)
 
         module _ {size : ℕ} {held : Bool} (h : i < n .rules) (sized : size ≡ sizeAt i) (holding : held ≡ truthOf n types objects links bodies i size (id ∷ []) 1 rs) where
           under-context : true ≡ isUnder S g id (wordAt rules 2 i 0)
-          under-context = sym (T-true (isUnder S g id (wordAt rules 2 i 0)) (instance-under S g steady-register id (wordAt rules 2 i 0) (first-some (λ y. ltb after y) (members i) there .0)))
+          under-context = sym (T-true (isUnder S g id (wordAt rules 2 i 0)) (instance-from S g (steady-register .objects-ascend) id (wordAt rules 2 i 0) (first-some (λ y. ltb after y) (members i) there .0)))
 
           first-left : first test (contextPairs (bookWith n types rs rules bodies) g) ≡ cond (not held) (some (pairOf i id)) (first test (map (pairOf i) (later id (members i)) ++ after-rule (suc i)))
           first-left = w .same ∙ ap (first test) left ∙ ap (λ b. cond b (some (pairOf i id)) (first test (map (pairOf i) (later id (members i)) ++ after-rule (suc i)))) (pair-judged id h sized holding under-context)
@@ -222,4 +223,4 @@ module _ {n : Counts} {types rules bodies objects links : List ℕ} (ck : Checke
           within-goes-on t = record { same = first-left ∙ ap (λ b. cond b (some (pairOf i id)) (first test (map (pairOf i) (later id (members i)) ++ after-rule (suc i)))) t }
 
     pub fewer-left : (c after : ℕ) {id : ℕ} {found : Found} → found ≡ foundOf (nextAfter after (instances S g c)) → found ≡ At id → length (later id (instances S g c)) < length (later after (instances S g c))
-    fewer-left c after {id} next is = fewer after (instances S g c) (instances-up S g steady-register c) id (sym is ∙ next)
+    fewer-left c after {id} next is = fewer after (instances S g c) (instances-ascend S g (steady-register .objects-ascend) c) id (sym is ∙ next)

@@ -8,6 +8,7 @@ use native.Mathlib.Numerals.{add-one}
 use native.Mathlib.Omega.{arith}
 use lib.Dec.{T, ltb, eqb}
 use lib.IntN.{ℤ, pos, negsuc}
+use lib.Signed.{mag}
 use lib.ListN.{length, drop, getD, drop-of-length-le}
 use lib.Seq.{drop-cons}
 use mir.Facts.{ltb-yes, ltb-no, yes-ltb}
@@ -18,6 +19,7 @@ use Rattle.meaning.specs.Schema.{Schema, cellsOf}
 use Rattle.meaning.specs.Register.{isZero, cellsFit}
 use Rattle.meaning.proofs.Lists.{decide, cond-yes}
 use Rattle.rows.specs.Rows.{wordAt, rowsFrom, readRows, signed}
+use Rattle.rows.proofs.Words.{signed-fits}
 use Rattle.tables.specs.Columns.{objectRow}
 use Rattle.schema.proofs.Rows.{length-rows, row-used}
 
@@ -35,11 +37,6 @@ signs P w f g =
     (λ (t : T (not (ltb w (2 ^ 31)))). subst P (sym (negative w (ltb-no t))) (g (ltb-no t)))
     (decide (ltb w (2 ^ 31)))
 
-signed-fits : (w : ℕ) → fitsWord (signed w) ≡ true
-unfolding fitsWord
-signed-fits w =
-    signs (λ z. fitsWord z ≡ true) w (λ h. lt-ltb w (2 ^ 31) h) (λ h. lt-ltb (2 ^ 32 - 1 - w) (2 ^ 31) (omega arith))
-
 zero-pos : (w : ℕ) → isZero (pos w) ≡ eqb w 0
 zero-pos zero = refl
 zero-pos (suc w) = rw (lt-leb (suc w) 0 (omega arith), ne-eqb (suc w) 0 (omega arith))
@@ -52,8 +49,9 @@ module _ (read : ℕ → ℕ) where
   cells n = readRows (λ k. signed (read k)) n
 
   from-fit : (j n : ℕ) → every fitsWord (rowsFrom (λ k. signed (read k)) j n) ≡ true
+  unfolding fitsWord
   from-fit j zero = refl
-  from-fit j (suc n) = rw (signed-fits (read j)) (from-fit (suc j) n)
+  from-fit j (suc n) = rw (lt-ltb (mag (signed (read j))) (2 ^ 31) (signed-fits (read j))) (from-fit (suc j) n)
 
   module _ (n : ℕ) where
     zero-end : {k : ℕ} → n ≤ k → every isZero (drop k (cells n)) ≡ true

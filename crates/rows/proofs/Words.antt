@@ -18,19 +18,17 @@ module _ (w : ℕ) (h : w < 2 ^ 32) where
   back true = refl
   back false = omega arith
 
-  fits : (b : Bool) → ltb w (2 ^ 31) ≡ b → mag (value b) < 2 ^ 31
-  unfolding value
-  fits true e = ltb-true w (2 ^ 31) e
-  fits false e = let l = ltb-false w (2 ^ 31) e in omega arith
-
   pub word-signed : wordOf (signed w) ≡ w
   unfolding value
   word-signed = back (ltb w (2 ^ 31))
 
-  -- the signed value of a word is one of 32 bits
-  pub signed-fits : mag (signed w) < 2 ^ 31
-  unfolding value
-  signed-fits = fits (ltb w (2 ^ 31)) refl
+-- the signed value of a word is one of 32 bits
+pub signed-fits : (w : ℕ) → mag (signed w) < 2 ^ 31
+signed-fits w = step (ltb w (2 ^ 31)) refl
+  where
+    step : (b : Bool) → ltb w (2 ^ 31) ≡ b → mag (cond b (pos w) (negsuc (2 ^ 32 - 1 - w))) < 2 ^ 31
+    step true e = ltb-true w (2 ^ 31) e
+    step false e = let l = ltb-false w (2 ^ 31) e in omega arith
 
 -- `mag z < 2 ^ 31` says that z is of 32 bits: it is `fitsWord z` of crate `meaning`
 pub signed-word : (z : ℤ) → mag z < 2 ^ 31 → signed (wordOf z) ≡ z

@@ -1,6 +1,6 @@
 -- `book::typing::typed` meets its contract, by the laws of Types: the tests that the code makes in turn are those of the form.
 -- The measure is where the form ends: each part ends before its form's row.
-use Prim.Native.Nat.{ℕ, suc, _-_, _+_, _^_, _≤_, _<_}
+use Prim.Native.Nat.{ℕ, suc, _-_, _+_, _≤_, _<_}
 use mathlib.Core.Path.{_≡_, sym, ap, subst, _∙_}
 use mathlib.Core.Bool.{Bool, false, cond}
 use mathlib.Core.List.{List}
@@ -83,9 +83,6 @@ module _ (t : ℕ) where
   coded : (c : typed-lts.After-field (calls t) (typed-at t) typed.Post) → let s = c .before .before .before .before .before in operatorOf (c .field .result) ≡ some (operatorHere (rows s) (row s) (sound s))
   coded c = let s = c .before .before .before .before .before in ap operatorOf (c .field .ensures) ∙ coded-here (rows s) (row s) (sound s)
 
-  word : (c : typed-lts.After-field2 (calls t) (typed-at t) typed.Post) → let s = c .before .before .before .before .before .before in (rows s (row s)) .x < 2 ^ 32
-  word c = subst (λ n. n < 2 ^ 32) (c .field2 .ensures) (c .field2 .ok)
-
   second : (c : typed-lts.After-shape (calls t) (typed-at t) typed.Post) → c .shape .result ≡ secondSort (parts (c .before .before .before .before .before .before .before))
   second c = let s = c .before .before .before .before .before .before .before in c .shape .ensures (operatorHere (rows s) (row s) (sound s)) (coded (c .before .before))
 
@@ -114,7 +111,7 @@ module _ (t : ℕ) where
   one : (c : typed-lts.Then2 (calls t) (typed-at t) typed.Post) → let s = c .before .before .before .before .before .before .before .before .before .before in cond (summed (schema s) (scope s) ((rows s (row s)) .code) ((rows s (row s)) .x) ((secondPart (rows s) (row s)) .form)) (typedPart (schema s) (scope s) ((secondPart (rows s) (row s)) .form)) false ≡ typedPart (schema s) (scope s) ((ending (rows s) (suc (row s))) .form)
   one c =
       let s = c .before .before .before .before .before .before .before .before .before .before in
-      one-here (rows s) (row s) (sound s) (schema s) (scope s) (word (c .before .before .before .before)) (λ q. c .before .before .if1 .left (second (c .before .before .before) ∙ q)) (sym (first (c .before)) ∙ c .if2 .taken)
+      one-here (rows s) (row s) (sound s) (schema s) (scope s) (λ q. c .before .before .if1 .left (second (c .before .before .before) ∙ q)) (sym (first (c .before)) ∙ c .if2 .taken)
 
   sum-is : (c : typed-lts.After-summable (calls t) (typed-at t) typed.Post) → let s = c .before .before .before .before .before .before .before .before .before .before .before in summed (schema s) (scope s) ((rows s (row s)) .code) ((rows s (row s)) .x) ((secondPart (rows s) (row s)) .form) ≡ c .summable .result
   sum-is c =
@@ -178,7 +175,7 @@ module _ (t : ℕ) where
       answer s
       (c .leaf .ensures
       ∙ (λ j. typedLeaf (schema s) (scope s) (code j) (x j) (y j))
-      ∙ leaf-here (rows s) (row s) (sound s) (schema s) (scope s) (word (c .before .before .before .before)) (sym (second (c .before .before .before)) ∙ c .before .before .if1 .taken))
+      ∙ leaf-here (rows s) (row s) (sound s) (schema s) (scope s) (sym (second (c .before .before .before)) ∙ c .before .before .if1 .taken))
 
   shape-requires-2 : typed-lts.Need-shape-requires-2 (calls t) (typed-at t) typed.Post
   shape-requires-2 c κs = (low (c .before .before .before), omega arith)
@@ -234,7 +231,7 @@ module _ (t : ℕ) where
       let s = c .before .before .before .before .before .before .before .before .before .before .before .before .before in
       let w = c .before .before .before in
       answer s
-      (fails-here (rows s) (row s) (sound s) (schema s) (scope s) (word (c .before .before .before .before .before .before .before)) (second-some w) (first-some w)
+      (fails-here (rows s) (row s) (sound s) (schema s) (scope s) (second-some w) (first-some w)
       (first-typed (c .before) ∙ not-true (c .before .typed2 .result) (c .if4 .taken)))
 
   shape-requires-3 : typed-lts.Need-shape-requires-3 (calls t) (typed-at t) typed.Post
@@ -253,7 +250,7 @@ module _ (t : ℕ) where
       let yes = first-typed (c .before .before .before .before) ∙ not-false (c .before .before .before .before .typed2 .result) (c .before .before .before .if4 .left) in
       answer s
       (c .typed3 .ensures
-      ∙ simp yes at (plain-here (rows s) (row s) (sound s) (schema s) (scope s) (word (c .before .before .before .before .before .before .before .before .before .before)) (second-some w) (first-some w) (λ q. c .before .if5 .taken (binds (c .before .before) ∙ q))))
+      ∙ simp yes at (plain-here (rows s) (row s) (sound s) (schema s) (scope s) (second-some w) (first-some w) (λ q. c .before .if5 .taken (binds (c .before .before) ∙ q))))
 
   cast-new : typed-lts.Need-cast-new (calls t) (typed-at t) typed.Post
   cast-new c = let h = room (c .before .before .before .before .before .before .before .before .before) in omega arith
@@ -298,7 +295,7 @@ module _ (t : ℕ) where
       answer s
       (c .typed4 .ensures
       ∙ ap (λ vs. typedPart (schema s) vs ((secondPart (rows s) (row s)) .form)) inner
-      ∙ simp yes at (bound-here (rows s) (row s) (sound s) (schema s) (scope s) (word (c .before .before .before .before .before .before .before .before .before .before .before .before .before .before .before)) (second-some w) (first-some w) (sym (binds (c .before .before .before .before .before .before .before)) ∙ c .before .before .before .before .before .before .if5 .left)))
+      ∙ simp yes at (bound-here (rows s) (row s) (sound s) (schema s) (scope s) (second-some w) (first-some w) (sym (binds (c .before .before .before .before .before .before .before)) ∙ c .before .before .before .before .before .before .if5 .left)))
 
 pub +typed-spec : {M : Type 1} → statement M
 +typed-spec =
