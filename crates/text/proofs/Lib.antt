@@ -1,5 +1,4 @@
--- Theorems on the text of document 01.
---   Names    every name of the table is found at its place
---   Tokens   a line is read as it was spelled, and spelled as it was read
+-- The text and what it says determine each other: names, tokens, bodies, lines, and whole texts.
 pub mod Names
 pub mod Tokens
+pub mod Bodies

@@ -7,7 +7,9 @@ use mathlib.Core.Option.{Option, none, some, bind, Option·map}
 use lib.Dec.{leb, eqb}
 use lib.ListN.{length, replicate}
 use Rattle.meaning.specs.Lists.{every, holds}
-use Rattle.tables.specs.Codes.{Shape, operatorOf, shapeOf}
+use Rattle.meaning.specs.Forms.{Sort, Form, compare, negate, connect, quantify, kind, num, cell, size, sum, combine, role, all, select}
+use Rattle.rows.specs.Rows.{wordOf}
+use Rattle.tables.specs.Codes.{Shape, operatorOf, shapeOf, codeOf, comparing, negating, connecting, quantifying, kindOf, literal, cellOf, sizeOf, sumOf, combining, roleOf, allOf, selecting}
 use Rattle.text.specs.Names.{firstOperator}
 use Rattle.text.specs.Tokens.{Token, begin, item, end, isWord}
 
@@ -115,3 +117,20 @@ openedIn part (begin name ∷ ts) = bind (needNamed name) (λ n. partsIn part (n
 unfoldable pub formIn : ℕ → List Token → Option Formed
 formIn zero ts = none
 formIn (suc fuel) ts = openedIn (λ rest. formIn fuel rest) ts
+
+-- ---- a form of a body, as the text has it
+
+unfoldable pub writtenOf : {s : Sort} → Form s → Written
+writtenOf (compare o a b) = both (codeOf (comparing o)) (writtenOf a) (writtenOf b) []
+writtenOf (negate a) = over (codeOf negating) (writtenOf a) []
+writtenOf (connect o a b) = both (codeOf (connecting o)) (writtenOf a) (writtenOf b) []
+writtenOf (quantify q c b) = both (codeOf (quantifying q)) (writtenOf c) (writtenOf b) []
+writtenOf (kind v t) = leaf (codeOf kindOf) (v ∷ t ∷ [])
+writtenOf (num n) = leaf (codeOf literal) (wordOf n ∷ [])
+writtenOf (cell v k) = leaf (codeOf cellOf) (v ∷ k ∷ [])
+writtenOf (size c) = over (codeOf sizeOf) (writtenOf c) []
+writtenOf (sum c k) = over (codeOf sumOf) (writtenOf c) (k ∷ [])
+writtenOf (combine o a b) = both (codeOf (combining o)) (writtenOf a) (writtenOf b) []
+writtenOf (role v r) = leaf (codeOf roleOf) (v ∷ r ∷ [])
+writtenOf (all t) = leaf (codeOf allOf) (t ∷ [])
+writtenOf (select c b) = both (codeOf selecting) (writtenOf c) (writtenOf b) []

@@ -1,0 +1,229 @@
+-- A body's forms: their tokens are read as what was written, and written as what was read; their rows determine them.
+use Prim.Native.Nat.{ℕ, zero, suc, _+_, _-_, _*_, _≤_, _<_}
+use mathlib.Core.Path.{_≡_, refl, sym, ap, ap₂, subst, _∙_}
+use mathlib.Core.Bool.{Bool, true, false, _&&_, cond, false≢true}
+use mathlib.Core.List.{List, [], _∷_, _++_, map, append-assoc, append-nil}
+use mathlib.Core.Option.{Option, none, some, bind, Option·map, Option·none-ne-some, Option·some-injective, map-eq-some-iff, bind-eq-some-iff}
+use native.Mathlib.Nat.{le-refl, not-suc-le-zero, suc-ne-zero}
+use native.Mathlib.Omega.{arith}
+use borrow.Author.Tests.{lt-ltb, ltb-true, le-leb, leb-true, eq-eqb, eqb-true}
+use lib.Dec.{ltb, leb, eqb}
+use lib.ListN.{length, take, replicate, length-append, length-map, length-replicate}
+use lib.Seq.{take-append-seam}
+use mir.Facts.{and-yes, ltb-yes, leb-yes}
+use Rattle.meaning.specs.Lists.{every, holds}
+use Rattle.meaning.proofs.Lists.{every-at, element-in}
+use Rattle.meaning.specs.Forms.{Sort, Form, compare, negate, connect, quantify, kind, num, cell, size, sum, combine, role, all, select, formCount}
+use Rattle.rows.specs.Rows.{wordOf}
+use Rattle.tables.specs.Codes.{Operator, comparing, negating, connecting, quantifying, kindOf, literal, cellOf, sizeOf, sumOf, combining, roleOf, allOf, selecting, operators, operatorOf, codeOf, shapeOf}
+use Rattle.tables.specs.Bodies.{rowWords, writeForm}
+use Rattle.tables.proofs.Readings.{code-of, operator-of}
+use Rattle.lexical.proofs.Runs.{both as halves}
+use Rattle.text.specs.Names.{firstOperator, nameCount}
+use Rattle.text.specs.Tokens.{Token, begin, item, end, dash, isWord}
+use Rattle.text.specs.Bodies.{Written, leaf, over, both, Need, needOf, need, meets, wellWritten, formsIn, padded, rowOf, rowsOf, closing, tokensOf, Closed, closeIn, Formed, formedBy, partsIn, needNamed, openedIn, formIn, writtenOf}
+
+joined : {a b : Bool} → a ≡ true → b ≡ true → (a && b) ≡ true
+joined p q = ap₂ (λ a b. a && b) p q
+
+-- ---- what the form of a code needs
+
+abbrev needs : ℕ → ℕ → Need
+needs parts fields = record { parts = parts; fields = fields }
+
+meets-need : (k p : ℕ) (fs : List ℕ) → meets k p fs ≡ true → (need k ≡ some (needs p (length fs))) × (every isWord fs ≡ true)
+unfolding meets
+meets-need k p fs e = let h = halves _ (every isWord fs) e in (step (need k) (h .0), h .1)
+  where
+    step : (o : Option Need) → holds (λ n. eqb (n .parts) p && eqb (n .fields) (length fs)) o ≡ true → o ≡ some (needs p (length fs))
+    step none q = absurd (false≢true q)
+    step (some n) q =
+        let h = halves (eqb (n .parts) p) (eqb (n .fields) (length fs)) q in
+        ap₂ (λ x y. some (needs x y)) (eqb-true (n .parts) p (h .0)) (eqb-true (n .fields) (length fs) (h .1))
+
+need-meets : (k p : ℕ) (fs : List ℕ) → need k ≡ some (needs p (length fs)) → every isWord fs ≡ true → meets k p fs ≡ true
+unfolding meets
+need-meets k p fs e w = rw (e, eq-eqb p p refl, eq-eqb (length fs) (length fs) refl, w)
+
+-- an operator has at most two parts and two fields, and its code is a name's
+record Small (k : ℕ) (n : Need) : Type 0 where
+  code : firstOperator + k < nameCount
+  parts : n .parts ≤ 2
+  fields : n .fields ≤ 2
+
+abbrev isSmall : Operator → Bool
+isSmall o = ltb (firstOperator + codeOf o) nameCount && (leb ((needOf (shapeOf o)) .parts) 2 && leb ((needOf (shapeOf o)) .fields) 2)
+
+need-small : (k : ℕ) (n : Need) → need k ≡ some n → Small k n
+unfolding need operatorOf operators codeOf shapeOf
+need-small k n e =
+    let r = map-eq-some-iff (λ o. needOf (shapeOf o)) (operatorOf k) .0 e in
+    let o = r .0 in
+    let a = and-yes (ltb (firstOperator + codeOf o) nameCount) _ (every-at isSmall {l = operators} tt (element-in operators k (r .1))) in
+    let b = and-yes (leb ((needOf (shapeOf o)) .parts) 2) (leb ((needOf (shapeOf o)) .fields) 2) (a .1) in
+    let small : Small (codeOf o) (needOf (shapeOf o)) = record { code = ltb-yes (a .0); parts = leb-yes (b .0); fields = leb-yes (b .1) } in
+    subst (λ (t : Type 0). t) (ap₂ Small (code-of k o (r .1)) (r .2)) small
+
+-- ---- read after write
+
+close-read : (fs : List ℕ) (rest : List Token) → every isWord fs ≡ true → closeIn (length fs) (closing fs ++ rest) ≡ some (record { fields = fs; rest = rest })
+unfolding closeIn
+close-read [] rest e = refl
+close-read (v ∷ fs) rest e = let h = halves (isWord v) (every isWord fs) e in rw (h .0, close-read fs rest (h .1))
+
+formed-read : (form : List ℕ → Written) (fs : List ℕ) (rest : List Token) → every isWord fs ≡ true → formedBy form (length fs) (closing fs ++ rest) ≡ some (record { form = form fs; rest = rest })
+unfolding formedBy
+formed-read form fs rest e = rw (close-read fs rest e)
+
+open-read : (part : List Token → Option Formed) (k : ℕ) (n : Need) (ts : List Token) → need k ≡ some n → openedIn part (begin (firstOperator + k) ∷ ts) ≡ partsIn part k (n .parts) (n .fields) ts
+unfolding openedIn needNamed bind
+open-read part k n ts e =
+    let back : firstOperator + k - firstOperator ≡ k = omega arith in
+    rw (le-leb firstOperator (firstOperator + k) (omega arith), back, e)
+
+pub form-read : (w : Written) (rest : List Token) (fuel : ℕ) → wellWritten w ≡ true → length (tokensOf w) ≤ fuel → formIn fuel (tokensOf w ++ rest) ≡ some (record { form = w; rest = rest })
+unfolding wellWritten tokensOf formIn partsIn bind
+form-read (leaf k fs) rest zero e h = absurd (not-suc-le-zero h)
+form-read (leaf k fs) rest (suc fuel) e h =
+    let m = meets-need k 0 fs e in
+    open-read (formIn fuel) k (needs 0 (length fs)) (closing fs ++ rest) (m .0) ∙ formed-read (leaf k) fs rest (m .1)
+form-read (over k a fs) rest zero e h = absurd (not-suc-le-zero h)
+form-read (over k a fs) rest (suc fuel) e h =
+    let g = halves (meets k 1 fs) (wellWritten a) e in
+    let m = meets-need k 1 fs (g .0) in
+    let l = length-append (tokensOf a) (closing fs) in
+    open-read (formIn fuel) k (needs 1 (length fs)) (tokensOf a ++ closing fs ++ rest) (m .0)
+    ∙ rw (append-assoc (tokensOf a) (closing fs) rest, form-read a (closing fs ++ rest) fuel (g .1) (omega arith)) (formed-read (over k a) fs rest (m .1))
+form-read (both k a b fs) rest zero e h = absurd (not-suc-le-zero h)
+form-read (both k a b fs) rest (suc fuel) e h =
+    let g = halves (meets k 2 fs) (wellWritten a && wellWritten b) e in
+    let w = halves (wellWritten a) (wellWritten b) (g .1) in
+    let m = meets-need k 2 fs (g .0) in
+    let l = length-append (tokensOf a ++ tokensOf b) (closing fs) in
+    let n = length-append (tokensOf a) (tokensOf b) in
+    open-read (formIn fuel) k (needs 2 (length fs)) (tokensOf a ++ tokensOf b ++ closing fs ++ rest) (m .0)
+    ∙ rw (append-assoc (tokensOf a ++ tokensOf b) (closing fs) rest, append-assoc (tokensOf a) (tokensOf b) (closing fs ++ rest), form-read a (tokensOf b ++ (closing fs ++ rest)) fuel (w .0) (omega arith), form-read b (closing fs ++ rest) fuel (w .1) (omega arith))
+    (formed-read (both k a b) fs rest (m .1))
+
+-- ---- write after read
+
+-- fields that were read, before the rest
+record Fields (n : ℕ) (ts : List Token) (fs : List ℕ) (rest : List Token) : Type 0 where
+  spelled : ts ≡ closing fs ++ rest
+  count : length fs ≡ n
+  words : every isWord fs ≡ true
+
+chosen : {A : Type 0} (b : Bool) (o : Option A) {x : A} → cond b o none ≡ some x → (b ≡ true) × (o ≡ some x)
+chosen true o e = (refl, e)
+chosen false o {x} e = absurd (Option·none-ne-some x e)
+
+close-spelled : (n : ℕ) (ts : List Token) (c : Closed) → closeIn n ts ≡ some c → Fields n ts (c .fields) (c .rest)
+unfolding closeIn
+close-spelled zero [] c e = absurd (Option·none-ne-some c e)
+close-spelled zero (begin k ∷ ts) c e = absurd (Option·none-ne-some c e)
+close-spelled zero (item v ∷ ts) c e = absurd (Option·none-ne-some c e)
+close-spelled zero (end ∷ ts) c e = subst (λ (d : Closed). Fields zero (end ∷ ts) (d .fields) (d .rest)) (Option·some-injective _ c e) (record { spelled = refl; count = refl; words = refl })
+close-spelled (suc n) [] c e = absurd (Option·none-ne-some c e)
+close-spelled (suc n) (begin k ∷ ts) c e = absurd (Option·none-ne-some c e)
+close-spelled (suc n) (end ∷ ts) c e = absurd (Option·none-ne-some c e)
+close-spelled (suc n) (item v ∷ ts) c e =
+    let q = chosen (isWord v) _ e in
+    let r = map-eq-some-iff {B = Closed} (λ (d : Closed). record { fields = v ∷ d .fields; rest = d .rest }) (closeIn n ts) .0 (q .1) in
+    let d = close-spelled n ts (r .0) (r .1) in
+    subst (λ (d : Closed). Fields (suc n) (item v ∷ ts) (d .fields) (d .rest)) (r .2)
+    (record { spelled = ap (λ (l : List Token). item v ∷ l) (d .spelled); count = ap suc (d .count); words = joined (q .0) (d .words) })
+
+formed-spelled : (form : List ℕ → Written) (n : ℕ) (ts : List Token) (f : Formed) → formedBy form n ts ≡ some f → (fs : List ℕ) × Fields n ts fs (f .rest) × (form fs ≡ f .form)
+unfolding formedBy
+formed-spelled form n ts f e =
+    let r = map-eq-some-iff {B = Formed} (λ (c : Closed). record { form = form (c .fields); rest = c .rest }) (closeIn n ts) .0 e in
+    let c = r .0 in
+    (c .fields, subst (Fields n ts (c .fields)) (ap (λ (g : Formed). g .rest) (r .2)) (close-spelled n ts c (r .1)), ap (λ (g : Formed). g .form) (r .2))
+
+-- a form that was read, before the rest
+abbrev Spelled : List Token → Written → List Token → Type 0
+Spelled ts w rest = (ts ≡ tokensOf w ++ rest) × (wellWritten w ≡ true)
+
+-- when the parts have been read, whose tokens are u
+closed-spelled : (k p n : ℕ) (form : List ℕ → Written) (u : List Token) → need k ≡ some (needs p n) → ((fs : List ℕ) → meets k p fs ≡ true → Spelled (begin (firstOperator + k) ∷ u ++ closing fs) (form fs) [])
+    → (ts : List Token) (f : Formed) → formedBy form n ts ≡ some f → Spelled (begin (firstOperator + k) ∷ u ++ ts) (f .form) (f .rest)
+closed-spelled k p n form u h spell ts f e =
+    let r = formed-spelled form n ts f e in
+    let fs = r .0 in
+    let s = r .1 in
+    let w = spell fs (need-meets k p fs (h ∙ ap (λ x. some (needs p x)) (sym (s .count))) (s .words)) in
+    subst (λ x. Spelled (begin (firstOperator + k) ∷ u ++ ts) x (f .rest)) (r .2) (
+      ap (λ l. begin (firstOperator + k) ∷ u ++ l) (s .spelled) ∙ sym (append-assoc (begin (firstOperator + k) ∷ u) (closing fs) (f .rest)) ∙ ap (λ l. l ++ f .rest) (w .0 ∙ append-nil (tokensOf (form fs))),
+      w .1,
+    )
+
+module _ (part : List Token → Option Formed) (spells : (ts : List Token) (f : Formed) → part ts ≡ some f → Spelled ts (f .form) (f .rest)) (k : ℕ) where
+  parts-spelled : (p n : ℕ) (ts : List Token) (f : Formed) → need k ≡ some (needs p n) → partsIn part k p n ts ≡ some f → Spelled (begin (firstOperator + k) ∷ ts) (f .form) (f .rest)
+  unfolding partsIn tokensOf wellWritten
+  parts-spelled zero n ts f h e = closed-spelled k 0 n (leaf k) [] h (λ fs m. (sym (append-nil _), m)) ts f e
+  parts-spelled (suc zero) n ts f h e =
+      let q = bind-eq-some-iff (part ts) (λ a. formedBy (over k (a .form)) n (a .rest)) .0 e in
+      let a = q .0 in
+      let c = spells ts a (q .1) in
+      subst (λ l. Spelled (begin (firstOperator + k) ∷ l) (f .form) (f .rest)) (sym (c .0))
+      (closed-spelled k 1 n (over k (a .form)) (tokensOf (a .form)) h (λ fs m. (sym (append-nil _), joined m (c .1))) (a .rest) f (q .2))
+  parts-spelled (suc (suc zero)) n ts f h e =
+      let q = bind-eq-some-iff (part ts) (λ a. bind (part (a .rest)) (λ b. formedBy (both k (a .form) (b .form)) n (b .rest))) .0 e in
+      let a = q .0 in
+      let r = bind-eq-some-iff (part (a .rest)) (λ b. formedBy (both k (a .form) (b .form)) n (b .rest)) .0 (q .2) in
+      let b = r .0 in
+      let c = spells ts a (q .1) in
+      let d = spells (a .rest) b (r .1) in
+      subst (λ l. Spelled (begin (firstOperator + k) ∷ l) (f .form) (f .rest)) (append-assoc (tokensOf (a .form)) (tokensOf (b .form)) (b .rest) ∙ ap (λ l. tokensOf (a .form) ++ l) (sym (d .0)) ∙ sym (c .0))
+      (closed-spelled k 2 n (both k (a .form) (b .form)) (tokensOf (a .form) ++ tokensOf (b .form)) h (λ fs m. (sym (append-nil _), joined m (joined (c .1) (d .1)))) (b .rest) f (r .2))
+  parts-spelled (suc (suc (suc p))) n ts f h e = let few = need-small k _ h .parts in absurd (omega arith)
+
+pub form-spelled : (fuel : ℕ) (ts : List Token) (f : Formed) → formIn fuel ts ≡ some f → (ts ≡ tokensOf (f .form) ++ f .rest) × (wellWritten (f .form) ≡ true)
+unfolding formIn openedIn needNamed
+form-spelled zero ts f e = absurd (Option·none-ne-some f e)
+form-spelled (suc fuel) [] f e = absurd (Option·none-ne-some f e)
+form-spelled (suc fuel) (item v ∷ ts) f e = absurd (Option·none-ne-some f e)
+form-spelled (suc fuel) (end ∷ ts) f e = absurd (Option·none-ne-some f e)
+form-spelled (suc fuel) (begin name ∷ ts) f e =
+    let k = name - firstOperator in
+    let q = bind-eq-some-iff (needNamed name) (λ n. partsIn (λ rest. formIn fuel rest) k (n .parts) (n .fields) ts) .0 e in
+    let n = q .0 in
+    let c = chosen (leb firstOperator name) (need k) (q .1) in
+    let above = leb-true firstOperator name (c .0) in
+    let same : firstOperator + k ≡ name = omega arith in
+    rw same at (parts-spelled (λ rest. formIn fuel rest) (λ l g. form-spelled fuel l g) k (n .parts) (n .fields) ts f (c .1) (q .2))
+
+-- ---- fuel
+
+bind-same : {A B : Type 0} (o : Option A) (f g : A → Option B) → ((x : A) → o ≡ some x → f x ≡ g x) → bind o f ≡ bind o g
+unfolding bind
+bind-same none f g h = refl
+bind-same (some x) f g h = h x refl
+
+-- the parts by two readings that are the same of tokens no more than those
+module _ (part other : List Token → Option Formed) (k n : ℕ) (ts : List Token) (same : (l : List Token) → length l ≤ length ts → part l ≡ other l) (shorter : (l : List Token) (f : Formed) → other l ≡ some f → length (f .rest) ≤ length l) where
+  parts-same : (p : ℕ) → partsIn part k p n ts ≡ partsIn other k p n ts
+  unfolding partsIn
+  parts-same zero = refl
+  parts-same (suc zero) = rw (same ts (le-refl (length ts)))
+  parts-same (suc (suc p)) =
+      rw (same ts (le-refl (length ts)))
+      (bind-same (other ts) _ _ (λ a e. rw (same (a .rest) (shorter ts a e))))
+
+fuels : (n m : ℕ) (ts : List Token) → length ts ≤ n → length ts ≤ m → formIn n ts ≡ formIn m ts
+unfolding formIn openedIn
+fuels zero zero ts h k = refl
+fuels zero (suc m) [] h k = refl
+fuels zero (suc m) (t ∷ ts) h k = absurd (not-suc-le-zero h)
+fuels (suc n) zero [] h k = refl
+fuels (suc n) zero (t ∷ ts) h k = absurd (not-suc-le-zero k)
+fuels (suc n) (suc m) [] h k = refl
+fuels (suc n) (suc m) (item v ∷ ts) h k = refl
+fuels (suc n) (suc m) (end ∷ ts) h k = refl
+fuels (suc n) (suc m) (begin name ∷ ts) h k =
+    bind-same (needNamed name) _ _ (λ q e. parts-same (λ l. formIn n l) (λ l. formIn m l) (name - firstOperator) (q .fields) ts
+    (λ l s. fuels n m l (omega arith) (omega arith))
+    (λ l f s. let c = ap length (form-spelled m l f s .0) ∙ length-append (tokensOf (f .form)) (f .rest) in omega arith) (q .parts))
+
+pub form-fuel : (fuel : ℕ) (ts : List Token) → length ts ≤ fuel → formIn fuel ts ≡ formIn (length ts) ts
+form-fuel fuel ts h = fuels fuel (length ts) ts h (le-refl (length ts))
