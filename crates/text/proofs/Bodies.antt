@@ -8,8 +8,8 @@ use native.Mathlib.Nat.{le-refl, not-suc-le-zero, suc-ne-zero}
 use native.Mathlib.Omega.{arith}
 use borrow.Author.Tests.{lt-ltb, ltb-true, le-leb, leb-true, eq-eqb, eqb-true}
 use lib.Dec.{ltb, leb, eqb}
-use lib.ListN.{length, take, replicate, length-append, length-map, length-replicate}
-use lib.Seq.{take-append-seam}
+use lib.ListN.{length, take, drop, replicate, take-append-drop, length-append, length-map, length-replicate}
+use lib.Seq.{length-take-le, take-append-seam}
 use mir.Facts.{and-yes, ltb-yes, leb-yes}
 use Rattle.meaning.specs.Lists.{every, holds}
 use Rattle.meaning.proofs.Lists.{every-at, element-in}
@@ -227,3 +227,200 @@ fuels (suc n) (suc m) (begin name ∷ ts) h k =
 
 pub form-fuel : (fuel : ℕ) (ts : List Token) → length ts ≤ fuel → formIn fuel ts ≡ formIn (length ts) ts
 form-fuel fuel ts h = fuels fuel (length ts) ts h (le-refl (length ts))
+
+-- ---- rows
+
+row-length : (k p : ℕ) (fs : List ℕ) → meets k p fs ≡ true → length (rowOf k fs) ≡ 4
+unfolding rowOf
+row-length k p fs e =
+    let few = need-small k _ (meets-need k p fs e .0) .fields in
+    simp (length-append, length-replicate) (omega arith)
+
+pub rows-length : (w : Written) → wellWritten w ≡ true → length (rowsOf w) ≡ 4 * formsIn w
+unfolding wellWritten rowsOf formsIn
+rows-length (leaf k fs) e = row-length k 0 fs e
+rows-length (over k a fs) e =
+    let g = halves (meets k 1 fs) (wellWritten a) e in
+    omega (arith, length-append (rowsOf a) (rowOf k fs), row-length k 1 fs (g .0), rows-length a (g .1))
+rows-length (both k a b fs) e =
+    let g = halves (meets k 2 fs) (wellWritten a && wellWritten b) e in
+    let w = halves (wellWritten a) (wellWritten b) (g .1) in
+    omega (arith, length-append (rowsOf a ++ rowsOf b) (rowOf k fs), length-append (rowsOf a) (rowsOf b), row-length k 2 fs (g .0), rows-length a (w .0), rows-length b (w .1))
+
+-- the forms on a stack, the last first, after one more of so many parts
+abbrev put : ℕ → ℕ → List ℕ → List Written → List Written
+put zero k fs s = leaf k fs ∷ s
+put (suc zero) k fs [] = []
+put (suc zero) k fs (a ∷ s) = over k a fs ∷ s
+put (suc (suc p)) k fs [] = []
+put (suc (suc p)) k fs (b ∷ []) = []
+put (suc (suc p)) k fs (b ∷ a ∷ s) = both k a b fs ∷ s
+
+-- after a row of a code and its words
+abbrev rowPut : Option Need → ℕ → List ℕ → List Written → List Written
+rowPut none k l s = []
+rowPut (some n) k l s = put (n .parts) k (take (n .fields) l) s
+
+-- after the words of rows
+abbrev stacked : List ℕ → List Written → List Written
+stacked [] s = s
+stacked (k ∷ []) s = []
+stacked (k ∷ x ∷ []) s = []
+stacked (k ∷ x ∷ y ∷ []) s = []
+stacked (k ∷ x ∷ y ∷ z ∷ l) s = stacked l (rowPut (need k) k (x ∷ y ∷ z ∷ []) s)
+
+row-stacked : (k : ℕ) (fs l : List ℕ) (s : List Written) → length fs ≤ 2 → stacked (rowOf k fs ++ l) s ≡ stacked l (rowPut (need k) k (padded 3 fs) s)
+unfolding rowOf
+row-stacked k [] l s h = refl
+row-stacked k (x ∷ []) l s h = refl
+row-stacked k (x ∷ y ∷ []) l s h = refl
+row-stacked k (x ∷ y ∷ z ∷ fs) l s h = absurd (omega arith)
+
+meets-stacked : (k p : ℕ) (fs l : List ℕ) (s : List Written) → meets k p fs ≡ true → stacked (rowOf k fs ++ l) s ≡ stacked l (put p k fs s)
+meets-stacked k p fs l s e =
+    let n = meets-need k p fs e .0 in
+    row-stacked k fs l s (need-small k _ n .fields)
+    ∙ ap (λ o. stacked l (rowPut o k (padded 3 fs) s)) n
+    ∙ ap (λ gs. stacked l (put p k gs s)) (take-append-seam fs (replicate (3 - length fs) 0))
+
+-- the rows of a form put it on the stack
+rows-stacked : (w : Written) (l : List ℕ) (s : List Written) → wellWritten w ≡ true → stacked (rowsOf w ++ l) s ≡ stacked l (w ∷ s)
+unfolding wellWritten rowsOf
+rows-stacked (leaf k fs) l s e = meets-stacked k 0 fs l s e
+rows-stacked (over k a fs) l s e =
+    let g = halves (meets k 1 fs) (wellWritten a) e in
+    ap (λ x. stacked x s) (append-assoc (rowsOf a) (rowOf k fs) l)
+    ∙ rows-stacked a (rowOf k fs ++ l) s (g .1)
+    ∙ meets-stacked k 1 fs l (a ∷ s) (g .0)
+rows-stacked (both k a b fs) l s e =
+    let g = halves (meets k 2 fs) (wellWritten a && wellWritten b) e in
+    let w = halves (wellWritten a) (wellWritten b) (g .1) in
+    ap (λ x. stacked x s) (append-assoc (rowsOf a ++ rowsOf b) (rowOf k fs) l ∙ append-assoc (rowsOf a) (rowsOf b) (rowOf k fs ++ l))
+    ∙ rows-stacked a (rowsOf b ++ (rowOf k fs ++ l)) s (w .0)
+    ∙ rows-stacked b (rowOf k fs ++ l) (a ∷ s) (w .1)
+    ∙ meets-stacked k 2 fs l (b ∷ a ∷ s) (g .0)
+
+pub rows-determine : (a b : Written) → wellWritten a ≡ true → wellWritten b ≡ true → rowsOf a ≡ rowsOf b → a ≡ b
+rows-determine a b e f q =
+    let top : a ∷ [] ≡ b ∷ [] = sym (rows-stacked a [] [] e) ∙ ap (λ l. stacked (l ++ []) []) q ∙ rows-stacked b [] [] f in
+    cc
+
+-- ---- tokens
+
+abbrev validToken : Token → Bool
+validToken (begin k) = ltb k nameCount
+validToken (item v) = leb v dash
+validToken end = true
+
+every-append : {A : Type 0} (p : A → Bool) (l m : List A) → every p l ≡ true → every p m ≡ true → every p (l ++ m) ≡ true
+every-append p [] m e f = f
+every-append p (x ∷ l) m e f = let h = halves (p x) (every p l) e in joined (h .0) (every-append p l m (h .1) f)
+
+close-valid : (fs : List ℕ) → every isWord fs ≡ true → every validToken (closing fs) ≡ true
+close-valid [] e = refl
+close-valid (v ∷ fs) e =
+    let h = halves (isWord v) (every isWord fs) e in
+    let low = ltb-true v dash (h .0) in
+    joined (le-leb v dash (omega arith)) (close-valid fs (h .1))
+
+-- a form's tokens, by those of its parts
+meets-valid : (k p : ℕ) (fs : List ℕ) (u : List Token) → meets k p fs ≡ true → every validToken u ≡ true → every validToken (begin (firstOperator + k) ∷ u ++ closing fs) ≡ true
+meets-valid k p fs u e f =
+    let m = meets-need k p fs e in
+    joined (lt-ltb (firstOperator + k) nameCount (need-small k _ (m .0) .code)) (every-append validToken u (closing fs) f (close-valid fs (m .1)))
+
+pub tokens-valid : (w : Written) → wellWritten w ≡ true → every validToken (tokensOf w) ≡ true
+unfolding wellWritten tokensOf
+tokens-valid (leaf k fs) e = meets-valid k 0 fs [] e refl
+tokens-valid (over k a fs) e =
+    let g = halves (meets k 1 fs) (wellWritten a) e in
+    meets-valid k 1 fs (tokensOf a) (g .0) (tokens-valid a (g .1))
+tokens-valid (both k a b fs) e =
+    let g = halves (meets k 2 fs) (wellWritten a && wellWritten b) e in
+    let w = halves (wellWritten a) (wellWritten b) (g .1) in
+    meets-valid k 2 fs (tokensOf a ++ tokensOf b) (g .0) (every-append validToken (tokensOf a) (tokensOf b) (tokens-valid a (w .0)) (tokens-valid b (w .1)))
+
+pub forms-length : (w : Written) → 2 * formsIn w ≤ length (tokensOf w)
+unfolding formsIn tokensOf
+forms-length (leaf k fs) = omega (arith, length-append (map item fs) (end ∷ []))
+forms-length (over k a fs) = omega (arith, length-append (tokensOf a) (closing fs), length-append (map item fs) (end ∷ []), forms-length a)
+forms-length (both k a b fs) =
+    omega (arith, length-append (tokensOf a ++ tokensOf b) (closing fs), length-append (tokensOf a) (tokensOf b), length-append (map item fs) (end ∷ []), forms-length a, forms-length b)
+
+-- ---- the forms of a body
+
+pub written-rows : {s : Sort} (f : Form s) → rowsOf (writtenOf f) ≡ writeForm f
+unfolding rowsOf rowOf writtenOf writeForm
+written-rows (compare o a b) = rw (written-rows a, written-rows b)
+written-rows (negate a) = rw (written-rows a)
+written-rows (connect o a b) = rw (written-rows a, written-rows b)
+written-rows (quantify q c b) = rw (written-rows c, written-rows b)
+written-rows (kind v t) = refl
+written-rows (num n) = refl
+written-rows (cell v k) = refl
+written-rows (size c) = rw (written-rows c)
+written-rows (sum c k) = rw (written-rows c)
+written-rows (combine o a b) = rw (written-rows a, written-rows b)
+written-rows (role v r) = refl
+written-rows (all t) = refl
+written-rows (select c b) = rw (written-rows c, written-rows b)
+
+pub written-count : {s : Sort} (f : Form s) → formsIn (writtenOf f) ≡ formCount f
+unfolding formsIn writtenOf formCount
+written-count (compare o a b) = rw (written-count a, written-count b)
+written-count (negate a) = rw (written-count a)
+written-count (connect o a b) = rw (written-count a, written-count b)
+written-count (quantify q c b) = rw (written-count c, written-count b)
+written-count (kind v t) = refl
+written-count (num n) = refl
+written-count (cell v k) = refl
+written-count (size c) = rw (written-count c)
+written-count (sum c k) = rw (written-count c)
+written-count (combine o a b) = rw (written-count a, written-count b)
+written-count (role v r) = refl
+written-count (all t) = refl
+written-count (select c b) = rw (written-count c, written-count b)
+
+every-parts : {A : Type 0} (p : A → Bool) (l m : List A) → every p (l ++ m) ≡ true → (every p l ≡ true) × (every p m ≡ true)
+every-parts p [] m e = (refl, e)
+every-parts p (x ∷ l) m e =
+    let h = halves (p x) (every p (l ++ m)) e in
+    let r = every-parts p l m (h .1) in
+    (joined (h .0) (r .0), r .1)
+
+-- a row of words meets its operator's need
+row-meets : (o : Operator) (x y : ℕ) → every isWord (rowWords o x y) ≡ true → meets (codeOf o) (length ((shapeOf o) .parts)) (take ((shapeOf o) .fields) (x ∷ y ∷ [])) ≡ true
+unfolding need
+row-meets o x y e =
+    let n = (shapeOf o) .fields in
+    let known : need (codeOf o) ≡ some (needOf (shapeOf o)) = ap (Option·map (λ p. needOf (shapeOf p))) (operator-of o) in
+    let count : length (take n (x ∷ y ∷ [])) ≡ n = length-take-le n (x ∷ y ∷ []) (need-small (codeOf o) _ known .fields) in
+    let words : every isWord (x ∷ y ∷ []) ≡ true = every-parts isWord (x ∷ y ∷ []) (0 ∷ []) (halves (isWord (codeOf o)) _ e .1) .0 in
+    need-meets (codeOf o) _ _ (known ∙ ap (λ m. some (needs (length ((shapeOf o) .parts)) m)) (sym count))
+    (every-parts isWord (take n (x ∷ y ∷ [])) (drop n (x ∷ y ∷ [])) (ap (every isWord) (take-append-drop n (x ∷ y ∷ [])) ∙ words) .0)
+
+only-well : (o : Operator) (x y : ℕ) (w : List ℕ) (a : Written) → (every isWord w ≡ true → wellWritten a ≡ true) → every isWord (w ++ rowWords o x y) ≡ true → (meets (codeOf o) (length ((shapeOf o) .parts)) (take ((shapeOf o) .fields) (x ∷ y ∷ [])) && wellWritten a) ≡ true
+only-well o x y w a h e = let r = every-parts isWord w (rowWords o x y) e in joined (row-meets o x y (r .1)) (h (r .0))
+
+both-well : (o : Operator) (v w : List ℕ) (a b : Written) → (every isWord v ≡ true → wellWritten a ≡ true) → (every isWord w ≡ true → wellWritten b ≡ true) → every isWord (v ++ w ++ rowWords o 0 0) ≡ true
+    → (meets (codeOf o) (length ((shapeOf o) .parts)) (take ((shapeOf o) .fields) (0 ∷ 0 ∷ [])) && (wellWritten a && wellWritten b)) ≡ true
+both-well o v w a b h k e =
+    let r = every-parts isWord (v ++ w) (rowWords o 0 0) e in
+    let q = every-parts isWord v w (r .0) in
+    joined (row-meets o 0 0 (r .1)) (joined (h (q .0)) (k (q .1)))
+
+pub written-well : {s : Sort} (f : Form s) → every isWord (writeForm f) ≡ true → wellWritten (writtenOf f) ≡ true
+unfolding wellWritten writtenOf writeForm shapeOf
+written-well (compare o a b) = both-well (comparing o) (writeForm a) (writeForm b) (writtenOf a) (writtenOf b) (written-well a) (written-well b)
+written-well (negate a) = only-well negating 0 0 (writeForm a) (writtenOf a) (written-well a)
+written-well (connect o a b) = both-well (connecting o) (writeForm a) (writeForm b) (writtenOf a) (writtenOf b) (written-well a) (written-well b)
+written-well (quantify q c b) = both-well (quantifying q) (writeForm c) (writeForm b) (writtenOf c) (writtenOf b) (written-well c) (written-well b)
+written-well (kind v t) = row-meets kindOf v t
+written-well (num n) = row-meets literal (wordOf n) 0
+written-well (cell v k) = row-meets cellOf v k
+written-well (size c) = only-well sizeOf 0 0 (writeForm c) (writtenOf c) (written-well c)
+written-well (sum c k) = only-well sumOf k 0 (writeForm c) (writtenOf c) (written-well c)
+written-well (combine o a b) = both-well (combining o) (writeForm a) (writeForm b) (writtenOf a) (writtenOf b) (written-well a) (written-well b)
+written-well (role v r) = row-meets roleOf v r
+written-well (all t) = row-meets allOf t 0
+written-well (select c b) = both-well selecting (writeForm c) (writeForm b) (writtenOf c) (writtenOf b) (written-well c) (written-well b)
