@@ -1,14 +1,14 @@
 -- A body's forms: their tokens are read as what was written, and written as what was read; their rows determine them.
 use Prim.Native.Nat.{ℕ, zero, suc, _+_, _-_, _*_, _≤_, _<_}
 use mathlib.Core.Path.{_≡_, refl, sym, ap, ap₂, subst, _∙_}
-use mathlib.Core.Bool.{Bool, true, false, _&&_, cond, false≢true}
+use mathlib.Core.Bool.{Bool, true, false, _&&_, cond, false≢true, and-assoc}
 use mathlib.Core.List.{List, [], _∷_, _++_, map, append-assoc, append-nil}
 use mathlib.Core.Option.{Option, none, some, bind, Option·map, Option·none-ne-some, Option·some-injective, map-eq-some-iff, bind-eq-some-iff}
-use native.Mathlib.Nat.{le-refl, not-suc-le-zero, suc-ne-zero}
+use native.Mathlib.Nat.{le-refl, not-suc-le-zero}
 use native.Mathlib.Omega.{arith}
 use borrow.Author.Tests.{lt-ltb, ltb-true, le-leb, leb-true, eq-eqb, eqb-true}
 use lib.Dec.{ltb, leb, eqb}
-use lib.ListN.{length, take, drop, replicate, take-append-drop, length-append, length-map, length-replicate}
+use lib.ListN.{length, take, drop, replicate, take-append-drop, length-append, length-replicate}
 use lib.Seq.{length-take-le, take-append-seam}
 use mir.Facts.{and-yes, ltb-yes, leb-yes}
 use Rattle.meaning.specs.Lists.{every, holds}
@@ -25,6 +25,18 @@ use Rattle.text.specs.Bodies.{Written, leaf, over, both, Need, needOf, n
 
 joined : {a b : Bool} → a ≡ true → b ≡ true → (a && b) ≡ true
 joined p q = ap₂ (λ a b. a && b) p q
+
+-- a test of every element, by parts of the list
+module _ {A : Type 0} (p : A → Bool) where
+  every-both : (l m : List A) → every p (l ++ m) ≡ (every p l && every p m)
+  every-both [] m = refl
+  every-both (x ∷ l) m = ap (λ b. p x && b) (every-both l m) ∙ sym (and-assoc (p x) (every p l) (every p m))
+
+  every-append : (l m : List A) → every p l ≡ true → every p m ≡ true → every p (l ++ m) ≡ true
+  every-append l m e f = every-both l m ∙ joined e f
+
+  every-parts : (l m : List A) → every p (l ++ m) ≡ true → (every p l ≡ true) × (every p m ≡ true)
+  every-parts l m e = halves (every p l) (every p m) (sym (every-both l m) ∙ e)
 
 -- ---- what the form of a code needs
 
@@ -44,6 +56,14 @@ meets-need k p fs e = let h = halves _ (every isWord fs) e in (step (need k) (h 
 need-meets : (k p : ℕ) (fs : List ℕ) → need k ≡ some (needs p (length fs)) → every isWord fs ≡ true → meets k p fs ≡ true
 unfolding meets
 need-meets k p fs e w = rw (e, eq-eqb p p refl, eq-eqb (length fs) (length fs) refl, w)
+
+-- what a well written form of two parts is
+well-both : (k : ℕ) (a b : Written) (fs : List ℕ) → wellWritten (both k a b fs) ≡ true → (meets k 2 fs ≡ true) × (wellWritten a ≡ true) × (wellWritten b ≡ true)
+unfolding wellWritten
+well-both k a b fs e =
+    let g = halves (meets k 2 fs) (wellWritten a && wellWritten b) e in
+    let w = halves (wellWritten a) (wellWritten b) (g .1) in
+    (g .0, w .0, w .1)
 
 -- an operator has at most two parts and two fields, and its code is a name's
 record Small (k : ℕ) (n : Need) : Type 0 where
@@ -96,13 +116,12 @@ form-read (over k a fs) rest (suc fuel) e h =
     ∙ rw (append-assoc (tokensOf a) (closing fs) rest, form-read a (closing fs ++ rest) fuel (g .1) (omega arith)) (formed-read (over k a) fs rest (m .1))
 form-read (both k a b fs) rest zero e h = absurd (not-suc-le-zero h)
 form-read (both k a b fs) rest (suc fuel) e h =
-    let g = halves (meets k 2 fs) (wellWritten a && wellWritten b) e in
-    let w = halves (wellWritten a) (wellWritten b) (g .1) in
-    let m = meets-need k 2 fs (g .0) in
+    let w = well-both k a b fs e in
+    let m = meets-need k 2 fs (w .0) in
     let l = length-append (tokensOf a ++ tokensOf b) (closing fs) in
     let n = length-append (tokensOf a) (tokensOf b) in
     open-read (formIn fuel) k (needs 2 (length fs)) (tokensOf a ++ tokensOf b ++ closing fs ++ rest) (m .0)
-    ∙ rw (append-assoc (tokensOf a ++ tokensOf b) (closing fs) rest, append-assoc (tokensOf a) (tokensOf b) (closing fs ++ rest), form-read a (tokensOf b ++ (closing fs ++ rest)) fuel (w .0) (omega arith), form-read b (closing fs ++ rest) fuel (w .1) (omega arith))
+    ∙ rw (append-assoc (tokensOf a ++ tokensOf b) (closing fs) rest, append-assoc (tokensOf a) (tokensOf b) (closing fs ++ rest), form-read a (tokensOf b ++ (closing fs ++ rest)) fuel (w .1) (omega arith), form-read b (closing fs ++ rest) fuel (w .2) (omega arith))
     (formed-read (both k a b) fs rest (m .1))
 
 -- ---- write after read
@@ -243,9 +262,8 @@ rows-length (over k a fs) e =
     let g = halves (meets k 1 fs) (wellWritten a) e in
     omega (arith, length-append (rowsOf a) (rowOf k fs), row-length k 1 fs (g .0), rows-length a (g .1))
 rows-length (both k a b fs) e =
-    let g = halves (meets k 2 fs) (wellWritten a && wellWritten b) e in
-    let w = halves (wellWritten a) (wellWritten b) (g .1) in
-    omega (arith, length-append (rowsOf a ++ rowsOf b) (rowOf k fs), length-append (rowsOf a) (rowsOf b), row-length k 2 fs (g .0), rows-length a (w .0), rows-length b (w .1))
+    let w = well-both k a b fs e in
+    omega (arith, length-append (rowsOf a ++ rowsOf b) (rowOf k fs), length-append (rowsOf a) (rowsOf b), row-length k 2 fs (w .0), rows-length a (w .1), rows-length b (w .2))
 
 -- the forms on a stack, the last first, after one more of so many parts
 abbrev put : ℕ → ℕ → List ℕ → List Written → List Written
@@ -293,12 +311,11 @@ rows-stacked (over k a fs) l s e =
     ∙ rows-stacked a (rowOf k fs ++ l) s (g .1)
     ∙ meets-stacked k 1 fs l (a ∷ s) (g .0)
 rows-stacked (both k a b fs) l s e =
-    let g = halves (meets k 2 fs) (wellWritten a && wellWritten b) e in
-    let w = halves (wellWritten a) (wellWritten b) (g .1) in
+    let w = well-both k a b fs e in
     ap (λ x. stacked x s) (append-assoc (rowsOf a ++ rowsOf b) (rowOf k fs) l ∙ append-assoc (rowsOf a) (rowsOf b) (rowOf k fs ++ l))
-    ∙ rows-stacked a (rowsOf b ++ (rowOf k fs ++ l)) s (w .0)
-    ∙ rows-stacked b (rowOf k fs ++ l) (a ∷ s) (w .1)
-    ∙ meets-stacked k 2 fs l (b ∷ a ∷ s) (g .0)
+    ∙ rows-stacked a (rowsOf b ++ (rowOf k fs ++ l)) s (w .1)
+    ∙ rows-stacked b (rowOf k fs ++ l) (a ∷ s) (w .2)
+    ∙ meets-stacked k 2 fs l (b ∷ a ∷ s) (w .0)
 
 pub rows-determine : (a b : Written) → wellWritten a ≡ true → wellWritten b ≡ true → rowsOf a ≡ rowsOf b → a ≡ b
 rows-determine a b e f q =
@@ -311,10 +328,6 @@ abbrev validToken : Token → Bool
 validToken (begin k) = ltb k nameCount
 validToken (item v) = leb v dash
 validToken end = true
-
-every-append : {A : Type 0} (p : A → Bool) (l m : List A) → every p l ≡ true → every p m ≡ true → every p (l ++ m) ≡ true
-every-append p [] m e f = f
-every-append p (x ∷ l) m e f = let h = halves (p x) (every p l) e in joined (h .0) (every-append p l m (h .1) f)
 
 close-valid : (fs : List ℕ) → every isWord fs ≡ true → every validToken (closing fs) ≡ true
 close-valid [] e = refl
@@ -336,9 +349,8 @@ tokens-valid (over k a fs) e =
     let g = halves (meets k 1 fs) (wellWritten a) e in
     meets-valid k 1 fs (tokensOf a) (g .0) (tokens-valid a (g .1))
 tokens-valid (both k a b fs) e =
-    let g = halves (meets k 2 fs) (wellWritten a && wellWritten b) e in
-    let w = halves (wellWritten a) (wellWritten b) (g .1) in
-    meets-valid k 2 fs (tokensOf a ++ tokensOf b) (g .0) (every-append validToken (tokensOf a) (tokensOf b) (tokens-valid a (w .0)) (tokens-valid b (w .1)))
+    let w = well-both k a b fs e in
+    meets-valid k 2 fs (tokensOf a ++ tokensOf b) (w .0) (every-append validToken (tokensOf a) (tokensOf b) (tokens-valid a (w .1)) (tokens-valid b (w .2)))
 
 pub forms-length : (w : Written) → 2 * formsIn w ≤ length (tokensOf w)
 unfolding formsIn tokensOf
@@ -380,13 +392,6 @@ written-count (combine o a b) = rw (written-count a, written-count b)
 written-count (role v r) = refl
 written-count (all t) = refl
 written-count (select c b) = rw (written-count c, written-count b)
-
-every-parts : {A : Type 0} (p : A → Bool) (l m : List A) → every p (l ++ m) ≡ true → (every p l ≡ true) × (every p m ≡ true)
-every-parts p [] m e = (refl, e)
-every-parts p (x ∷ l) m e =
-    let h = halves (p x) (every p (l ++ m)) e in
-    let r = every-parts p l m (h .1) in
-    (joined (h .0) (r .0), r .1)
 
 -- a row of words meets its operator's need
 row-meets : (o : Operator) (x y : ℕ) → every isWord (rowWords o x y) ≡ true → meets (codeOf o) (length ((shapeOf o) .parts)) (take ((shapeOf o) .fields) (x ∷ y ∷ [])) ≡ true

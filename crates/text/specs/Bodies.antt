@@ -118,8 +118,7 @@ unfoldable pub formIn : ℕ → List Token → Option Formed
 formIn zero ts = none
 formIn (suc fuel) ts = openedIn (λ rest. formIn fuel rest) ts
 
--- ---- a form of a body, as the text has it
-
+-- a form of a body, as the text has it
 unfoldable pub writtenOf : {s : Sort} → Form s → Written
 writtenOf (compare o a b) = both (codeOf (comparing o)) (writtenOf a) (writtenOf b) []
 writtenOf (negate a) = over (codeOf negating) (writtenOf a) []
