@@ -17,7 +17,7 @@ use Rattle.meaning.specs.Lists.{every, keep, place}
 use Rattle.meaning.specs.Limits.{cellCount, maxObjects, validId, fitsWord}
 use Rattle.meaning.specs.Schema.{Schema, knownType, knownRelationship, cellsOf, under, sourceType, targetType}
 use Rattle.meaning.specs.Register.{Object, Link, Register, objectKey, linkKey, objectAt, present, isUnder, cellAt, sameLink, hasLink, isZero, objectFits, linkFits}
-use Rattle.meaning.specs.Events.{Event, insert, delete, set, join, part, special, general, Lent, linkOf, newObject, clearedFrom, withCell, withType, withHigherType, amended, apply, Check, _when_, firstMet, linked, needsType, typeNeeded, strictlyAbove, strictlyUnder, hasCell, checks, eventRefusal}
+use Rattle.meaning.specs.Events.{Event, insert, delete, set, join, part, special, general, Lent, linkOf, newObject, clearedFrom, withCell, withType, withHigherType, amended, apply, Check, _when_, firstMet, linked, needsType, typeNeeded, strictlyAbove, strictlyUnder, hasCell, checks, eventRefusal, knownEvent}
 use Rattle.meaning.specs.Reach.{subject, linkNamed, joins, parts, sets, insertsInto, specialisesInto, deletesFrom, generalisesFrom}
 use Rattle.meaning.proofs.Lists.{_∈_, Ascending, not-sub, decide, first-absent, first-keep, first-map, every-drop, every-take, every-append, every-replicate, every-set, holds-some, cond-yes, cond-no, any-none, keep-in, keep-from, length-keep, ascending-keep, ascending-map}
 use Rattle.meaning.proofs.Order.{Before, same-refl, same-swap, first-place, length-place, place-from, place-other, place-has, place-ascending}
@@ -54,7 +54,7 @@ EventFits S g (special id t) = T (strictlyAbove S g id t)
 EventFits S g (general id t) = T (strictlyUnder S g id t)
 
 pub event-fits : (S : Schema) (lent : Lent) (g : Register) (e : Event) → eventRefusal S lent g e ≡ none → EventFits S g e
-unfolding checks
+unfolding checks knownEvent
 event-fits S lent g (insert id t) ok = tt
 event-fits S lent g (delete id) ok = tt
 event-fits S lent g (set id k v) ok = tt
@@ -229,7 +229,7 @@ data Fate (S : Schema) (g h : Register) (x : ℕ) : Event → Type 0 where
 
 module _ (S : Schema) (schema-fits : SchemaFits S) (lent : Lent) (g : Register) (fits : RegisterFits S g) where
   fate : (e : Event) → eventRefusal S lent g e ≡ none → (x : ℕ) → Fate S g (apply S e g) x e
-  unfolding apply checks strictlyAbove strictlyUnder hasCell objectAt
+  unfolding apply checks knownEvent strictlyAbove strictlyUnder hasCell objectAt
   fate (insert id t) ok x =
       let c = clear S lent g (insert id t) ok in
       let valid = both (validId id) (knownType S t) (c .0) in
@@ -324,7 +324,7 @@ module _ (S : Schema) (schema-fits : SchemaFits S) (lent : Lent) (g : Register) 
 
   -- a link holds its ends in their types: refusal 12
   link-holds : (e : Event) → eventRefusal S lent g e ≡ none → (l : Link) → l ∈ g .links → Leaves e (l .source) (sourceType S (l .relationship)) × Leaves e (l .target) (targetType S (l .relationship))
-  unfolding checks linked needsType typeNeeded
+  unfolding checks knownEvent linked needsType typeNeeded
   link-holds (insert id t) ok l m = ((tt, tt), (tt, tt))
   link-holds (delete id) ok l m =
       let n = or-no (eqb (l .source) id) (eqb (l .target) id) (any-none (λ l. eqb (l .source) id || eqb (l .target) id) (clear S lent g (delete id) ok .1 .1 .0) m) in
@@ -371,7 +371,7 @@ module _ (S : Schema) (schema-fits : SchemaFits S) (lent : Lent) (g : Register) 
   links-ascend-after (general id t) = fits .links-ascend
 
   new-link-fits : (r a b : ℕ) → eventRefusal S lent g (join r a b) ≡ none → T (linkFits S (apply S (join r a b) g) (linkOf r a b))
-  unfolding apply checks isUnder objectAt
+  unfolding apply checks knownEvent isUnder objectAt
   new-link-fits r a b ok =
       let c = clear S lent g (join r a b) ok in
       link-whole S (apply S (join r a b) g) (linkOf r a b)
@@ -452,7 +452,7 @@ module _ (S : Schema) (schema-fits : SchemaFits S) (lent : Lent) (g : Register) 
 
   -- only an absent object is inserted
   pub insert-absent : (e : Event) → eventRefusal S lent g e ≡ none → (x t : ℕ) → T (insertsInto S t g e && eqb (subject e) x) → T (not (present g x))
-  unfolding checks
+  unfolding checks knownEvent
   insert-absent (insert id s) ok x t i =
       subst (λ y. T (not (present g y))) (eqb-yes (and-yes (under S s t) (eqb id x) i .1)) (clear S lent g (insert id s) ok .1 .0)
   insert-absent (delete id) ok x t i = absurd i
@@ -479,7 +479,7 @@ module _ (S : Schema) (schema-fits : SchemaFits S) (lent : Lent) (g : Register) 
 
   -- the limits on rows
   pub objects-limit : (e : Event) → eventRefusal S lent g e ≡ none → length (g .objects) ≤ 1024 → length ((apply S e g) .objects) ≤ 1024
-  unfolding apply checks
+  unfolding apply checks knownEvent
   objects-limit (insert id t) ok h =
       let room = leb-no {a = min maxObjects (lent .objects)} {b = length (g .objects)} (clear S lent g (insert id t) ok .1 .1 .0) in
       let grown = length-place objectKey (newObject id t) (g .objects) in

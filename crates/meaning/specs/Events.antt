@@ -107,42 +107,52 @@ strictlyUnder S g id t = holds (λ o. under S (o .type) t && not (eqb t (o .type
 unfoldable pub hasCell : Schema → Register → ℕ → ℕ → Bool
 hasCell S g id k = holds (λ o. ltb k (cellsOf S (o .type))) (objectAt g id)
 
+-- 7: "kind, type, relationship unknown; cell not 0 to 7; id not 1 to 65,535": what the event says by itself is known
+unfoldable pub knownEvent : Schema → Event → Bool
+knownEvent S (insert id t) = validId id && knownType S t
+knownEvent S (delete id) = validId id
+knownEvent S (set id k v) = validId id && ltb k cellCount && fitsWord v
+knownEvent S (join r a b) = knownRelationship S r && validId a && validId b
+knownEvent S (part r a b) = knownRelationship S r && validId a && validId b
+knownEvent S (special id t) = validId id && knownType S t
+knownEvent S (general id t) = validId id && knownType S t
+
 -- The refusals that an event can meet, in the table's order.
 unfoldable pub checks : Schema → Lent → Register → Event → List Check
 checks S lent g (insert id t) =
-    (7 when not (validId id && knownType S t))
+    (7 when not (knownEvent S (insert id t)))
     ∷ (9 when present g id)
     ∷ (13 when leb (min maxObjects (lent .objects)) (length (g .objects)))
     ∷ []
 checks S lent g (delete id) =
-    (7 when not (validId id))
+    (7 when not (knownEvent S (delete id)))
     ∷ (8 when not (present g id))
     ∷ (12 when linked g id)
     ∷ []
 checks S lent g (set id k v) =
-    (7 when not (validId id && ltb k cellCount && fitsWord v))
+    (7 when not (knownEvent S (set id k v)))
     ∷ (8 when not (present g id))
     ∷ (11 when not (hasCell S g id k))
     ∷ []
 checks S lent g (join r a b) =
-    (7 when not (knownRelationship S r && validId a && validId b))
+    (7 when not (knownEvent S (join r a b)))
     ∷ (8 when not (present g a && present g b))
     ∷ (9 when hasLink g (linkOf r a b))
     ∷ (11 when not (isUnder S g a (sourceType S r) && isUnder S g b (targetType S r)))
     ∷ (13 when leb (min maxLinks (lent .links)) (length (g .links)))
     ∷ []
 checks S lent g (part r a b) =
-    (7 when not (knownRelationship S r && validId a && validId b))
+    (7 when not (knownEvent S (part r a b)))
     ∷ (8 when not (present g a && present g b))
     ∷ (10 when not (hasLink g (linkOf r a b)))
     ∷ []
 checks S lent g (special id t) =
-    (7 when not (validId id && knownType S t))
+    (7 when not (knownEvent S (special id t)))
     ∷ (8 when not (present g id))
     ∷ (11 when not (strictlyAbove S g id t))
     ∷ []
 checks S lent g (general id t) =
-    (7 when not (validId id && knownType S t))
+    (7 when not (knownEvent S (general id t)))
     ∷ (8 when not (present g id))
     ∷ (11 when not (strictlyUnder S g id t))
     ∷ (12 when typeNeeded S g id t)

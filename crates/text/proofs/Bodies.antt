@@ -21,6 +21,7 @@ use Rattle.tables.proofs.Readings.{code-of, operator-of}
 use Rattle.lexical.proofs.Runs.{both as halves}
 use Rattle.text.specs.Names.{firstOperator, nameCount}
 use Rattle.text.specs.Tokens.{Token, begin, item, end, dash, isWord}
+use Rattle.text.proofs.Tokens.{validToken}
 use Rattle.text.specs.Bodies.{Written, leaf, over, both, Need, needOf, need, meets, wellWritten, formsIn, padded, rowOf, rowsOf, closing, tokensOf, Closed, closeIn, Formed, formedBy, partsIn, needNamed, openedIn, formIn, writtenOf}
 
 joined : {a b : Bool} → a ≡ true → b ≡ true → (a && b) ≡ true
@@ -324,12 +325,7 @@ rows-determine a b e f q =
 
 -- ---- tokens
 
-abbrev validToken : Token → Bool
-validToken (begin k) = ltb k nameCount
-validToken (item v) = leb v dash
-validToken end = true
-
-close-valid : (fs : List ℕ) → every isWord fs ≡ true → every validToken (closing fs) ≡ true
+pub close-valid : (fs : List ℕ) → every isWord fs ≡ true → every validToken (closing fs) ≡ true
 close-valid [] e = refl
 close-valid (v ∷ fs) e =
     let h = halves (isWord v) (every isWord fs) e in

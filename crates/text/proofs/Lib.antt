@@ -2,3 +2,4 @@
 pub mod Names
 pub mod Tokens
 pub mod Bodies
+pub mod Entries

@@ -184,7 +184,7 @@ read-item v rest h e = go (eqb v dash) refl
     go false k =
         let word : v < dash = omega (arith, eqb-false v dash k) in
         number-item (decimalOf (signed v) ++ rest) (record { value = signed v; size = length (decimalOf (signed v)) })
-        (read-written (signed v) rest (lt-ltb (mag (signed v)) (2 ^ 31) (signed-fits v word)) (e .digit))
+        (read-written (signed v) rest (lt-ltb (mag (signed v)) (2 ^ 31) (signed-fits v)) (e .digit))
         ∙ ap (λ (w : ℕ). some (lexed (item w) (suc (length (decimalOf (signed v)))))) (word-signed v word)
 
 token-read : (t : Token) (rest : List ℕ) → validToken t ≡ true → Ends rest → tokenIn (spellToken t ++ rest) ≡ some (lexed t (length (spellToken t)))

@@ -11,7 +11,7 @@ use Rattle.rows.specs.Rows.{wordAt}
 use Rattle.tables.specs.Columns.{noParent}
 use Rattle.text.specs.Names.{typeName, relationshipName, ruleName, objectName, linkName, firstEvent}
 use Rattle.text.specs.Tokens.{Token, begin, item, end, dash, isWord, Bracket, spellBracket, bracketIn}
-use Rattle.text.specs.Bodies.{Written, formsIn, padded, rowsOf, closing, tokensOf, Formed, formIn}
+use Rattle.text.specs.Bodies.{Written, formsIn, padded, rowsOf, closing, tokensOf, formIn}
 
 -- A line: a row of words of a section (0 types, 1 relationships, 3 objects, 4 links, 5 events), or a rule (2).
 pub data Entry : Type 0 where

@@ -1,0 +1,2 @@
+-- What the functions over a line's bytes answer, by the definitions of the text.
+pub mod Brackets
