@@ -56,7 +56,7 @@ module _ (rows : ℕ → BodyRow) where
   words-snoc o n = ap (wordsFrom rows o) (sym (add-one n)) ∙ words-split o n 1
 
 -- lists put together of parts of the same lengths have the same parts
-halves : {A : Type 0} (a b c d : List A) → length a ≡ length c → a ++ b ≡ c ++ d → (a ≡ c) × (b ≡ d)
+pub halves : {A : Type 0} (a b c d : List A) → length a ≡ length c → a ++ b ≡ c ++ d → (a ≡ c) × (b ≡ d)
 halves a b c d l e = (
   sym (take-at a b (length c) l) ∙ ap (take (length c)) e ∙ take-at c d (length c) refl,
   sym (drop-at a b (length c) l) ∙ ap (drop (length c)) e ∙ drop-at c d (length c) refl,

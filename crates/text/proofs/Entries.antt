@@ -186,7 +186,7 @@ zeros-are (x ∷ l) h = let (z, more) = both (eqb x 0) (allZero l) h in ap₂ (�
 
 -- words padded to a width
 module _ (width : ℕ) (is : List ℕ) (fits : length is ≤ width) where
-  padded-length : length (padded width is) ≡ width
+  pub padded-length : length (padded width is) ≡ width
   padded-length = length-append is (replicate (width - length is) 0) ∙ ap (λ n. length is + n) (length-replicate (width - length is) 0) ∙ omega (arith, fits)
 
   padded-words : every isWord is ≡ true → every isWord (padded width is) ≡ true
@@ -433,7 +433,7 @@ module _ (before : List Entry) (s : ℕ) (words : List ℕ) (P : ℕ → Type 0)
       step true q h = subst P (sym (eqb-true s n q)) (here h)
       step false q h = on h
 
-  by-section : rowFits before s words ≡ true → P s
+  pub by-section : rowFits before s words ≡ true → P s
   by-section h =
       branch typeName (typeWords words) _ h types
       (λ h. branch relationshipName (plainWords 2 words) _ h relationships

@@ -3,3 +3,5 @@ pub mod Names
 pub mod Tokens
 pub mod Bodies
 pub mod Entries
+pub mod Texts
+pub mod Determined
