@@ -1,10 +1,10 @@
 -- Lent tables of a book, a register and a batch as the lines of a text, and what the writer answers for them.
-use Prim.Native.Nat.{ℕ, _*_}
+use Prim.Native.Nat.{ℕ}
 use mathlib.Core.Bool.{false, not, cond}
 use mathlib.Core.List.{List, [], _∷_, _++_}
 use mathlib.Core.Option.{Option, none, some}
 use lib.Dec.{ltb}
-use lib.ListN.{length, take, drop}
+use lib.ListN.{length, drop}
 use Rattle.meaning.specs.Lists.{firstOf, firstFault}
 use Rattle.meaning.specs.Limits.{maxEvents}
 use Rattle.meaning.specs.Events.{Refusal, knownEvent}
@@ -19,7 +19,7 @@ use Rattle.text.specs.Texts.{maxText, spelled}
 
 -- the words of a row
 abbrev pub wordsAt : List ℕ → ℕ → ℕ → List ℕ
-wordsAt t width i = take width (drop (i * width) t)
+wordsAt t width i = readRows (wordAt t width i) width
 
 -- the used rows of a table as lines of a section
 abbrev pub rowEntries : ℕ → List ℕ → ℕ → ℕ → List Entry
