@@ -317,5 +317,5 @@ pub fn body(seed: u32, bodies: &mut [u32], rule: u32, context: u32) -> Draft {
         count: 1,
         level: 1,
     };
-    form(empty, bodies, at, TRUTH, 3 + draw::below(seed, 62))
+    form(empty, bodies, at, TRUTH, draw::from(seed, 3, 62))
 }

@@ -1,4 +1,4 @@
-// The generator: Marsaglia's xorshift of 32 bits. A state is drawn from, and then moved on by `next`.
+// The generator: Marsaglia's xorshift of 32 bits. A state is moved on by `next`, and then drawn from.
 pub fn next(seed: u32) -> u32 {
     let a = seed ^ (seed << 13);
     let b = a ^ (a >> 17);
@@ -11,6 +11,11 @@ pub fn below(seed: u32, n: u32) -> u32 {
         return 0;
     }
     (seed >> 7) % n
+}
+
+// A number of the n numbers from a least one on.
+pub fn from(seed: u32, least: u32, n: u32) -> u32 {
+    std::num::wrapping_add_u32(least, below(seed, n))
 }
 
 // A signed value: mostly near 0, now and then the greatest or the least that a cell takes.

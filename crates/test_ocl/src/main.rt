@@ -63,9 +63,15 @@ fn broken_at(rule: u32, id: u32) -> Said {
     }
 }
 
+// A drawn context type, more often the one with types under it.
+fn draw_context(seed: u32) -> u32 {
+    let t = draw::below(seed, 8);
+    if t < register::TYPES { t } else { 0 }
+}
+
 // A rule of a drawn context type and body. Answers the state of the generator after it.
 fn draw_rule(seed: u32, rules: &mut [u32], bodies: &mut [u32], rule: u32, t: &mut [u32]) -> u32 {
-    let context = draw::below(seed, register::TYPES);
+    let context = draw_context(seed);
     let d = book::body(draw::next(seed), bodies, rule, context);
     words::put_word(rules, 2, rule, 0, context);
     words::put_word(rules, 2, rule, 1, d.rows);
@@ -96,6 +102,61 @@ fn count_forms(bodies: &[u32], rule: u32, rows: u32, t: &mut [u32]) {
     }
 }
 
+// The answer about one rule and one id, beside what it is to be.
+fn one_pair(
+    n: Counts,
+    types: &[u32],
+    relationships: &[u32],
+    rules: &[u32],
+    bodies: &[u32],
+    objects: &[u32],
+    links: &[u32],
+    rule: u32,
+    id: u32,
+    plainly: Said,
+    t: &mut [u32],
+) {
+    let proved = words_of(full::check_rule(
+        n,
+        types,
+        relationships,
+        rules,
+        bodies,
+        objects,
+        links,
+        rule,
+        id,
+    ));
+    count_if(t, tally::WRONG, !same(plainly, proved));
+}
+
+// One rule at one row of the objects. Answers the id if it is broken there, else 0.
+fn one_object(
+    n: Counts,
+    types: &[u32],
+    relationships: &[u32],
+    rules: &[u32],
+    bodies: &[u32],
+    objects: &[u32],
+    links: &[u32],
+    w: &[u64],
+    tree: &[u32],
+    rule: u32,
+    row: u32,
+    t: &mut [u32],
+) -> u32 {
+    let id = word(objects, 10, row, 0);
+    let under = world::has(world::all(w, word(rules, 2, rule, 0)), row);
+    let broken = under && !plain::holds(tree, w, word(rules, 2, rule, 1), row);
+    let at = if broken { id } else { 0 };
+    let plainly = broken_at(rule, at);
+    one_pair(n, types, relationships, rules, bodies, objects, links, rule, id, plainly, t);
+    count(t, tally::PAIRS);
+    count_if(t, tally::UNDER, under);
+    count_if(t, tally::BROKEN, broken);
+    at
+}
+
 // One rule at every object, last first. Answers the lowest id at which it is broken, 0 if it holds.
 fn one_rule(
     n: Counts,
@@ -110,25 +171,56 @@ fn one_rule(
     t: &mut [u32],
 ) -> u32 {
     let rows = word(rules, 2, rule, 1);
-    let context = world::all(w, word(rules, 2, rule, 0));
     let mut tree = [0u32; 320];
     plain::plant(&mut tree, bodies, rule, rows);
     count_forms(bodies, rule, rows, t);
     let mut lowest: u32 = 0;
-    let mut left = n.objects;
-    while 0 < left {
-        left -= 1;
-        let id = word(objects, 10, left, 0);
-        let under = world::has(context, left);
-        let broken = under && !plain::holds(&tree, w, rows, left);
-        if broken {
+    let mut row = n.objects;
+    while 0 < row {
+        row -= 1;
+        let id = one_object(
+            n,
+            types,
+            relationships,
+            rules,
+            bodies,
+            objects,
+            links,
+            w,
+            &tree,
+            rule,
+            row,
+            t,
+        );
+        if id != 0 {
             lowest = id;
         }
-        count(t, tally::PAIRS);
-        count_if(t, tally::UNDER, under);
-        count_if(t, tally::BROKEN, broken);
     }
     lowest
+}
+
+// An object and a rule that are not there: nothing is broken at the one, and the other is refused.
+fn absent(
+    n: Counts,
+    types: &[u32],
+    relationships: &[u32],
+    rules: &[u32],
+    bodies: &[u32],
+    objects: &[u32],
+    links: &[u32],
+    t: &mut [u32],
+) {
+    let none = broken_at(0, 0);
+    let refused = Said {
+        number: 2,
+        first: 4,
+        second: RULES,
+    };
+    let id = word(objects, 10, 0, 0);
+    one_pair(n, types, relationships, rules, bodies, objects, links, 0, 65535, none, t);
+    one_pair(n, types, relationships, rules, bodies, objects, links, RULES, id, refused, t);
+    count(t, tally::ABSENT);
+    count(t, tally::ABSENT);
 }
 
 // Every rule at every object, last first. Answers what a full check is to say.
@@ -190,6 +282,7 @@ fn compare(
         objects,
         links,
     ));
+    absent(n, types, relationships, rules, bodies, objects, links, t);
     count(t, tally::BOOKS);
     count_if(t, tally::ACCEPTED, proved.number == 0);
     count_if(t, tally::WRONG, !same(plainly, proved));
@@ -206,7 +299,7 @@ fn one_book(seed: u32, t: &mut [u32]) -> u32 {
     let mut objects = [0u32; 140];
     let mut links = [0u32; 72];
     let a = draw_rules(seed, &mut rules, &mut bodies, t);
-    let count = 6 + draw::below(a, 9);
+    let count = draw::from(a, 6, 9);
     let b = register::objects(draw::next(a), &mut objects, &types, count);
     let l = register::links(
         draw::next(b),

@@ -31,37 +31,44 @@ pub fn binds(code: u32) -> bool {
     }
 }
 
-// One row of the tree: code, x and y as in the body, and the rows of its first and its second part, taken from the stack of forms that
-// belong to no other form yet. Answers how many stand on the stack then.
-fn hang(tree: &mut [u32], stack: &mut [u32], top: u32, row: u32, code: u32) -> u32 {
-    let taken = parts(code);
-    let last = get(stack, down(top) as usize);
-    let before = get(stack, down(down(top)) as usize);
-    let mut left = top;
-    if taken == 1 {
-        put_word(tree, 5, row, 3, last);
-        left = down(top);
+// How many forms are left on the stack once a form has taken its parts.
+fn left(top: u32, taken: u32) -> u32 {
+    match taken {
+        0 => top,
+        1 => down(top),
+        _ => down(down(top)),
     }
-    if taken == 2 {
-        put_word(tree, 5, row, 3, before);
-        put_word(tree, 5, row, 4, last);
-        left = down(down(top));
-    }
-    put(stack, left as usize, row);
-    up(left)
 }
 
-// The tree of a rule's body of so many rows.
+// The rows of a form's parts, put in its row of the tree: the last forms on the stack, of those that belong to no other form yet. The
+// form itself takes their place there. Answers how many forms are on the stack then.
+fn hang(tree: &mut [u32], stack: &mut [u32], top: u32, row: u32, code: u32) -> u32 {
+    let rest = left(top, parts(code));
+    let first = get(stack, rest as usize);
+    let second = get(stack, down(top) as usize);
+    put_word(tree, 5, row, 3, first);
+    put_word(tree, 5, row, 4, second);
+    put(stack, rest as usize, row);
+    up(rest)
+}
+
+// Copies code, x and y of a body's row to the tree. Answers the code.
+fn copy(tree: &mut [u32], bodies: &[u32], rule: u32, row: u32) -> u32 {
+    let from = (rule % 64) * 64 + row % 64;
+    let code = word(bodies, 4, from, 0);
+    put_word(tree, 5, row, 0, code);
+    put_word(tree, 5, row, 1, word(bodies, 4, from, 1));
+    put_word(tree, 5, row, 2, word(bodies, 4, from, 2));
+    code
+}
+
+// The tree of a rule's body of so many rows: code, x, y, and the rows of the first and the second part.
 pub fn plant(tree: &mut [u32], bodies: &[u32], rule: u32, rows: u32) {
     let mut stack = [0u32; 64];
     let mut top: u32 = 0;
     let mut row: u32 = 0;
     while row < rows {
-        let from = (rule % 64) * 64 + row % 64;
-        let code = word(bodies, 4, from, 0);
-        put_word(tree, 5, row, 0, code);
-        put_word(tree, 5, row, 1, word(bodies, 4, from, 1));
-        put_word(tree, 5, row, 2, word(bodies, 4, from, 2));
+        let code = copy(tree, bodies, rule, row);
         top = hang(tree, &mut stack, top, row, code);
         row += 1;
     }

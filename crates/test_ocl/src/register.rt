@@ -3,6 +3,7 @@
 // Types: 0; 1 and 2 under 0; 3 under 1; 4 by itself. Relationships: 0 from type 0 to itself, 1 from 1 to 4, 2 from 4 to 2, 3 from 2 to 1.
 use crate::draw;
 use crate::words::put_word;
+use crate::words::up;
 use crate::words::word;
 use crate::world::under;
 
@@ -18,15 +19,21 @@ pub fn relationships() -> [u32; 8] {
     [0, 0, 1, 4, 4, 2, 2, 1]
 }
 
-// The cells of an object: those that its type has are drawn, the others stay 0.
+// A cell's value: drawn where the type has the cell, else 0.
+fn cell(seed: u32, k: u32, count: u32) -> u32 {
+    if k < count {
+        return draw::value(seed);
+    }
+    0
+}
+
+// The cells of an object, of which its type has so many.
 fn cells(seed: u32, objects: &mut [u32], row: u32, count: u32) -> u32 {
     let mut s = seed;
     let mut k: u32 = 0;
     while k < 8 {
-        if k < count {
-            s = draw::next(s);
-            put_word(objects, 10, row, 2 + k, draw::value(s));
-        }
+        s = draw::next(s);
+        put_word(objects, 10, row, 2 + k, cell(s, k, count));
         k += 1;
     }
     s
@@ -37,7 +44,7 @@ fn step(seed: u32) -> u32 {
     if draw::below(seed, 3) == 0 {
         return 1;
     }
-    1 + draw::below(seed, 4000)
+    draw::from(seed, 1, 4000)
 }
 
 // So many objects with ascending ids. Answers the state of the generator after them.
@@ -94,7 +101,7 @@ pub struct Drawn {
     pub count: u32,
 }
 
-// One possible link, the next in ascending order: put in by chance, where it fits and there is room.
+// One more link by chance, where it is possible and there is room.
 fn link(
     from: Drawn,
     links: &mut [u32],
@@ -102,14 +109,15 @@ fn link(
     r: u32,
     source: u32,
     target: u32,
-    one_in: u32,
+    possible: bool,
+    sparse: u32,
 ) -> Drawn {
     let seed = draw::next(from.seed);
     let count = from.count;
-    if MOST_LINKS <= count {
+    if !possible || MOST_LINKS <= count {
         return Drawn { seed, count };
     }
-    if draw::below(seed, one_in) != 0 {
+    if draw::below(seed, rarity(r, sparse)) != 0 {
         return Drawn { seed, count };
     }
     put_word(links, 3, count, 0, r);
@@ -117,11 +125,11 @@ fn link(
     put_word(links, 3, count, 2, word(objects, 10, target, 0));
     Drawn {
         seed,
-        count: count + 1,
+        count: up(count),
     }
 }
 
-// Every possible link in ascending order, each by chance; none at all where sparse is 0.
+// Every link in ascending order, each possible one by chance; none at all where sparse is 0.
 pub fn links(
     seed: u32,
     links: &mut [u32],
@@ -138,9 +146,8 @@ pub fn links(
         let source = i / 16 % 16;
         let target = i % 16;
         let there = source < count && target < count && sparse != 0;
-        if there && fits(types, relationships, objects, r, source, target) {
-            so_far = link(so_far, links, objects, r, source, target, rarity(r, sparse));
-        }
+        let possible = there && fits(types, relationships, objects, r, source, target);
+        so_far = link(so_far, links, objects, r, source, target, possible, sparse);
         i += 1;
     }
     so_far

@@ -117,10 +117,8 @@ fn write_roles(world: &mut [u64], objects: &[u32], count: u32, links: &[u32], li
     let mut i: u32 = 0;
     while i < 128 {
         let id = word(objects, 10, i % 16, 0);
-        if i % 16 < count {
-            let set = reached(objects, count, links, link_count, i / 16, id);
-            write(world, 8 + (i as usize), set);
-        }
+        let set = reached(objects, count, links, link_count, i / 16, id);
+        write(world, 8 + (i as usize), set);
         i += 1;
     }
 }
