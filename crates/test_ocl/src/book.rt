@@ -14,7 +14,9 @@ use crate::world::under;
 ghost use Prim.Native.Nat.{_≤_};
 
 pub const TRUTH: u32 = 0;
+
 pub const NUMBER: u32 = 1;
+
 pub const COLLECTION: u32 = 2;
 
 // A form has a new variable only where there are fewer than this.
@@ -296,7 +298,13 @@ fn form(d: Draft, bodies: &mut [u32], at: Place, sort: u32, rows: u32) -> Draft 
     }
     let part = share(code, rest, on);
     let a = form(moved(d, on), bodies, inside(at), first_sort(code), part);
-    let b = form(a, bodies, beside(at, code, a.member), second_sort(code), rest - part);
+    let b = form(
+        a,
+        bodies,
+        beside(at, code, a.member),
+        second_sort(code),
+        rest - part,
+    );
     close(b, bodies, at.rule, code, a.member)
 }
 

@@ -14,7 +14,6 @@ use tally::count_if;
 use words::word;
 
 const BOOKS: u32 = 400;
-const RULES: u32 = 4;
 
 // An answer as numbers: 0 accepted, 1 broken, 2 refused; then its two values.
 struct Said {
@@ -81,10 +80,10 @@ fn draw_rule(seed: u32, rules: &mut [u32], bodies: &mut [u32], rule: u32, t: &mu
     draw::next(d.seed)
 }
 
-fn draw_rules(seed: u32, rules: &mut [u32], bodies: &mut [u32], t: &mut [u32]) -> u32 {
+fn draw_rules(seed: u32, rules: &mut [u32], bodies: &mut [u32], n: u32, t: &mut [u32]) -> u32 {
     let mut s = seed;
     let mut rule: u32 = 0;
-    while rule < RULES {
+    while rule < n {
         s = draw_rule(s, rules, bodies, rule, t);
         count(t, tally::RULES);
         rule += 1;
@@ -150,7 +149,19 @@ fn one_object(
     let broken = under && !plain::holds(tree, w, word(rules, 2, rule, 1), row);
     let at = if broken { id } else { 0 };
     let plainly = broken_at(rule, at);
-    one_pair(n, types, relationships, rules, bodies, objects, links, rule, id, plainly, t);
+    one_pair(
+        n,
+        types,
+        relationships,
+        rules,
+        bodies,
+        objects,
+        links,
+        rule,
+        id,
+        plainly,
+        t,
+    );
     count(t, tally::PAIRS);
     count_if(t, tally::UNDER, under);
     count_if(t, tally::BROKEN, broken);
@@ -214,11 +225,35 @@ fn absent(
     let refused = Said {
         number: 2,
         first: 4,
-        second: RULES,
+        second: n.rules,
     };
     let id = word(objects, 10, 0, 0);
-    one_pair(n, types, relationships, rules, bodies, objects, links, 0, 65535, none, t);
-    one_pair(n, types, relationships, rules, bodies, objects, links, RULES, id, refused, t);
+    one_pair(
+        n,
+        types,
+        relationships,
+        rules,
+        bodies,
+        objects,
+        links,
+        0,
+        65535,
+        none,
+        t,
+    );
+    one_pair(
+        n,
+        types,
+        relationships,
+        rules,
+        bodies,
+        objects,
+        links,
+        n.rules,
+        id,
+        refused,
+        t,
+    );
     count(t, tally::ABSENT);
     count(t, tally::ABSENT);
 }
@@ -261,6 +296,16 @@ fn all_rules(
     broken_at(lowest, id)
 }
 
+// Counts a book by the two answers of its full check.
+fn count_book(n: Counts, plainly: Said, proved: Said, t: &mut [u32]) {
+    count(t, tally::BOOKS);
+    count_if(t, tally::ACCEPTED, proved.number == 0);
+    count_if(t, tally::LATER, proved.number == 1 && 0 < proved.first);
+    count_if(t, tally::WRONG, !same(plainly, proved));
+    tally::add(t, tally::OBJECTS, n.objects);
+    tally::add(t, tally::LINKS, n.links);
+}
+
 // The full check and every pair of a book and a register.
 fn compare(
     n: Counts,
@@ -273,47 +318,32 @@ fn compare(
     t: &mut [u32],
 ) {
     let plainly = all_rules(n, types, relationships, rules, bodies, objects, links, t);
-    let proved = words_of(full::check(
-        n,
-        types,
-        relationships,
-        rules,
-        bodies,
-        objects,
-        links,
-    ));
+    let proved = words_of(full::check(n, types, relationships, rules, bodies, objects, links));
     absent(n, types, relationships, rules, bodies, objects, links, t);
-    count(t, tally::BOOKS);
-    count_if(t, tally::ACCEPTED, proved.number == 0);
-    count_if(t, tally::WRONG, !same(plainly, proved));
-    tally::add(t, tally::OBJECTS, n.objects);
-    tally::add(t, tally::LINKS, n.links);
+    count_book(n, plainly, proved, t);
 }
 
-// A drawn book and a drawn register. Answers the state of the generator after them.
-fn one_book(seed: u32, t: &mut [u32]) -> u32 {
+// A drawn register beside a book of so many rules. Answers the state of the generator after it.
+fn one_register(seed: u32, rules: &[u32], bodies: &[u32], rule_count: u32, t: &mut [u32]) -> u32 {
     let types = register::types();
     let relationships = register::relationships();
-    let mut rules = [0u32; 8];
-    let mut bodies = [0u32; 1024];
     let mut objects = [0u32; 140];
     let mut links = [0u32; 72];
-    let a = draw_rules(seed, &mut rules, &mut bodies, t);
-    let count = draw::from(a, 6, 9);
-    let b = register::objects(draw::next(a), &mut objects, &types, count);
+    let count = draw::from(seed, 6, 9);
+    let s = register::objects(draw::next(seed), &mut objects, &types, count);
     let l = register::links(
-        draw::next(b),
+        draw::next(s),
         &mut links,
         &types,
         &relationships,
         &objects,
         count,
-        draw::below(b, 5),
+        draw::below(s, 5),
     );
     let n = Counts {
         types: register::TYPES,
         relationships: register::RELATIONSHIPS,
-        rules: RULES,
+        rules: rule_count,
         objects: count,
         links: l.count,
     };
@@ -321,13 +351,22 @@ fn one_book(seed: u32, t: &mut [u32]) -> u32 {
         n,
         &types,
         &relationships,
-        &rules,
-        &bodies,
+        rules,
+        bodies,
         &objects,
         &links,
         t,
     );
     draw::next(l.seed)
+}
+
+// A drawn book of two to five rules, with a register. Answers the state of the generator after them.
+fn one_book(seed: u32, t: &mut [u32]) -> u32 {
+    let mut rules = [0u32; 10];
+    let mut bodies = [0u32; 1280];
+    let n = draw::from(seed, 2, 4);
+    let s = draw_rules(draw::next(seed), &mut rules, &mut bodies, n, t);
+    one_register(s, &rules, &bodies, n, t)
 }
 
 fn all_books(t: &mut [u32]) {
@@ -340,7 +379,7 @@ fn all_books(t: &mut [u32]) {
 }
 
 fn main() {
-    let mut t = [0u32; 36];
+    let mut t = [0u32; tally::LENGTH];
     all_books(&mut t);
     tally::print_counts(&t);
     tally::print_truths(&t);

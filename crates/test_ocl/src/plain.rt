@@ -1,12 +1,12 @@
 // The plain evaluator, from document 01's "Body forms". Every set is made whole before it is used, both parts of every form are
 // evaluated, and a quantifier looks at every member. A value is one word: a truth is 0 or 1, a number is its two's complement, and a set
 // is one bit for each object's row.
+use crate::words::down;
 use crate::words::get;
 use crate::words::put;
-use crate::words::word;
 use crate::words::put_word;
 use crate::words::up;
-use crate::words::down;
+use crate::words::word;
 use crate::world;
 
 // The rows that the variables stand for, variable 0 first.

@@ -8,7 +8,9 @@ use crate::words::word;
 use crate::world::under;
 
 pub const TYPES: u32 = 5;
+
 pub const RELATIONSHIPS: u32 = 4;
+
 pub const MOST_LINKS: u32 = 24;
 
 pub fn types() -> [u32; 10] {

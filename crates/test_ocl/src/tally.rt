@@ -5,18 +5,34 @@ use crate::words::put;
 use crate::words::up;
 
 pub const BOOKS: usize = 23;
+
 pub const ACCEPTED: usize = 24;
-pub const RULES: usize = 25;
-pub const OBJECTS: usize = 26;
-pub const LINKS: usize = 27;
-pub const PAIRS: usize = 28;
-pub const UNDER: usize = 29;
-pub const BROKEN: usize = 30;
-pub const ABSENT: usize = 31;
-pub const DEPTH: usize = 32;
-pub const SCOPE: usize = 33;
-pub const NAMED: usize = 34;
-pub const WRONG: usize = 35;
+
+pub const LATER: usize = 25;
+
+pub const RULES: usize = 26;
+
+pub const OBJECTS: usize = 27;
+
+pub const LINKS: usize = 28;
+
+pub const PAIRS: usize = 29;
+
+pub const UNDER: usize = 30;
+
+pub const BROKEN: usize = 31;
+
+pub const ABSENT: usize = 32;
+
+pub const DEPTH: usize = 33;
+
+pub const SCOPE: usize = 34;
+
+pub const NAMED: usize = 35;
+
+pub const WRONG: usize = 36;
+
+pub const LENGTH: usize = 37;
 
 // One more in a slot.
 pub fn count(tally: &mut [u32], slot: usize) {
@@ -52,7 +68,8 @@ fn line(name: &[u8], n: u32) {
 
 pub fn print_counts(t: &[u32]) {
     line(b"books", get(t, BOOKS));
-    line(b"accepted", get(t, ACCEPTED));
+    line(b"books accepted", get(t, ACCEPTED));
+    line(b"books first broken in a later rule", get(t, LATER));
     line(b"rules", get(t, RULES));
     line(b"objects", get(t, OBJECTS));
     line(b"links", get(t, LINKS));
