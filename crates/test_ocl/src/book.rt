@@ -1,10 +1,12 @@
 // Drawn rules, well typed by the way they are made. A form gets a number of rows that it may use at most, and hands on what it leaves.
 use crate::draw;
 use crate::plain::binds;
+use crate::plain::members;
 use crate::plain::parts;
 use crate::register::TYPES;
 use crate::register::relationships;
 use crate::register::types;
+use crate::tally;
 use crate::words::down;
 use crate::words::greater;
 use crate::words::put_word;
@@ -13,32 +15,32 @@ use crate::words::word;
 use crate::world::under;
 ghost use Prim.Native.Nat.{_≤_};
 
-pub const TRUTH: u32 = 0;
+const TRUTH: u32 = 0;
 
-pub const NUMBER: u32 = 1;
+const NUMBER: u32 = 1;
 
-pub const COLLECTION: u32 = 2;
+const COLLECTION: u32 = 2;
 
 // A form has a new variable only where there are fewer than this.
 const MOST_VARIABLES: u32 = 6;
 
 // A body as far as it is drawn: the state of the generator, its rows, the type of the members of the last collection, the deepest level
 // of forms, the most variables that a form could name, and one bit for each variable that is named.
-pub struct Draft {
-    pub seed: u32,
-    pub rows: u32,
-    pub member: u32,
-    pub depth: u32,
-    pub scope: u32,
-    pub named: u64,
+struct Draft {
+    seed: u32,
+    rows: u32,
+    member: u32,
+    depth: u32,
+    scope: u32,
+    named: u64,
 }
 
 // Where a form stands: its rule, the types of its variables, how many they are, and how many forms are around it.
-pub struct Place {
-    pub rule: u32,
-    pub types: [u32; 8],
-    pub count: u32,
-    pub level: u32,
+struct Place {
+    rule: u32,
+    types: [u32; 8],
+    count: u32,
+    level: u32,
 }
 
 fn type_of(at: Place, v: u32) -> u32 {
@@ -309,7 +311,7 @@ fn form(d: Draft, bodies: &mut [u32], at: Place, sort: u32, rows: u32) -> Draft 
 }
 
 // A rule's body over a context type.
-pub fn body(seed: u32, bodies: &mut [u32], rule: u32, context: u32) -> Draft {
+fn body(seed: u32, bodies: &mut [u32], rule: u32, context: u32) -> Draft {
     let empty = Draft {
         seed,
         rows: 0,
@@ -326,4 +328,44 @@ pub fn body(seed: u32, bodies: &mut [u32], rule: u32, context: u32) -> Draft {
         level: 1,
     };
     form(empty, bodies, at, TRUTH, draw::from(seed, 3, 62))
+}
+
+// Counts the operators of a rule's body.
+fn count_forms(bodies: &[u32], rule: u32, rows: u32, t: &mut [u32]) {
+    let mut row: u32 = 0;
+    while row < rows {
+        let code = word(bodies, 4, (rule % 64) * 64 + row % 64, 0);
+        tally::count(t, (code % 23) as usize);
+        row += 1;
+    }
+}
+
+// A drawn context type, more often the one with types under it.
+fn draw_context(seed: u32) -> u32 {
+    let t = draw::below(seed, 8);
+    if t < TYPES { t } else { 0 }
+}
+
+// A rule of a drawn context type and body. Answers the state of the generator after it.
+fn draw_rule(seed: u32, rules: &mut [u32], bodies: &mut [u32], rule: u32, t: &mut [u32]) -> u32 {
+    let context = draw_context(seed);
+    let d = body(draw::next(seed), bodies, rule, context);
+    put_word(rules, 2, rule, 0, context);
+    put_word(rules, 2, rule, 1, d.rows);
+    count_forms(bodies, rule, d.rows, t);
+    tally::count(t, tally::RULES);
+    tally::raise(t, tally::DEPTH, d.depth);
+    tally::raise(t, tally::SCOPE, d.scope);
+    tally::raise(t, tally::NAMED, members(d.named));
+    draw::next(d.seed)
+}
+
+pub fn draw_rules(seed: u32, rules: &mut [u32], bodies: &mut [u32], n: u32, t: &mut [u32]) -> u32 {
+    let mut s = seed;
+    let mut rule: u32 = 0;
+    while rule < n {
+        s = draw_rule(s, rules, bodies, rule, t);
+        rule += 1;
+    }
+    s
 }

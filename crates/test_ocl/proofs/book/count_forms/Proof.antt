@@ -1,12 +1,12 @@
--- `count_forms` is safe and ends.
+-- `book::count_forms` is safe and ends.
 use Prim.Native.Nat.{_-_}
 use mathlib.Core.Path.{_≡_}
 use lib.ListN.{length}
 use borrow.Author.Needs.{needs}
-use Rattle.test_ocl.proofs.count_forms.Statement.{statement}
-use Rattle.test_ocl.proofs.count_forms.Tie as tie
-use Rattle.test_ocl.proofs.count_forms.Reads as reads
-use Rattle.test_ocl.proofs.count_forms.Lts as lts
+use Rattle.test_ocl.proofs.book.count_forms.Statement.{statement}
+use Rattle.test_ocl.proofs.book.count_forms.Tie as tie
+use Rattle.test_ocl.proofs.book.count_forms.Reads as reads
+use Rattle.test_ocl.proofs.book.count_forms.Lts as lts
 use Rattle.test_ocl.proofs.tally.count.Reads as count-reads
 use Rattle.test_ocl.proofs.words.word.Reads as word-reads
 

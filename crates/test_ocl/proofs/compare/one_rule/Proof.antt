@@ -1,33 +1,29 @@
--- `one_rule` is safe and ends.
+-- `compare::one_rule` is safe and ends.
 use mathlib.Core.Path.{_≡_}
 use lib.ListN.{length}
 use borrow.Author.Needs.{needs}
-use Rattle.test_ocl.proofs.one_rule.Statement.{statement}
-use Rattle.test_ocl.proofs.one_rule.Tie as tie
-use Rattle.test_ocl.proofs.one_rule.Reads as reads
-use Rattle.test_ocl.proofs.one_rule.Lts as lts
-use Rattle.test_ocl.proofs.count_forms.Reads as count-forms-reads
-use Rattle.test_ocl.proofs.one_object.Reads as one-object-reads
+use Rattle.test_ocl.proofs.compare.one_rule.Statement.{statement}
+use Rattle.test_ocl.proofs.compare.one_rule.Tie as tie
+use Rattle.test_ocl.proofs.compare.one_rule.Reads as reads
+use Rattle.test_ocl.proofs.compare.one_rule.Lts as lts
+use Rattle.test_ocl.proofs.compare.one_object.Reads as one-object-reads
 use Rattle.test_ocl.proofs.plain.plant.Reads as plant-reads
 use Rattle.test_ocl.proofs.words.word.Reads as word-reads
 
 abbrev Inv-loop : tie.InvT-loop
-Inv-loop n types relationships rules bodies objects links w rule t₀ rows tree lowest₀ row₀ t lowest row = length t ≡ length t₀
+Inv-loop n types relationships rules bodies objects links w rule t₀ tree lowest₀ row₀ t lowest row = length t ≡ length t₀
 
 abbrev μ-loop : tie.MeasureT-loop
-μ-loop n types relationships rules bodies objects links w rule t₀ rows tree lowest₀ row₀ t lowest row = row
-
-word-requires : tie.Need-word-requires Inv-loop μ-loop
-word-requires c κs = search needs
+μ-loop n types relationships rules bodies objects links w rule t₀ tree lowest₀ row₀ t lowest row = row
 
 slice-aggregate-plant : tie.Need-slice-aggregate-plant Inv-loop μ-loop
 slice-aggregate-plant c = search needs
 
+word-requires : tie.Need-word-requires Inv-loop μ-loop
+word-requires c κs = search needs
+
 plant-requires : tie.Need-plant-requires Inv-loop μ-loop
 plant-requires c κs = search needs
-
-count-forms-requires : tie.Need-count-forms-requires Inv-loop μ-loop
-count-forms-requires c κs = search needs
 
 loop-holds : tie.Need-loop-holds Inv-loop μ-loop
 loop-holds c = search needs
@@ -65,10 +61,9 @@ one-rule-spec =
     (tie.spec
     Inv-loop
     μ-loop
-    word-requires
     slice-aggregate-plant
+    word-requires
     plant-requires
-    count-forms-requires
     loop-holds
     sub-row
     slice-aggregate-one-object

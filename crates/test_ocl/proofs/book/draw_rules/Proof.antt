@@ -1,14 +1,13 @@
--- `draw_rules` is safe and ends.
+-- `book::draw_rules` is safe and ends.
 use Prim.Native.Nat.{_-_}
 use mathlib.Core.Path.{_≡_}
 use lib.ListN.{length}
 use borrow.Author.Needs.{needs}
-use Rattle.test_ocl.proofs.draw_rules.Statement.{statement}
-use Rattle.test_ocl.proofs.draw_rules.Tie as tie
-use Rattle.test_ocl.proofs.draw_rules.Reads as reads
-use Rattle.test_ocl.proofs.draw_rules.Lts as lts
-use Rattle.test_ocl.proofs.draw_rule.Reads as draw-rule-reads
-use Rattle.test_ocl.proofs.tally.count.Reads as count-reads
+use Rattle.test_ocl.proofs.book.draw_rules.Statement.{statement}
+use Rattle.test_ocl.proofs.book.draw_rules.Tie as tie
+use Rattle.test_ocl.proofs.book.draw_rules.Reads as reads
+use Rattle.test_ocl.proofs.book.draw_rules.Lts as lts
+use Rattle.test_ocl.proofs.book.draw_rule.Reads as draw-rule-reads
 
 abbrev Inv-loop : tie.InvT-loop
 Inv-loop seed rules₀ bodies₀ n t₀ s₀ rule₀ rules bodies t s rule = (length rules ≡ length rules₀) × ((length bodies ≡ length bodies₀) × (length t ≡ length t₀))
@@ -21,9 +20,6 @@ loop-holds c = search needs
 
 draw-rule-requires : tie.Need-draw-rule-requires Inv-loop μ-loop
 draw-rule-requires c κs = search needs
-
-count-requires : tie.Need-count-requires Inv-loop μ-loop
-count-requires c κs = search needs
 
 add-rule : tie.Need-add-rule Inv-loop μ-loop
 add-rule c = search needs
@@ -54,7 +50,6 @@ draw-rules-spec =
     μ-loop
     loop-holds
     draw-rule-requires
-    count-requires
     add-rule
     loop-less
     loop-again

@@ -1,13 +1,13 @@
--- `all_rules` is safe and ends.
+-- `compare::all_rules` is safe and ends.
 use mathlib.Core.Path.{_≡_}
 use lib.ListN.{length}
 use borrow.Author.Needs.{needs}
-use Rattle.test_ocl.proofs.all_rules.Statement.{statement}
-use Rattle.test_ocl.proofs.all_rules.Tie as tie
-use Rattle.test_ocl.proofs.all_rules.Reads as reads
-use Rattle.test_ocl.proofs.all_rules.Lts as lts
-use Rattle.test_ocl.proofs.broken_at.Reads as broken-at-reads
-use Rattle.test_ocl.proofs.one_rule.Reads as one-rule-reads
+use Rattle.test_ocl.proofs.compare.all_rules.Statement.{statement}
+use Rattle.test_ocl.proofs.compare.all_rules.Tie as tie
+use Rattle.test_ocl.proofs.compare.all_rules.Reads as reads
+use Rattle.test_ocl.proofs.compare.all_rules.Lts as lts
+use Rattle.test_ocl.proofs.compare.broken_at.Reads as broken-at-reads
+use Rattle.test_ocl.proofs.compare.one_rule.Reads as one-rule-reads
 use Rattle.test_ocl.proofs.world.fill.Reads as fill-reads
 
 abbrev Inv-loop : tie.InvT-loop
