@@ -79,6 +79,8 @@ fn beside(at: Place, code: u32, member: u32) -> Place {
     inside(at)
 }
 
+// A drawn operator that makes a truth, a number or a collection, of at most so many rows and with so many variables around it. Where
+// many rows are left a comparison is rare, and deep in a body a collection is seldom large.
 fn truth_code(rows: u32, count: u32, seed: u32) -> u32 {
     if rows < 3 {
         return 13;
@@ -192,6 +194,7 @@ fn row(d: Draft, bodies: &mut [u32], rule: u32, code: u32, x: u32, y: u32) -> Dr
     }
 }
 
+// The fields of a form without parts, v being a drawn variable and t its type.
 fn x_of(code: u32, v: u32, seed: u32) -> u32 {
     match code {
         14 => draw::value(seed),
@@ -209,6 +212,7 @@ fn y_of(code: u32, t: u32, seed: u32) -> u32 {
     }
 }
 
+// What a form without parts changes: the variables named, and the type of the last collection's members.
 fn named_by(code: u32, named: u64, v: u32) -> u64 {
     match code {
         13 | 15 | 20 => crate::world::with(named, v),
@@ -360,6 +364,7 @@ fn draw_rule(seed: u32, rules: &mut [u32], bodies: &mut [u32], rule: u32, t: &mu
     draw::next(d.seed)
 }
 
+// So many drawn rules. Answers the state of the generator after them.
 pub fn draw_rules(seed: u32, rules: &mut [u32], bodies: &mut [u32], n: u32, t: &mut [u32]) -> u32 {
     let mut s = seed;
     let mut rule: u32 = 0;

@@ -9,7 +9,7 @@ pub fn put(t: &mut [u32], at: usize, value: u32) {
     }
 }
 
-// The word in a column of a row of w words; rows and widths are cut off far above every table here.
+// The place of a column of a row of w words, 2 to 5 or 10. Rows and columns are cut off far above every table here.
 pub fn place(row: u32, w: u32, column: u32) -> usize {
     let r = (row % 4096) as usize;
     let c = (column % 4096) as usize;

@@ -1,5 +1,5 @@
--- book/+form
-use Prim.Native.Nat.{ℕ, _+_, _-_, _≤_, _<_}
+-- `book::form` is safe and ends. The measure is the number of rows that a form may use: its parts get fewer.
+use Prim.Native.Nat.{ℕ, _<_}
 use native.Mathlib.Omega.{arith}
 use borrow.Author.Needs.{needs}
 use borrow.Fn.Kinds.{In}

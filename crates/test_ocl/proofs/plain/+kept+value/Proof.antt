@@ -1,4 +1,4 @@
--- plain/+kept+value
+-- `plain::value` and `plain::kept` are safe and end. The measure is twice the fuel, and one more for `kept`, which hands its fuel on whole.
 use Prim.Native.Nat.{ℕ, _+_, _-_, _≤_, _<_}
 use native.Mathlib.Omega.{arith}
 use borrow.Author.Needs.{needs}
