@@ -28,7 +28,7 @@ use Rattle.meaning.proofs.Quiet.{quiet-value}
 
 -- ---- what is known of a book and a register that are not refused
 
-refusal-at-none : (n : ℕ) (o : Option ℕ) → refusalAt n o ≡ none → o ≡ none
+pub refusal-at-none : (n : ℕ) (o : Option ℕ) → refusalAt n o ≡ none → o ≡ none
 unfolding refusalAt
 refusal-at-none n none e = refl
 refusal-at-none n (some p) e = absurd (Option·some-ne-none _ e)

@@ -5,3 +5,5 @@ pub mod Bodies
 pub mod Entries
 pub mod Texts
 pub mod Determined
+pub mod Blocks
+pub mod Sheets
