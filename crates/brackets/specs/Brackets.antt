@@ -1,7 +1,7 @@
 -- What is found at a place of a line: a name, a token, the items of a line without an inner bracket, a body.
 use Prim.Native.Nat.{ℕ, _+_}
-use mathlib.Core.Bool.{Bool, true, false, cond}
-use mathlib.Core.List.{List, []}
+use mathlib.Core.Bool.{true, false, cond}
+use mathlib.Core.List.{List}
 use mathlib.Core.Option.{Option, none, some, bind}
 use lib.Dec.{leb}
 use lib.ListN.{length, replicate}
@@ -11,8 +11,8 @@ use Rattle.text.specs.Bodies.{formsIn, padded}
 use Rattle.text.specs.Entries.{Entry, row, rule, itemsIn, bodyIn}
 use Rattle.brackets.specs.declared.Found.{Found}
 use Rattle.brackets.specs.declared.Found.the-variants.{Begin, Item, End, Bad}
-use Rattle.brackets.specs.declared.Items.{Items}
-use Rattle.brackets.specs.declared.Body.{Body}
+use Rattle.brackets.specs.declared.ItemsFound.{ItemsFound}
+use Rattle.brackets.specs.declared.BodyFound.{BodyFound}
 
 -- a name's place among the names; past them all where there is none
 abbrev pub placeOr : Option ℕ → ℕ
@@ -33,22 +33,22 @@ foundAt at (some t) = tokenAt at (t .token) (t .size)
 abbrev pub maxItems : ℕ
 maxItems = 10
 
-abbrev pub noItems : Items
+abbrev pub noItems : ItemsFound
 noItems = record { good = false; count = 0; values = replicate maxItems 0 }
 
-unfoldable pub itemsHeld : Option (List ℕ) → Items
+unfoldable pub itemsHeld : Option (List ℕ) → ItemsFound
 itemsHeld none = noItems
 itemsHeld (some is) = cond (leb (length is) maxItems) (record { good = true; count = length is; values = padded maxItems is }) noItems
 
 -- the items from a place to the end of the line
-unfoldable pub itemsAt : List ℕ → Items
+unfoldable pub itemsAt : List ℕ → ItemsFound
 itemsAt l = itemsHeld (bind (tokensIn l) itemsIn)
 
 -- how many forms the body of a rule has, from its place to the end of the line
-unfoldable pub bodyHeld : Option Entry → Body
+unfoldable pub bodyHeld : Option Entry → BodyFound
 bodyHeld none = record { good = false; forms = 0 }
 bodyHeld (some (row s words)) = record { good = false; forms = 0 }
 bodyHeld (some (rule t body)) = record { good = true; forms = formsIn body }
 
-unfoldable pub bodyAt : List ℕ → Body
+unfoldable pub bodyAt : List ℕ → BodyFound
 bodyAt l = bodyHeld (bind (tokensIn l) (bodyIn 0))
