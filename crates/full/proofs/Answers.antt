@@ -1,15 +1,15 @@
 -- What a verdict and a search say about the full check's answer.
-use Prim.Native.Nat.{ℕ, zero, suc, min, _≤_}
+use Prim.Native.Nat.{ℕ, zero, suc, min, _≤_, zero-le}
 use mathlib.Core.Path.{_≡_, refl, sym, ap, _∙_}
 use mathlib.Core.Bool.{Bool, true, false, _||_, cond}
 use mathlib.Core.List.{List, [], _∷_}
 use mathlib.Core.Option.{Option, none, some}
 use native.Mathlib.Omega.{arith}
 use lib.Dec.{ltb}
-use lib.ListN.{drop}
+use lib.ListN.{getD}
 use borrow.Author.Tests.{ltb-false}
 use Rattle.meaning.specs.Lists.{firstOf, any}
-use Rattle.meaning.specs.Limits.{maxObjects, maxLinks}
+use Rattle.meaning.specs.Limits.{maxRelationships, maxObjects, maxLinks}
 use Rattle.meaning.specs.Events.{Refusal}
 use Rattle.meaning.specs.Reach.{Pair, contextPairs}
 use Rattle.meaning.specs.Answers as Meaning
@@ -19,6 +19,7 @@ use Rattle.tables.specs.Refusals.{Table, Tables, bookOf, registerIn, lentTables
 use Rattle.tables.specs.declared.Counts.{Counts}
 use Rattle.tables.specs.declared.Verdict.the-variants.{Clear, Refused}
 use Rattle.tables.specs.Columns.{relationshipRow}
+use Rattle.schema.proofs.Rows.{length-rows}
 use Rattle.ocl.specs.Search.{Checked, brokenOf, searched}
 use Rattle.ocl.specs.declared.Broken.the-variants.{At, Nowhere}
 use Rattle.full.specs.Answers.{answerOf, lentAnswer}
@@ -69,28 +70,40 @@ not-refused : (b : Bool) (r : Refusal) (o : Option Refusal) → cond b (some r) 
 not-refused true r o e = cc
 not-refused false r o e = refl
 
-any-drop : (k : ℕ) (l : List Table) → any overfull l ≡ false → any overfull (drop k l) ≡ false
-any-drop zero l e = e
-any-drop (suc k) [] e = e
-any-drop (suc k) (x ∷ xs) e = any-drop k xs (or-right (overfull x) (any overfull xs) e)
+-- tables of which none is overfull keep their limits
+abbrev noTable : Table
+noTable = record { words = []; width = 0; used = 0; limit = 0 }
 
-few-objects : (t : Tables) → tableRefusal (tablesOf t) false ≡ none → t .objectCount ≤ maxObjects
+kept : (l : List Table) → any overfull l ≡ false → (k : ℕ) → (getD l k noTable) .used ≤ (getD l k noTable) .limit
+kept [] e k = zero-le
+kept (x ∷ xs) e zero =
+    omega (arith, ltb-false (min (x .limit) (rowsLent (x .words) (x .width))) (x .used) (or-left (overfull x) (any overfull xs) e))
+kept (x ∷ xs) e (suc k) = kept xs (or-right (overfull x) (any overfull xs) e) k
+
+-- the tables that the search asks to keep their limits
+record Few (t : Tables) : Type 0 where
+  relationships : t .relationshipCount ≤ maxRelationships
+  objects : t .objectCount ≤ maxObjects
+  links : t .linkCount ≤ maxLinks
+
+few : (t : Tables) → tableRefusal (tablesOf t) false ≡ none → Few t
 unfolding tableRefusal tablesOf
-few-objects t e =
-    let objects = ltb (min maxObjects (rowsLent (t .objects) 10)) (t .objectCount) in
-    let links = any overfull (record { words = t .links; width = 3; used = t .linkCount; limit = maxLinks } ∷ []) in
-    let within : objects ≡ false = or-left objects links (any-drop 4 (tablesOf t) (not-refused (any overfull (tablesOf t)) _ _ e)) in
-    omega (arith, ltb-false (min maxObjects (rowsLent (t .objects) 10)) (t .objectCount) within)
+few t e =
+    let within = kept (tablesOf t) (not-refused (any overfull (tablesOf t)) _ _ e) in
+    record { relationships = within 1; objects = within 4; links = within 5 }
 
 pub checked : (n : Counts) (types relationships rules bodies objects links : List ℕ) → Clear ≡ verdictOf (lentRefusal (lentTables n types relationships rules bodies objects links) false) → Checked n types rules bodies objects links
 unfolding lentRefusal
 checked n types relationships rules bodies objects links e =
     let t = lentTables n types relationships rules bodies objects links in
     let clear = clear-none (lentRefusal t false) e in
+    let within = few t (first-left (tableRefusal (tablesOf t) false) (refusal (bookOf t) (registerIn t)) clear) in
     record {
       relationships = readRows (relationshipRow relationships) (n .relationships);
       clear = first-right (tableRefusal (tablesOf t) false) (refusal (bookOf t) (registerIn t)) clear;
-      few = few-objects t (first-left (tableRefusal (tablesOf t) false) (refusal (bookOf t) (registerIn t)) clear);
+      few = within .objects;
+      few-relationships = omega (arith, within .relationships, length-rows (relationshipRow relationships) (n .relationships));
+      few-links = within .links;
     }
 
 -- ---- the search's result as the answer

@@ -9,3 +9,4 @@ pub mod Nums
 pub mod Loops
 pub mod Answers
 pub mod Search
+pub mod Indexes

@@ -91,7 +91,7 @@ number-count p t = sym (ap partCount (is-number p t))
 
 module _ {n : Counts} {objects links bodies : List ℕ} {rule : ℕ} {starts : List ℕ} {e : ℕ} {vars : List ℕ} {depth : ℕ} where
   pub objects-count : {s : Sort} → Ready n objects links bodies rule starts e vars depth s → length ((registerBy n objects links) .objects) ≤ 1024
-  objects-count ready = let h = ready .objects-few in omega (arith, length-rows (objectRow objects) (n .objects))
+  objects-count ready = let h = ready .indexed .few in omega (arith, length-rows (objectRow objects) (n .objects))
 
   pub number-within : Ready n objects links bodies rule starts e vars depth number → (types : List ℕ) (rs : List Relationship) → natAbs (numberOf n types objects links bodies rule e vars depth rs) ≤ 2 ^ 47
   unfolding numberOf

@@ -87,7 +87,7 @@ module _ (n : ℕ) (objects : List ℕ) (ls : List Link) (id k : ℕ) where
 
   cell-row : cellAt (objectsWith n objects ls) id k ≡ cell-by (Option·map (objectRow objects) (objectPlace n objects id))
   unfolding cellAt cell-by
-  cell-row = ap cell-by (object-row (record { types = []; relationships = [] }) n objects ls id 0)
+  cell-row = ap cell-by (object-row n objects ls id)
 
   cell-used : (i : ℕ) → getD ((objectRow objects i) .cells) k (pos 0) ≡ cond (ltb k cellCount) (signed (wordAt objects 10 i (2 + k))) (pos 0)
   unfolding objectRow

@@ -48,7 +48,7 @@ module _ {n : Counts} {objects links bodies : List ℕ} {rule : ℕ} {starts : L
   ready-at k u h t =
       record {
         steady = ready .steady;
-        objects-few = ready .objects-few;
+        indexed = ready .indexed;
         words = ready .words;
         few = omega (arith, ready .few);
         room = omega (arith, ready .room);
@@ -62,7 +62,7 @@ module _ {n : Counts} {objects links bodies : List ℕ} {rule : ℕ} {starts : L
   ready-under k u h t id =
       record {
         steady = ready .steady;
-        objects-few = ready .objects-few;
+        indexed = ready .indexed;
         words = ready .words;
         few = omega (arith, ready .few);
         room = omega (arith, ready .room);

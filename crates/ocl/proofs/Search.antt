@@ -32,6 +32,7 @@ use Rattle.tables.specs.declared.Found.the-variants.{At, Nothing}
 use Rattle.tables.proofs.Forms.{whole-body, body-ending, body-none}
 use Rattle.schema.specs.Tables.{typesWith}
 use Rattle.schema.proofs.Founds.{found-none, found-some}
+use Rattle.register.specs.Index.{Indexed}
 use Rattle.book.specs.Marks.{bodyOf, Starts}
 use Rattle.ocl.specs.Ready.{Steady, Ready}
 use Rattle.ocl.specs.Values.{registerBy, truthOf}
@@ -108,13 +109,13 @@ module _ {n : Counts} {types rules bodies objects links : List ℕ} (ck : Checke
   pub size-few : {i size : ℕ} → size ≡ sizeAt i → i < n .rules → size ≤ maxForms
   size-few {i} q h = subst (λ k. k ≤ maxForms) (sym q) (whole-body (bodyOf bodies i) (sizeAt i) (whole i h) .few)
 
-  pub rule-ready : {i size : ℕ} {starts : List ℕ} → size ≡ sizeAt i → i < n .rules → ((j : ℕ) → getD bodies j 0 < 2 ^ 32) → Starts (bodyOf bodies i) starts size → (vars : List ℕ) → length vars ≡ 64 → Ready n objects links bodies i starts size vars 1 truth
-  rule-ready {i} {size} {starts} q h words right vars held =
+  pub rule-ready : {i size : ℕ} {starts : List ℕ} → size ≡ sizeAt i → i < n .rules → ((j : ℕ) → getD bodies j 0 < 2 ^ 32) → Starts (bodyOf bodies i) starts size → Indexed (n .objects) objects (n .links) links → (vars : List ℕ) → length vars ≡ 64 → Ready n objects links bodies i starts size vars 1 truth
+  rule-ready {i} {size} {starts} q h words right x vars held =
       let few : size ≤ maxForms = size-few q h in
       let w = whole-body (bodyOf bodies i) (sizeAt i) (whole i h) in
       record {
         steady = steady-register;
-        objects-few = ck .few;
+        indexed = x;
         words = λ k. words ((i * maxForms + k) * 4 + 1);
         few = few;
         room = omega arith;

@@ -5,13 +5,14 @@ use mathlib.Core.List.{List}
 use lib.Dec.{T}
 use lib.ListN.{length, getD}
 use lib.IntN.{natAbs}
-use Rattle.meaning.specs.Limits.{maxForms, maxObjects}
+use Rattle.meaning.specs.Limits.{maxForms}
 use Rattle.meaning.specs.Register.{Register, objectKey, linkKey, present, cellAt, farEnds}
 use Rattle.meaning.specs.Forms.{Sort}
 use Rattle.meaning.proofs.Lists.{_∈_, Ascending}
 use Rattle.meaning.proofs.Order.{Before}
 use Rattle.tables.specs.Bodies.{reads, ending}
 use Rattle.tables.specs.declared.Counts.{Counts}
+use Rattle.register.specs.Index.{Indexed}
 use Rattle.book.specs.Marks.{bodyOf}
 use Rattle.ocl.specs.Values.{registerBy}
 
@@ -24,11 +25,11 @@ pub record Steady (g : Register) : Type 0 where
   pub ids : (x : ℕ) → T (present g x) → 0 < x
   pub cells : (x k : ℕ) → natAbs (cellAt g x k) ≤ 2 ^ 31
 
--- The form that ends before row e is there and of sort s; `starts` has where each form up to there starts; and each form that is
+-- The links have their index; the form that ends before row e is there and of sort s; `starts` has where each form up to there starts; and each form that is
 -- left may bind one more variable.
 pub record Ready (n : Counts) (objects links bodies : List ℕ) (rule : ℕ) (starts : List ℕ) (e : ℕ) (vars : List ℕ) (depth : ℕ) (s : Sort) : Type 0 where
   pub steady : Steady (registerBy n objects links)
-  pub objects-few : n .objects ≤ maxObjects
+  pub indexed : Indexed (n .objects) objects (n .links) links
   pub words : (k : ℕ) → (bodyOf bodies rule k) .x < 2 ^ 32
   pub few : e ≤ maxForms
   pub room : depth + e ≤ 65

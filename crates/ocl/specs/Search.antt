@@ -4,7 +4,8 @@ use mathlib.Core.Path.{_≡_}
 use mathlib.Core.Bool.{Bool}
 use mathlib.Core.List.{List}
 use mathlib.Core.Option.{none}
-use Rattle.meaning.specs.Limits.{maxObjects}
+use lib.ListN.{length}
+use Rattle.meaning.specs.Limits.{maxRelationships, maxObjects, maxLinks}
 use Rattle.meaning.specs.Schema.{Relationship}
 use Rattle.meaning.specs.Forms.{Book}
 use Rattle.meaning.specs.Meaning.{broken}
@@ -22,11 +23,13 @@ abbrev pub bookWith : Counts → List ℕ → List Relationship → List ℕ →
 bookWith n types relationships rules bodies =
     record { schema = typesWith (n .types) types relationships; rules = rulesOf (n .rules) rules bodies }
 
--- no refusal is met in the book and the register, and the objects keep their limit
+-- no refusal is met in the book and the register, and the relationships, the objects and the links keep their limits
 pub record Checked (n : Counts) (types rules bodies objects links : List ℕ) : Type 0 where
   pub relationships : List Relationship
   pub clear : refusal (bookWith n types relationships rules bodies) (registerBy n objects links) ≡ none
   pub few : n .objects ≤ maxObjects
+  pub few-relationships : length relationships ≤ maxRelationships
+  pub few-links : n .links ≤ maxLinks
 
 -- an answer that is no refusal, as the code gives it
 abbrev pub brokenOf : Answer → Broken

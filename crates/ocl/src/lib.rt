@@ -15,6 +15,7 @@ ghost use Rattle.meaning.specs.Forms.{truth, number, collection, variable};
 ghost use Rattle.meaning.specs.Meaning.{connected};
 ghost use Rattle.tables.specs.Refusals.{foundOf};
 ghost use Rattle.schema.specs.Tables.{typesWith};
+ghost use Rattle.register.specs.Index.{Indexed};
 ghost use Rattle.ocl.specs.Ready.{Steady, Ready};
 ghost use Rattle.ocl.specs.Search.{Checked, searched, brokenPair};
 ghost use Rattle.ocl.specs.Values.{codeAt, registerBy, truthOf, numberOf, membersOf, connectiveOf, quantifierOf, weightOf, stopping};
@@ -88,10 +89,10 @@ fn kind(n: Counts, types: &[u32], objects: &[u32], links: &[u32], id: u32, t: u3
 
 // The next id after `after` at the far end of a role from an object.
 fn next_far(n: Counts, objects: &[u32], links: &[u32], role: u32, id: u32, after: u32) -> Found
-    requires { ⌜ Steady (registerBy n (now objects) (now links)) ⌝ }
+    requires { ⌜ (Steady (registerBy n (now objects) (now links))) × (Indexed (n .objects) (now objects) (n .links) (now links)) ⌝ }
     ensures { λ r. ⌜ r ≡ foundOf (first (λ y. ltb after y) (farEnds (registerBy n (now (objects .entry)) (now (links .entry))) role id)) ⌝ }
 {
-    register::next_far(n.links, links, role, id, after)
+    register::next_far(n.objects, objects, n.links, links, role, id, after)
 }
 
 // The next id after `after` of an object under t.
@@ -468,8 +469,8 @@ pub enum Broken {
     Nowhere,
 }
 
-// The first broken pair, lowest rule and then lowest id.
-pub fn first_broken(
+// The search of the full check, over links with their index: rules one after the other, and the objects of each.
+fn search_rules(
     n: Counts,
     types: &[u32],
     rules: &[u32],
@@ -477,7 +478,7 @@ pub fn first_broken(
     objects: &[u32],
     links: &[u32],
 ) -> Broken
-    requires { ⌜ Checked n (now types) (now rules) (now bodies) (now objects) (now links) ⌝ }
+    requires { ⌜ (Checked n (now types) (now rules) (now bodies) (now objects) (now links)) × (Indexed (n .objects) (now objects) (n .links) (now links)) ⌝ }
     ensures { λ r. ⌜ ((rs : List Relationship) → r ≡ searched n (now (types .entry)) (now (rules .entry)) (now (bodies .entry)) (now (objects .entry)) (now (links .entry)) rs) ⌝ }
 {
     let mut answer = Broken::Nowhere;
@@ -503,7 +504,48 @@ pub fn first_broken(
     answer
 }
 
-// Whether a rule of the book is broken at an object: the object is there, under the rule's context type, and the body does not hold.
+// The first broken pair, lowest rule and then lowest id.
+pub fn first_broken(
+    n: Counts,
+    types: &[u32],
+    rules: &[u32],
+    bodies: &[u32],
+    objects: &[u32],
+    links: &[u32],
+) -> Broken
+    requires { ⌜ Checked n (now types) (now rules) (now bodies) (now objects) (now links) ⌝ }
+    ensures { λ r. ⌜ ((rs : List Relationship) → r ≡ searched n (now (types .entry)) (now (rules .entry)) (now (bodies .entry)) (now (objects .entry)) (now (links .entry)) rs) ⌝ }
+{
+    let mut table = [0u32; 49152];
+    register::index(n.objects, objects, n.links, links, &mut table);
+    search_rules(n, types, rules, bodies, objects, &table)
+}
+
+// Whether a rule of the book is broken at an object, over links with their index: the object is there, under the rule's context type, and the body does not hold.
+fn breaks(
+    n: Counts,
+    types: &[u32],
+    rules: &[u32],
+    bodies: &[u32],
+    objects: &[u32],
+    links: &[u32],
+    rule: u32,
+    id: u32,
+) -> bool
+    requires { ⌜ (Checked n (now types) (now rules) (now bodies) (now objects) (now links)) × (rule < n .rules) × (Indexed (n .objects) (now objects) (n .links) (now links)) ⌝ }
+    ensures { λ r. ⌜ ((rs : List Relationship) → r ≡ brokenPair n (now (types .entry)) (now (rules .entry)) (now (bodies .entry)) (now (objects .entry)) (now (links .entry)) rs rule id) ⌝ }
+{
+    let context = rows::word(rules, 2, rule, 0);
+    if !kind(n, types, objects, links, id, context) {
+        return false;
+    }
+    let size = rows::word(rules, 2, rule, 1);
+    let spans = book::body::scan(bodies, rule, size);
+    let starts = spans.starts;
+    !holds_at(n, types, objects, links, bodies, &starts, rule, size, id)
+}
+
+// Whether a rule of the book is broken at an object.
 pub fn broken_at(
     n: Counts,
     types: &[u32],
@@ -517,12 +559,7 @@ pub fn broken_at(
     requires { ⌜ (Checked n (now types) (now rules) (now bodies) (now objects) (now links)) × (rule < n .rules) ⌝ }
     ensures { λ r. ⌜ ((rs : List Relationship) → r ≡ brokenPair n (now (types .entry)) (now (rules .entry)) (now (bodies .entry)) (now (objects .entry)) (now (links .entry)) rs rule id) ⌝ }
 {
-    let context = rows::word(rules, 2, rule, 0);
-    if !kind(n, types, objects, links, id, context) {
-        return false;
-    }
-    let size = rows::word(rules, 2, rule, 1);
-    let spans = book::body::scan(bodies, rule, size);
-    let starts = spans.starts;
-    !holds_at(n, types, objects, links, bodies, &starts, rule, size, id)
+    let mut table = [0u32; 49152];
+    register::index(n.objects, objects, n.links, links, &mut table);
+    breaks(n, types, rules, bodies, objects, &table, rule, id)
 }

@@ -47,12 +47,12 @@ module _ (role u least : ℕ) where
       let s = and-yes (eqb (l .relationship) (role / 2)) (eqb (nearEnd role l) u) (r .0) in
       record { relationship-is = eqb-yes (s .0); near-is = eqb-yes (s .1); far-from = leb-yes (r .1) }
 
-  reach : (l : Link) → Reached l → T (reaches l)
+  pub reach : (l : Link) → Reached l → T (reaches l)
   reach l r =
       yes-and (startsAt role u l) (leb least (farEnd role l))
       (yes-and (eqb (l .relationship) (role / 2)) (eqb (nearEnd role l) u) (yes-eqb (r .relationship-is)) (yes-eqb (r .near-is))) (yes-leb (r .far-from))
 
-  missed : (l : Link) → (Reached l → ⊥) → T (not (reaches l))
+  pub missed : (l : Link) → (Reached l → ⊥) → T (not (reaches l))
   missed l f = not-T (reaches l) (λ t. f (reached l t))
 
   module _ (os : List Object) (n : ℕ) (links : List ℕ) where
@@ -139,34 +139,3 @@ module _ (role u least : ℕ) where
           let k : r < n = omega arith in
           let c = b .above r (le-refl r) k in
           d k (relationship-alike u least c h l q) (source-alike u least c h l q (source-is (L i) q))))
-
-    -- ---- backward: from the place of (relationship, least, 0) on
-
-    module _ (f : forward role ≡ false) {r : ℕ} (b : LowerBound linkKey L n (role / 2 ∷ least ∷ 0 ∷ []) r) where
-      target-is : (l : Link) → Reached l → l .target ≡ u
-      target-is l q = subst (λ v. cond v (l .source) (l .target) ≡ u) f (q .near-is)
-
-      source-from : (l : Link) → Reached l → least ≤ l .source
-      source-from l q = subst (λ v. least ≤ cond v (l .target) (l .source)) f (q .far-from)
-
-      pub walk-start : Passed (alone reaches) L n r
-      walk-start =
-          missed-to reaches L n r (b .within)
-          (λ i h. missed (L i) (λ q. omega (arith, source-from (L i) q, source-below (L i) (role / 2) least (b .below i h) (q .relationship-is))))
-
-      module _ {i : ℕ} (p : Passed (alone reaches) L n i) (l : r ≤ i) (m : i < n) where
-        pub walk-found : (L i) .relationship ≡ role / 2 → (L i) .target ≡ u → firstHit reaches L n ≡ some i
-        walk-found e t =
-            hit-at reaches L n p m
-            (reach (L i)
-            (record {
-              relationship-is = e;
-              near-is = subst (λ v. cond v ((L i) .source) ((L i) .target) ≡ u) (sym f) t;
-              far-from = subst (λ v. least ≤ cond v ((L i) .target) ((L i) .source)) (sym f) (source-above (L i) (role / 2) least 0 (b .above i l m) e);
-            }))
-
-        pub walk-on : ((L i) .target ≡ u → ⊥) → Passed (alone reaches) L n (i + 1)
-        walk-on d = missed-one reaches L n p m (missed (L i) (λ q. d (target-is (L i) q)))
-
-        pub walk-end : ((L i) .relationship ≡ role / 2 → ⊥) → firstHit reaches L n ≡ none
-        walk-end d = hit-none reaches L n p (λ j h k. missed (L j) (λ q. d (relationship-alike least 0 (b .above i l m) h k q)))

@@ -4,3 +4,6 @@ pub mod Places
 pub mod Searches
 pub mod Far
 pub mod Cells
+pub mod Leads
+pub mod Built
+pub mod Back

@@ -22,6 +22,9 @@ module _ {A : Type 0} (read : ℕ → A) where
   row-in j (suc n) zero h = List·Memᴰ·head (ap read (add-zero j))
   row-in j (suc n) (suc i) h = List·Memᴰ·tail (subst (λ m. read m ∈ rowsFrom read (suc j) n) (omega arith) (row-in (suc j) n i (omega arith)))
 
+  pub row-there : (n i : ℕ) → i < n → read i ∈ readRows read n
+  row-there n i h = subst (λ m. read m ∈ readRows read n) (zero-add i) (row-in 0 n i h)
+
   from-ordered : (R : A → A → Type 0) (j n : ℕ) → Ascending R (rowsFrom read j n) → (i k : ℕ) → i < k → k < n → R (read (j + i)) (read (j + k))
   from-ordered R j zero a i k l h = absurd (omega arith)
   from-ordered R j (suc n) a i zero l h = absurd (omega arith)

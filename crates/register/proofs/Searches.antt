@@ -45,14 +45,14 @@ module _ (links : List ℕ) {n x y z r : ℕ} (b : LowerBound linkKey (linkRow l
   pub link-missing : (r < n → sameLink (linkOf x y z) (linkRow links r) ≡ false) → linkPlace n links (linkOf x y z) ≡ none
   link-missing d = place-missed linkKey (linkRow links) n a b (sameLink (linkOf x y z)) exact-link d
 
-module _ (S : Schema) (n : ℕ) (objects : List ℕ) (ls : List Link) (id t : ℕ) where
-  pub object-row : objectAt (objectsWith n objects ls) id ≡ Option·map (objectRow objects) (objectPlace n objects id)
-  unfolding objectAt
-  object-row = first-row (λ o. eqb (o .id) id) (objectRow objects) n
+pub object-row : (n : ℕ) (objects : List ℕ) (ls : List Link) (id : ℕ) → objectAt (objectsWith n objects ls) id ≡ Option·map (objectRow objects) (objectPlace n objects id)
+unfolding objectAt
+object-row n objects ls id = first-row (λ o. eqb (o .id) id) (objectRow objects) n
 
+module _ (S : Schema) (n : ℕ) (objects : List ℕ) (ls : List Link) (id t : ℕ) where
   under-row : isUnder S (objectsWith n objects ls) id t ≡ holds (λ o. under S (o .type) t) (Option·map (objectRow objects) (objectPlace n objects id))
   unfolding isUnder
-  under-row = ap (holds (λ o. under S (o .type) t)) object-row
+  under-row = ap (holds (λ o. under S (o .type) t)) (object-row n objects ls id)
 
   pub under-found : {i : ℕ} → objectPlace n objects id ≡ some i → isUnder S (objectsWith n objects ls) id t ≡ under S ((objectRow objects i) .type) t
   under-found e = under-row ∙ ap (λ o. holds (λ o. under S (o .type) t) (Option·map (objectRow objects) o)) e

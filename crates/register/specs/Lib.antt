@@ -1,5 +1,7 @@
 -- What the register's functions are said to compute, where specs of other crates do not say it already.
 --   Tables   a register of which only one of the two tables is at hand
 --   Places   where a key belongs among ascending rows
+--   Index    an index of the links for going back from a target
 pub mod Tables
 pub mod Places
+pub mod Index

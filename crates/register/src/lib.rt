@@ -3,10 +3,10 @@ use tables::Found;
 ghost use mathlib.Core.Path.{_≡_};
 ghost use mathlib.Core.Bool.{true, false};
 ghost use mathlib.Core.List.{List, [], _∷_};
-ghost use Prim.Native.Nat.{_+_, _<_};
+ghost use Prim.Native.Nat.{ℕ, _+_, _<_, _≤_};
 ghost use lib.Dec.{ltb, leb};
-ghost use lib.ListN.{drop};
-ghost use Rattle.meaning.specs.Limits.{cellCount};
+ghost use lib.ListN.{drop, getD};
+ghost use Rattle.meaning.specs.Limits.{cellCount, maxObjects};
 ghost use Rattle.meaning.specs.Lists.{before, ascends, every, first, firstOf};
 ghost use Rattle.meaning.specs.Schema.{Relationship, forward};
 ghost use Rattle.meaning.specs.Register.{Object, Link, objectKey, linkKey, sameLink, isUnder, farEnds, isZero, objectFits, faultyObject, linkFits, faultyLink, objectFault, linkFault};
@@ -18,9 +18,15 @@ ghost use Rattle.schema.specs.Tables.{typesWith};
 ghost use Rattle.schema.specs.Previous.{previousRow};
 ghost use Rattle.register.specs.Tables.{objectsWith, linksWith, ObjectsAscend, LinksAscend, objectPlace, linkPlace};
 ghost use Rattle.register.specs.Places.{LowerBound};
+ghost use Rattle.register.specs.Index.{headPlace, Indexed, Indexable, IndexOf, Ahead};
 
 // The largest word: no id is above it.
 const LARGEST: u32 = 0xFFFF_FFFF;
+
+// Where the chain and the heads of an index start.
+const CHAIN: u32 = 12_288;
+
+const HEADS: u32 = 16_384;
 
 // The id in an object's row.
 pub fn id_of(objects: &[u32], row: u32) -> u32
@@ -203,38 +209,124 @@ fn next_target(link_count: u32, links: &[u32], role: u32, u: u32, least: u32) ->
     }
 }
 
-// The lowest id, at least `least`, at the far end of a backward role from u: a walk over the relationship's links from there on.
-fn next_source(link_count: u32, links: &[u32], role: u32, u: u32, least: u32) -> Found
-    requires { ⌜ LinksAscend «link_count» (now links) × (forward role ≡ false) ⌝ }
-    ensures { λ r. ⌜ ((os : List Object) → r ≡ foundOf (first (λ y. leb least y) (farEnds (linksWith os «link_count» (now (links .entry))) role u))) ⌝ }
+// Where the head of a relationship and a target stands in an index.
+fn head_place(object_count: u32, objects: &[u32], relationship: u32, target: u32) -> Found
+    requires { ⌜ (ObjectsAscend «object_count» (now objects)) × («object_count» ≤ maxObjects) ⌝ }
+    ensures { λ r. ⌜ r ≡ foundOf (headPlace «object_count» (now (objects .entry)) relationship target) ⌝ }
 {
-    let mut row = link_place(link_count, links, role / 2, least, 0);
-    while row < link_count {
-        if relationship_of(links, row) != role / 2 {
-            return Found::Nothing;
+    if relationship >= meaning::MAX_RELATIONSHIPS {
+        return Found::Nothing;
+    }
+    match object_row(object_count, objects, target) {
+        Found::At(row) => Found::At(HEADS + relationship * meaning::MAX_OBJECTS + row),
+        Found::Nothing => Found::Nothing,
+    }
+}
+
+// Copies the links to a table of zeros and indexes them there: from the last row to the first, each becomes its head, and what was
+// the head is next in its chain.
+pub fn index(
+    object_count: u32,
+    objects: &[u32],
+    link_count: u32,
+    links: &[u32],
+    table: &mut [u32; 49152],
+)
+    requires { ⌜ (ObjectsAscend «object_count» (now objects)) × (Indexable «object_count» (now objects) «link_count» (now links)) × ((k : ℕ) → getD (now table) k 0 ≡ 0) ⌝ }
+    ensures { λ _. ⌜ IndexOf «object_count» (now (objects .entry)) «link_count» (now (links .entry)) (now (table .exit)) ⌝ }
+{
+    rows::copy_words(table, links, (link_count as usize) * 3);
+    let mut row = link_count;
+    while 0 < row {
+        row -= 1;
+        let relationship = relationship_of(links, row);
+        let Found::At(head) = head_place(object_count, objects, relationship, target_of(links, row)) else {
+            return;
+        };
+        let from = head as usize;
+        let to = (CHAIN + row) as usize;
+        table[to] = table[from];
+        table[from] = row + 1;
+    }
+}
+
+// What follows a link's row in the chain.
+fn chained(links: &[u32], row: u32) -> u32
+    ensures { λ r. ⌜ r ≡ getD (now (links .entry)) (12288 + row) 0 ⌝ }
+{
+    rows::word(links, meaning::MAX_LINKS, 3, row)
+}
+
+// Where the way back from a target to its sources above `after` goes on: behind the link of `after`, or at the head.
+fn ahead(
+    object_count: u32,
+    objects: &[u32],
+    link_count: u32,
+    links: &[u32],
+    relationship: u32,
+    target: u32,
+    after: u32,
+) -> u32
+    requires { ⌜ (ObjectsAscend «object_count» (now objects)) × (LinksAscend «link_count» (now links)) × (Indexed «object_count» (now objects) «link_count» (now links)) ⌝ }
+    ensures { λ r. ⌜ Ahead «link_count» (now (links .entry)) relationship target after r ⌝ }
+{
+    if 0 < after {
+        if let Found::At(row) = link_row(link_count, links, relationship, after, target) {
+            return chained(links, row);
         }
-        if target_of(links, row) == u {
-            return Found::At(source_of(links, row));
+    }
+    match head_place(object_count, objects, relationship, target) {
+        Found::At(head) => rows::word(links, 1, head, 0),
+        Found::Nothing => 0,
+    }
+}
+
+// The next id after `after` at the far end of a backward role from u: along the chain of the links to u.
+fn next_source(
+    object_count: u32,
+    objects: &[u32],
+    link_count: u32,
+    links: &[u32],
+    role: u32,
+    u: u32,
+    after: u32,
+) -> Found
+    requires { ⌜ (ObjectsAscend «object_count» (now objects)) × (LinksAscend «link_count» (now links)) × (Indexed «object_count» (now objects) «link_count» (now links)) × (forward role ≡ false) ⌝ }
+    ensures { λ r. ⌜ ((os : List Object) → r ≡ foundOf (first (λ y. ltb after y) (farEnds (linksWith os «link_count» (now (links .entry))) role u))) ⌝ }
+{
+    let mut next = ahead(object_count, objects, link_count, links, role / 2, u, after);
+    while next != 0 {
+        let row = next - 1;
+        let source = source_of(links, row);
+        if after < source {
+            return Found::At(source);
         }
-        row += 1;
+        next = chained(links, row);
     }
     Found::Nothing
 }
 
 // The next id after `after` at the far end of a role from u.
-pub fn next_far(link_count: u32, links: &[u32], role: u32, u: u32, after: u32) -> Found
-    requires { ⌜ LinksAscend «link_count» (now links) ⌝ }
+pub fn next_far(
+    object_count: u32,
+    objects: &[u32],
+    link_count: u32,
+    links: &[u32],
+    role: u32,
+    u: u32,
+    after: u32,
+) -> Found
+    requires { ⌜ (ObjectsAscend «object_count» (now objects)) × (LinksAscend «link_count» (now links)) × (Indexed «object_count» (now objects) «link_count» (now links)) ⌝ }
     ensures { λ r. ⌜ ((os : List Object) → r ≡ foundOf (first (λ y. ltb after y) (farEnds (linksWith os «link_count» (now (links .entry))) role u))) ⌝ }
 {
+    if role % 2 != 0 {
+        return next_source(object_count, objects, link_count, links, role, u, after);
+    }
     if after == LARGEST {
         return Found::Nothing;
     }
     let least = after + 1;
-    if role % 2 == 0 {
-        next_target(link_count, links, role, u, least)
-    } else {
-        next_source(link_count, links, role, u, least)
-    }
+    next_target(link_count, links, role, u, least)
 }
 
 // The word in a cell of an object's row.

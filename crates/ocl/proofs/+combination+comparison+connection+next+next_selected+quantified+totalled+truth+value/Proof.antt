@@ -510,7 +510,7 @@ next-next-far-requires : (t : ℕ) → next-lts.Need-next-far-requires (
   next-selected-below t,
   next-selected.Post,
 ) (next-at t) next.Post
-next-next-far-requires t c κs = c .before .before .before .before .before .before .before .before .before .pre .1 .steady
+next-next-far-requires t c κs = let ready = c .before .before .before .before .before .before .before .before .before .pre .1 in (ready .steady, ready .indexed)
 
 next-returns : (t : ℕ) → next-lts.Need-returns (
   field-reads.Asked,

@@ -1,78 +1,74 @@
--- `register::next_source` meets its contract. The invariant: the rows before this one are passed. The measure is what is left of them.
-use Prim.Native.Nat.{_-_, _≤_}
-use mathlib.Core.Path.{sym, ap, _∙_}
-use native.Mathlib.Nat.{le-refl}
+-- `register::next_source` meets its contract. The invariant: what is ahead is the next link to u. The measure is the rows from there on.
+use Prim.Native.Nat.{ℕ, suc, _+_, _-_, _/_}
+use mathlib.Core.Path.{_≡_, ap}
+use mathlib.Core.List.{List}
 use native.Mathlib.Omega.{arith}
 use denote.Ref.{now}
-use Rattle.tables.specs.Columns.{linkRow}
 use Rattle.tables.specs.declared.Found.the-variants.{At}
-use Rattle.schema.proofs.Scan.{Passed, passed-all}
-use Rattle.register.proofs.Hits.{alone}
-use Rattle.register.proofs.Far.{reaches, far-source, far-none, walk-start, walk-found, walk-on, walk-end}
+use Rattle.meaning.specs.Register.{Object, farEnds}
+use Rattle.register.specs.Tables.{linksWith}
+use Rattle.register.specs.Index.{Ahead}
+use Rattle.register.proofs.Far.{above, far-source, far-none}
+use Rattle.register.proofs.Back.{rowsLeft, ahead-end, ahead-found, ahead-on, ahead-less}
 use Rattle.register.proofs.next_source.Statement.{statement}
 use Rattle.register.proofs.next_source.Tie as tie
 
 abbrev Inv-loop : tie.InvT-loop
-Inv-loop link-count links role u least row₀ row =
-    (row₀ ≤ row) × Passed (alone (reaches role u least)) (linkRow links) link-count row
+Inv-loop object-count objects link-count links role u after next₀ next = Ahead link-count links (role / 2) u after next
 
 abbrev μ-loop : tie.MeasureT-loop
-μ-loop link-count links role u least row₀ row = link-count - row
+μ-loop object-count objects link-count links role u after next₀ next = rowsLeft link-count next
 
-link-place-requires : tie.Need-link-place-requires Inv-loop μ-loop
-link-place-requires c κs = c .before .pre .0
+abbrev ends : tie.Start Inv-loop μ-loop → List Object → List ℕ
+ends c os = farEnds (linksWith os (c .args .link-count) (now (c .args .links))) (c .args .role) (c .args .u)
+
+ahead-requires : tie.Need-ahead-requires Inv-loop μ-loop
+ahead-requires c κs = let pre = c .before .before .pre in (pre .0, pre .1, pre .2)
 
 loop-holds : tie.Need-loop-holds Inv-loop μ-loop
-loop-holds c =
-    let start = c .before .before in
-    (le-refl (c .link-place .result), walk-start (start .args .role) (start .args .u) (start .args .least) (start .args .link-count) (now (start .args .links)) (start .pre .0) (start .pre .1) (c .link-place .ensures))
+loop-holds c = c .ahead .ensures
 
-relationship-of-requires : tie.Need-relationship-of-requires Inv-loop μ-loop
-relationship-of-requires c κs = tt
-
-returns : tie.Need-returns Inv-loop μ-loop
-returns c =
-    let start = c .before .before .before .before .before .before in
-    let turn = c .before .before .before .loop .inv in
-    λ os.
-    rw
-    (far-none (start .args .role) (start .args .u) (start .args .least) os (start .args .link-count) (now (start .args .links))
-    (walk-end (start .args .role) (start .args .u) (start .args .least) (start .args .link-count) (now (start .args .links)) (start .pre .0) (start .pre .1) (c .before .before .before .before .link-place .ensures) (turn .1) (turn .0) (c .before .before .loop-test .taken) (λ e. c .if1 .taken (c .before .relationship-of .ensures ∙ e))))
-
-target-of-requires : tie.Need-target-of-requires Inv-loop μ-loop
-target-of-requires c κs = tt
+sub-row : tie.Need-sub-row Inv-loop μ-loop
+sub-row c = let next = c .before .loop .next in omega (arith, c .loop-test .taken)
 
 source-of-requires : tie.Need-source-of-requires Inv-loop μ-loop
 source-of-requires c κs = tt
 
-returns-2 : tie.Need-returns-2 Inv-loop μ-loop
-returns-2 c =
-    let start = c .before .before .before .before .before .before .before .before .before in
-    let turn = c .before .before .before .before .before .before .loop .inv in
+returns : tie.Need-returns Inv-loop μ-loop
+returns c =
+    let start = c .before .before .before .before .before .before .before in
+    let next = c .before .before .before .loop .next in
+    let row : next ≡ suc (next - 1) = omega (arith, c .before .before .loop-test .taken) in
     λ os.
-    rw
-    (far-source (start .args .role) (start .args .u) (start .args .least) os (start .args .link-count) (now (start .args .links)) (start .pre .1)
-    (walk-found (start .args .role) (start .args .u) (start .args .least) (start .args .link-count) (now (start .args .links)) (start .pre .0) (start .pre .1) (c .before .before .before .before .before .before .before .link-place .ensures) (turn .1) (turn .0) (c .before .before .before .before .before .loop-test .taken) (sym (c .before .before .before .before .relationship-of .ensures) ∙ c .before .before .before .if1 .left) (sym (c .before .before .target-of .ensures) ∙ c .before .if2 .taken)))
-    (ap At (c .source-of .ensures))
+    above (ends start os) (start .args .after)
+    (rw
+    (far-source (start .args .role) (start .args .u) (start .args .after + 1) os (start .args .link-count) (now (start .args .links)) (start .pre .3)
+    (ahead-found (start .args .role) (start .args .u) (start .args .after) (start .args .link-count) (now (start .args .links)) (start .pre .3) (c .before .before .before .loop .inv) row (rw (← c .before .source-of .ensures) (c .if1 .taken))))
+    (ap At (c .before .source-of .ensures)))
 
-add-row : tie.Need-add-row Inv-loop μ-loop
-add-row c = omega arith
+chained-requires : tie.Need-chained-requires Inv-loop μ-loop
+chained-requires c κs = tt
 
 loop-less : tie.Need-loop-less Inv-loop μ-loop
-loop-less c = omega arith
+loop-less c =
+    let start = c .before .before .before .before .before .before .before .before in
+    let next = c .before .before .before .before .loop .next in
+    let row : next ≡ suc (next - 1) = omega (arith, c .before .before .before .loop-test .taken) in
+    rw (c .chained .ensures) (ahead-less (start .args .role) (start .args .u) (start .args .after) (start .args .link-count) (now (start .args .links)) (start .pre .3) (c .before .before .before .before .loop .inv) row (start .pre .2))
 
 loop-again : tie.Need-loop-again Inv-loop μ-loop
 loop-again c =
     let start = c .before .before .before .before .before .before .before .before in
-    let turn = c .before .before .before .before .before .loop .inv in (
-      omega (arith, turn .0),
-      walk-on (start .args .role) (start .args .u) (start .args .least) (start .args .link-count) (now (start .args .links)) (start .pre .0) (start .pre .1) (c .before .before .before .before .before .before .link-place .ensures) (turn .1) (turn .0) (c .before .before .before .before .loop-test .taken) (λ e. c .if2 .left (c .before .target-of .ensures ∙ e)),
-    )
+    let next = c .before .before .before .before .loop .next in
+    let row : next ≡ suc (next - 1) = omega (arith, c .before .before .before .loop-test .taken) in
+    rw (c .chained .ensures) (ahead-on (start .args .role) (start .args .u) (start .args .after) (start .args .link-count) (now (start .args .links)) (start .pre .3) (c .before .before .before .before .loop .inv) row (start .pre .2) (rw (← c .before .before .source-of .ensures) (c .before .if1 .left)))
 
-returns-3 : tie.Need-returns-3 Inv-loop μ-loop
-returns-3 c =
-    let start = c .before .before .before .before in
-    λ os. rw (far-none (start .args .role) (start .args .u) (start .args .least) os (start .args .link-count) (now (start .args .links)) (passed-all _ _ _ (c .before .loop .inv .1) (c .loop-test .left)))
+returns-2 : tie.Need-returns-2 Inv-loop μ-loop
+returns-2 c =
+    let start = c .before .before .before .before .before in
+    λ os.
+    above (ends start os) (start .args .after)
+    (rw (far-none (start .args .role) (start .args .u) (start .args .after + 1) os (start .args .link-count) (now (start .args .links)) (ahead-end (start .args .role) (start .args .u) (start .args .after) (start .args .link-count) (now (start .args .links)) (start .pre .3) (c .before .loop .inv) (c .loop-test .left))))
 
 pub next-source-spec : {M : Type 1} → statement M
 next-source-spec =
@@ -80,14 +76,12 @@ next-source-spec =
     (tie.spec
     Inv-loop
     μ-loop
-    link-place-requires
+    ahead-requires
     loop-holds
-    relationship-of-requires
-    returns
-    target-of-requires
+    sub-row
     source-of-requires
-    returns-2
-    add-row
+    returns
+    chained-requires
     loop-less
     loop-again
-    returns-3)
+    returns-2)
