@@ -14,9 +14,9 @@ use lib.Seq.{length-take-le, getD-set-same, getD-set-other, getD-append-add, get
 use borrow.Author.Tests.{le-leb}
 use Rattle.meaning.specs.Register.{Link}
 use Rattle.meaning.specs.Events.{linkOf}
-use Rattle.rows.specs.Rows.{rowsFrom, readRows, copied}
+use Rattle.rows.specs.Rows.{rowsFrom, copied}
 use Rattle.tables.specs.Columns.{linkRow}
-use Rattle.register.specs.Index.{leadsTo, nextLead, headPlace, wordIn, Indexed, Indexable, IndexOf}
+use Rattle.register.specs.Index.{leadsTo, nextLead, headPlace, wordIn, Indexable, IndexOf}
 use Rattle.register.proofs.Leads.{leads-parts, parts-lead, none-next, next-last, next-step, next-same, Head, head-some, head-within, head-one}
 
 rows-same : {A : Type 0} (f g : ℕ → A) (j n : ℕ) → ((i : ℕ) → i < j + n → f i ≡ g i) → rowsFrom f j n ≡ rowsFrom g j n

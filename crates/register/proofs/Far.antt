@@ -21,8 +21,8 @@ use Rattle.tables.specs.declared.Found.{Found}
 use Rattle.schema.proofs.Scan.{Passed, passed-none}
 use Rattle.register.specs.Tables.{linksWith, LinksAscend}
 use Rattle.register.specs.Places.{LowerBound}
-use Rattle.register.proofs.Hits.{alone, firstHit, missed-one, missed-to, hit-at, hit-none, first-row, first-kept}
-use Rattle.register.proofs.Keys.{target-below, target-above, source-below, source-above, same-relationship, same-source}
+use Rattle.register.proofs.Hits.{alone, firstHit, missed-to, hit-at, hit-none, first-row, first-kept}
+use Rattle.register.proofs.Keys.{target-below, target-above, same-relationship, same-source}
 use Rattle.register.proofs.Places.{ordered}
 
 -- above a number is from the next one on

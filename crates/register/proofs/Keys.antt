@@ -4,7 +4,6 @@ use mathlib.Core.Path.{_≡_, sym, subst}
 use mathlib.Core.Logic.{_⊎_, inl, inr, ⊎-elim}
 use mathlib.Core.Bool.{_&&_, not}
 use mathlib.Core.List.{List, [], _∷_}
-use native.Mathlib.Nat.{not-suc-le-zero}
 use native.Mathlib.Omega.{arith}
 use lib.Dec.{T, ltb, eqb}
 use mir.Facts.{T-not, not-T, and-yes, or-yes, ltb-yes, ltb-no, eqb-yes}
@@ -42,16 +41,6 @@ module _ (l : Link) (x y z : ℕ) where
   target-above n e f =
       not-above (l .target) z [] []
       (not-before (l .source) y (l .target ∷ []) (z ∷ []) (not-before (l .relationship) x (l .source ∷ l .target ∷ []) (y ∷ z ∷ []) n e) f)
-
--- links of one relationship stand by their sources
-pub source-below : (l : Link) (x y : ℕ) → T (before (linkKey l) (x ∷ y ∷ 0 ∷ [])) → l .relationship ≡ x → l .source < y
-source-below l x y t e =
-    ⊎-elim (λ (h : l .source < y). h) (λ h. absurd (not-suc-le-zero (before-one (l .target) 0 (h .1))))
-    (before-cases (l .source) y (l .target ∷ []) (0 ∷ []) (before-last (l .relationship) x (l .source ∷ l .target ∷ []) (y ∷ 0 ∷ []) e t))
-
-pub source-above : (l : Link) (x y z : ℕ) → T (not (before (linkKey l) (x ∷ y ∷ z ∷ []))) → l .relationship ≡ x → y ≤ l .source
-source-above l x y z n e =
-    not-above (l .source) y (l .target ∷ []) (z ∷ []) (not-before (l .relationship) x (l .source ∷ l .target ∷ []) (y ∷ z ∷ []) n e)
 
 -- a link before another, and not before a key that begins like that other, begins like it
 module _ (k l : Link) (t : Before linkKey k l) (y z : ℕ) (n : T (not (before (linkKey k) (l .relationship ∷ y ∷ z ∷ [])))) where

@@ -8,12 +8,12 @@ use mathlib.Core.Option.{Option, none, some, Option·map}
 use native.Mathlib.Nat.{le-refl, eq-or-lt-of-le}
 use native.Mathlib.Omega.{arith}
 use lib.Dec.{T, ltb, eqb}
-use mir.Facts.{T-not, and-yes, yes-and, eqb-yes, yes-eqb}
+use mir.Facts.{and-yes, yes-and, eqb-yes, yes-eqb}
 use borrow.Author.Tests.{ltb-true, lt-ltb, le-ltb}
 use Rattle.meaning.specs.Lists.{holds, faultFrom}
 use Rattle.meaning.specs.Limits.{maxRelationships, maxObjects}
 use Rattle.meaning.specs.Register.{Link, present}
-use Rattle.rows.specs.Rows.{rowsFrom, readRows}
+use Rattle.rows.specs.Rows.{rowsFrom}
 use Rattle.tables.specs.Columns.{objectRow, linkRow}
 use Rattle.register.specs.Tables.{objectsWith, objectPlace}
 use Rattle.register.specs.Index.{leadsTo, leadFrom, nextLead, headPlace}

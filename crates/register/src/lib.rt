@@ -240,7 +240,8 @@ pub fn index(
     while 0 < row {
         row -= 1;
         let relationship = relationship_of(links, row);
-        let Found::At(head) = head_place(object_count, objects, relationship, target_of(links, row)) else {
+        let Found::At(head) = head_place(object_count, objects, relationship, target_of(links, row))
+        else {
             return;
         };
         let from = head as usize;

@@ -2,7 +2,6 @@
 use Prim.Native.Nat.{_+_, _*_}
 use mathlib.Core.Path.{_≡_, sym, _∙_}
 use native.Mathlib.Omega.{arith}
-use denote.Ref.{now}
 use borrow.Author.Needs.{needs}
 use Rattle.schema.proofs.Founds.{found-none, found-some}
 use Rattle.register.proofs.Back.{at-head, no-head, after-link}

@@ -108,8 +108,8 @@ loop-again c =
     let place = c .before .before .before .before .head-place .ensures in (
       omega (arith, loop .inv .0),
       built-down (start .args .object-count) (now (start .args .objects)) (start .args .link-count) (now (start .args .links)) (start .pre .1) (loop .inv .1) (c .before .before .before .before .before .before .before .loop-test .taken) (loop .inv .0)
-      (ap₂ (headPlace (start .args .object-count) (now (start .args .objects))) (sym (c .before .before .before .before .before .before .relationship-of .ensures)) (sym (c .before .before .before .before .before .target-of .ensures))
-      ∙ found-some _ (sym (c .before .before .head .given .1) ∙ place)),
+          (ap₂ (headPlace (start .args .object-count) (now (start .args .objects))) (sym (c .before .before .before .before .before .before .relationship-of .ensures)) (sym (c .before .before .before .before .before .target-of .ensures))
+          ∙ found-some _ (sym (c .before .before .head .given .1) ∙ place)),
     )
 
 returns-2 : tie.Need-returns-2 Inv-loop μ-loop
