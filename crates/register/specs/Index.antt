@@ -2,7 +2,7 @@
 --   0 to 12287       the links' rows
 --   12288 to 16383   the chain: for each link's row, the next one of its relationship and target
 --   16384 to 49151   the heads: for each relationship and object's row, the first link's row of that relationship to that target
--- A row stands there as its number and 1, and 0 is none.
+-- In the chain and the heads stands 1 + the number of a row, and 0 where there is none.
 use Prim.Native.Nat.{ℕ, zero, suc, _+_, _-_, _*_, _≤_, _<_}
 use mathlib.Core.Path.{_≡_}
 use mathlib.Core.Bool.{Bool, _&&_, cond}
@@ -20,7 +20,7 @@ use Rattle.register.specs.Tables.{objectPlace}
 abbrev pub leadsTo : ℕ → ℕ → Link → Bool
 leadsTo r u l = eqb (l .relationship) r && eqb (l .target) u
 
--- 1 and the first of m rows from row i on that leads to u by r; 0 where none does
+-- 1 + the first of m rows from row i on that leads to u by r; 0 where none does
 abbrev pub leadFrom : (ℕ → Link) → ℕ → ℕ → ℕ → ℕ → ℕ
 leadFrom read r u i zero = 0
 leadFrom read r u i (suc m) = cond (leadsTo r u (read i)) (suc i) (leadFrom read r u (suc i) m)

@@ -251,7 +251,7 @@ pub fn index(
     }
 }
 
-// What follows a link's row in the chain.
+// What follows a link's row in the chain, which is the fourth row of 4,096 words.
 fn chained(links: &[u32], row: u32) -> u32
     ensures { λ r. ⌜ r ≡ getD (now (links .entry)) (12288 + row) 0 ⌝ }
 {

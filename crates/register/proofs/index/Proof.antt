@@ -81,7 +81,7 @@ mul-table : tie.Need-mul-table Inv-loop μ-loop
 mul-table c = omega (arith, within _ _ (c .before .before .before .before .before .before .before .before .before .before .before .before .pre .1 .few) _ _ (c .before .before .before .head-place .ensures) (c .before .head .given .1))
 
 element-copy-out-table : tie.Need-element-copy-out-table Inv-loop μ-loop
-element-copy-out-table c = within _ _ (c .before .before .before .before .before .before .before .before .before .before .before .before .pre .1 .few) _ _ (c .before .before .before .head-place .ensures) (c .before .head .given .1)
+element-copy-out-table c = omega (arith, within _ _ (c .before .before .before .before .before .before .before .before .before .before .before .before .pre .1 .few) _ _ (c .before .before .before .head-place .ensures) (c .before .head .given .1), c .before .before .before .before .before .before .before .before .before .before .before .before .pre .1 .links-few)
 
 mul-table-2 : tie.Need-mul-table-2 Inv-loop μ-loop
 mul-table-2 c = omega (arith, c .before .before .before .before .before .before .before .before .before .before .before .before .before .pre .1 .links-few)
