@@ -4,8 +4,10 @@
 --   Counted    items one after the other
 --   Machine    a body by its open forms
 --   Stack      the open forms in an array
+--   Whole      the rows of a body, put one after the other
 pub mod Names
 pub mod Tokens
 pub mod Counted
 pub mod Machine
 pub mod Stack
+pub mod Whole

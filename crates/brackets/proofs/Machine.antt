@@ -75,7 +75,7 @@ below (suc n) k e h = go (halves (small n) (allSmall n) e) (λ q. below n k q) (
     go f before true q = ap small (eqb-true k n q) ∙ f .0
     go f before false q = before (f .1) (omega (arith, eqb-false k n q))
 
-need-few : (k : ℕ) (m : Need) → need k ≡ some m → (m .parts ≤ 2) × (m .fields ≤ 2)
+pub need-few : (k : ℕ) (m : Need) → need k ≡ some m → (m .parts ≤ 2) × (m .fields ≤ 2)
 need-few k m e = go (leb 23 k) refl
   where
     go : (b : Bool) → leb 23 k ≡ b → (m .parts ≤ 2) × (m .fields ≤ 2)

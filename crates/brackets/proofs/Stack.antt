@@ -26,7 +26,7 @@ abbrev pub room : ℕ
 room = 16384
 
 -- the forms around the innermost, the last put first
-pub under : List ℕ → ℕ → List ℕ
+unfoldable pub under : List ℕ → ℕ → List ℕ
 under outer zero = []
 under outer (suc d) = getD outer d 0 ∷ under outer d
 
@@ -35,11 +35,11 @@ unfolding under
 under-set outer zero j v h = refl
 under-set outer (suc d) j v h = rw (getD-set-other outer j d v 0 (λ q. omega arith), under-set outer d j v (omega arith))
 
-under-put : (outer : List ℕ) (d v : ℕ) → d < length outer → under (set outer d v) (d + 1) ≡ v ∷ under outer d
+pub under-put : (outer : List ℕ) (d v : ℕ) → d < length outer → under (set outer d v) (d + 1) ≡ v ∷ under outer d
 unfolding under
 under-put outer d v h = rw (add-one, getD-set-same outer d v 0 h, under-set outer d d v (omega arith))
 
-under-got : (outer : List ℕ) (d : ℕ) → 1 ≤ d → under outer d ≡ getD outer (d - 1) 0 ∷ under outer (d - 1)
+pub under-got : (outer : List ℕ) (d : ℕ) → 1 ≤ d → under outer d ≡ getD outer (d - 1) 0 ∷ under outer (d - 1)
 unfolding under
 under-got outer zero h = absurd (omega arith)
 under-got outer (suc d) h = let q : suc d - 1 ≡ d = omega arith in rw q

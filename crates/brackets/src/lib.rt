@@ -2,15 +2,17 @@
 ghost use mathlib.Core.Path.{_≡_};
 ghost use mathlib.Core.Bool.{true};
 ghost use mathlib.Core.List.{List};
-ghost use Prim.Native.Nat.{ℕ, _+_, _-_, _≤_, _<_};
+ghost use Prim.Native.Nat.{ℕ, _+_, _-_, _*_, _≤_, _<_};
 ghost use lib.ListN.{length, take, drop};
 ghost use Rattle.meaning.specs.Lists.{every};
 ghost use Rattle.text.specs.Names.{isLetter, lettersIn, placeOf};
 ghost use Rattle.lexical.specs.Decimals.{numberIn};
 ghost use Rattle.text.specs.Tokens.{dashIn, itemOr, afterSpace, tokenIn};
+ghost use Rattle.text.specs.Bodies.{Written, rowsOf};
 ghost use Rattle.text.specs.Texts.{maxText};
 ghost use Rattle.brackets.specs.Brackets.{placeOr, foundAt, noItems, itemsAt, bodyAt};
 ghost use Rattle.brackets.specs.Steps.{packed, openedBy, filledBy, lackingAfter, noBody, endedAt};
+ghost use Rattle.brackets.specs.Whole.{bodyWords, WholeBody, rowsPut};
 
 // A token, and the place after it. An item is a number's word, or 2^32 for `-` alone.
 pub enum Found {
@@ -379,4 +381,55 @@ pub fn body(line: &[u8], at: usize) -> BodyFound
             Found::Bad => return no_body(),
         }
     }
+}
+
+// Puts the rows of the body at a place at the start of a table, each when its form is closed: after those of its parts.
+// Fields stand after parts, so of the open forms only the innermost has any; of the others the operators' codes are enough.
+fn put_rows(line: &[u8], at: usize, table: &mut [u32])
+    requires { ⌜ ((t : ℕ) × (w : Written) × WholeBody (drop at (now line)) t w) × (bodyWords ≤ length (now table)) ⌝ }
+    ensures { λ _. ⌜ ((t : ℕ) (w : Written) → WholeBody (drop at (now (line .entry))) t w → now (table .exit) ≡ rowsPut (now (table .entry)) 0 (rowsOf w)) ⌝ }
+{
+    let mut codes = [0u32; 64];
+    let mut depth: usize = 0;
+    let mut words = [0u32; 4];
+    let mut column: usize = 1;
+    let mut row: u32 = 0;
+    let mut i = at;
+    loop {
+        match token(line, i) {
+            Found::Begin { name, next } => {
+                codes[depth] = name - 12;
+                depth += 1;
+                i = next;
+            }
+            Found::Item { value, next } => {
+                words[column] = value as u32;
+                column += 1;
+                i = next;
+            }
+            Found::End { next } => {
+                if depth < 1 {
+                    return;
+                }
+                depth -= 1;
+                words[0] = codes[depth];
+                rows::write_row(table, 4, row, &words);
+                words = [0u32; 4];
+                column = 1;
+                row += 1;
+                i = next;
+            }
+            Found::Bad => return,
+        }
+    }
+}
+
+// Puts the rows of a rule's body, whose text runs from a place to the end of the line, in their place in the table of bodies.
+// The line was found good before, so no token is refused here.
+pub fn write_body(line: &[u8], at: usize, bodies: &mut [u32], rule: u32)
+    requires { ⌜ ((t : ℕ) × (w : Written) × WholeBody (drop at (now line)) t w) × ((rule + 1) * bodyWords ≤ length (now bodies)) ⌝ }
+    ensures { λ _. ⌜ ((t : ℕ) (w : Written) → WholeBody (drop at (now (line .entry))) t w → now (bodies .exit) ≡ rowsPut (now (bodies .entry)) (rule * bodyWords) (rowsOf w)) ⌝ }
+{
+    let start = (rule as usize) * 256;
+    put_rows(line, at, &mut bodies[start..]);
 }

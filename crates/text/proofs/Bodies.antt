@@ -44,7 +44,7 @@ module _ {A : Type 0} (p : A → Bool) where
 abbrev needs : ℕ → ℕ → Need
 needs parts fields = record { parts = parts; fields = fields }
 
-meets-need : (k p : ℕ) (fs : List ℕ) → meets k p fs ≡ true → (need k ≡ some (needs p (length fs))) × (every isWord fs ≡ true)
+pub meets-need : (k p : ℕ) (fs : List ℕ) → meets k p fs ≡ true → (need k ≡ some (needs p (length fs))) × (every isWord fs ≡ true)
 unfolding meets
 meets-need k p fs e = let h = halves _ (every isWord fs) e in (step (need k) (h .0), h .1)
   where
@@ -59,7 +59,7 @@ unfolding meets
 need-meets k p fs e w = rw (e, eq-eqb p p refl, eq-eqb (length fs) (length fs) refl, w)
 
 -- what a well written form of two parts is
-well-both : (k : ℕ) (a b : Written) (fs : List ℕ) → wellWritten (both k a b fs) ≡ true → (meets k 2 fs ≡ true) × (wellWritten a ≡ true) × (wellWritten b ≡ true)
+pub well-both : (k : ℕ) (a b : Written) (fs : List ℕ) → wellWritten (both k a b fs) ≡ true → (meets k 2 fs ≡ true) × (wellWritten a ≡ true) × (wellWritten b ≡ true)
 unfolding wellWritten
 well-both k a b fs e =
     let g = halves (meets k 2 fs) (wellWritten a && wellWritten b) e in

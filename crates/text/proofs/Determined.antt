@@ -56,7 +56,7 @@ entry-shaped lent before (rule t body) h room = ap₂ (λ x y. x && y) (both (is
     not-over true h = absurd (false≢true h)
     not-over false h = le-leb (formsIn body) maxForms (ltb-false maxForms (formsIn body) (not-so (ltb maxForms (formsIn body)) h))
 
-last-one : (s : ℕ) (before : List Entry) (e : Entry) → lastSection s (before ++ e ∷ []) ≡ sectionOf e
+pub last-one : (s : ℕ) (before : List Entry) (e : Entry) → lastSection s (before ++ e ∷ []) ≡ sectionOf e
 unfolding lastSection
 last-one s [] e = refl
 last-one s (x ∷ before) e = last-one (sectionOf x) before e

@@ -229,7 +229,7 @@ link-spelled before is e q =
     let (fits, same) = row-if (linkFits is) linkName _ e q in
     record { section = linkName; words = is; is-row = same; items = refl; named = refl; fits = fits }
 
-fields-few : (kind : ℕ) → eventFields kind ≤ 3
+pub fields-few : (kind : ℕ) → eventFields kind ≤ 3
 unfolding eventFields
 fields-few kind = leb-true (eventFields kind) 3 (is-true (leb (eventFields kind) 3) (every-getD (λ n. leb n 3) (2 ∷ 1 ∷ 3 ∷ 3 ∷ 3 ∷ 2 ∷ 2 ∷ []) kind 0 tt tt))
 
@@ -350,7 +350,7 @@ event-read before (kind ∷ ws) h =
 
 -- ---- rules
 
-end-is : (ts : List Token) → onlyEnd ts ≡ true → ts ≡ end ∷ []
+pub end-is : (ts : List Token) → onlyEnd ts ≡ true → ts ≡ end ∷ []
 end-is [] h = absurd (false≢true h)
 end-is (begin k ∷ ts) h = absurd (false≢true h)
 end-is (item v ∷ ts) h = absurd (false≢true h)
@@ -362,7 +362,7 @@ pub record Spelled (before : List Entry) (b : Bracket) (e : Entry) : Type 0 wher
   pub bracket : bracketOf before e ≡ b
   pub fits : sayable before e ≡ true
 
-rule-if : (b : Bool) (t : ℕ) (w : Written) (e : Entry) → cond b (some (rule t w)) none ≡ some e → (b ≡ true) × (rule t w ≡ e)
+pub rule-if : (b : Bool) (t : ℕ) (w : Written) (e : Entry) → cond b (some (rule t w)) none ≡ some e → (b ≡ true) × (rule t w ≡ e)
 rule-if true t w e q = (refl, cc)
 rule-if false t w e q = absurd (Option·none-ne-some e q)
 

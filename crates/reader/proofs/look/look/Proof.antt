@@ -1,0 +1,111 @@
+-- `look::look` meets its contract: the lines before are kept, and what is left to read.
+use Prim.Native.Nat.{_-_}
+use mathlib.Core.Path.{refl, sym, ap, _∙_}
+use lib.ListN.{length}
+use denote.Ref.{now}
+use native.Mathlib.Omega.{arith}
+use borrow.Author.Needs.{needs}
+use Rattle.reader.proofs.Looking.{Looking, look-starts, look-follows, look-ends, look-unended, look-bad, look-full, look-goes-on, count-small, line-short, end-within}
+use Rattle.reader.proofs.look.look.Statement.{statement}
+use Rattle.reader.proofs.look.look.Tie as tie
+
+abbrev Inv-loop : tie.InvT-loop
+Inv-loop text room counts₀ cells₀ section₀ at₀ n₀ counts cells section at n = Looking text room at n counts cells section
+
+abbrev μ-loop : tie.MeasureT-loop
+μ-loop text room counts₀ cells₀ section₀ at₀ n₀ counts cells section at n = length text - at
+
+loop-holds : tie.Need-loop-holds Inv-loop μ-loop
+loop-holds c = look-starts (now (c .before .args .text)) (now (c .before .args .room))
+
+is-ended-requires : tie.Need-is-ended-requires Inv-loop μ-loop
+is-ended-requires c κs = search needs
+
+returns : tie.Need-returns Inv-loop μ-loop
+returns c = look-unended (c .before .before .before .loop .inv) (search needs) (c .before .before .before .before .before .pre) (c .before .is-ended .ensures) (c .if1 .taken)
+
+line-requires : tie.Need-line-requires Inv-loop μ-loop
+line-requires c κs = search needs
+
+array-read-read-line : tie.Need-array-read-read-line Inv-loop μ-loop
+array-read-read-line c = search needs
+
+array-read-read-line-2 : tie.Need-array-read-read-line-2 Inv-loop μ-loop
+array-read-read-line-2 c = search needs
+
+array-read-read-line-3 : tie.Need-array-read-read-line-3 Inv-loop μ-loop
+array-read-read-line-3 c = search needs
+
+read-line-requires : tie.Need-read-line-requires Inv-loop μ-loop
+read-line-requires c κs = (line-short (c .before .before .before .before .before .loop .inv) (search needs) (c .before .before .before .before .before .before .before .pre) (c .before .line .ensures), look-follows (c .before .before .before .before .before .loop .inv) .types-few)
+
+returns-2 : tie.Need-returns-2 Inv-loop μ-loop
+returns-2 c = look-bad (c .before .before .before .before .before .before .before .before .loop .inv) (search needs) (c .before .before .before .before .before .before .before .before .before .before .pre) (c .before .before .before .before .before .before .is-ended .ensures) (c .before .before .before .before .before .if1 .left) (c .before .before .before .before .line .ensures) (c .before .before .read-line .ensures (c .before .before .before .before .before .before .before .before .loop .inv .before) (look-follows (c .before .before .before .before .before .before .before .before .loop .inv))) (c .if2 .taken)
+
+array-read-is-full : tie.Need-array-read-is-full Inv-loop μ-loop
+array-read-is-full c = search needs
+
+is-full-requires : tie.Need-is-full-requires Inv-loop μ-loop
+is-full-requires c κs = search needs
+
+returns-3 : tie.Need-returns-3 Inv-loop μ-loop
+returns-3 c = look-full (c .before .before .before .before .before .before .before .before .before .before .before .loop .inv) (search needs) (c .before .before .before .before .before .before .before .before .before .before .before .before .before .pre) (c .before .before .before .before .before .before .before .before .before .is-ended .ensures) (c .before .before .before .before .before .before .before .before .if1 .left) (c .before .before .before .before .before .before .before .line .ensures) (c .before .before .before .before .before .read-line .ensures (c .before .before .before .before .before .before .before .before .before .before .before .loop .inv .before) (look-follows (c .before .before .before .before .before .before .before .before .before .before .before .loop .inv))) (search needs) (c .before .is-full .ensures) (c .if3 .taken)
+
+array-read-more-cells : tie.Need-array-read-more-cells Inv-loop μ-loop
+array-read-more-cells c = search needs
+
+array-read-more-cells-2 : tie.Need-array-read-more-cells-2 Inv-loop μ-loop
+array-read-more-cells-2 c = search needs
+
+more-cells-requires : tie.Need-more-cells-requires Inv-loop μ-loop
+more-cells-requires c κs = tt
+
+more-rows-requires : tie.Need-more-rows-requires Inv-loop μ-loop
+more-rows-requires c κs = (search needs, count-small (c .before .before .before .before .before .before .before .before .before .before .before .before .before .before .loop .inv) (search needs) (c .before .before .before .before .before .before .before .before .before .before .before .before .before .before .before .before .pre) (c .before .before .before .before .before .before .before .before .before .before .before .before .is-ended .ensures) (c .before .before .before .before .before .before .before .before .before .before .before .if1 .left) (c .before .before .before .before .before .before .before .before .before .before .line .ensures) (c .before .before .before .before .before .before .before .before .read-line .ensures (c .before .before .before .before .before .before .before .before .before .before .before .before .before .before .loop .inv .before) (look-follows (c .before .before .before .before .before .before .before .before .before .before .before .before .before .before .loop .inv))) (search needs) (c .before .before .before .before .is-full .ensures) (c .before .before .before .if3 .left))
+
+line-end-requires : tie.Need-line-end-requires Inv-loop μ-loop
+line-end-requires c κs = search needs
+
+add-at : tie.Need-add-at Inv-loop μ-loop
+add-at c = let small = end-within (c .before .before .before .before .before .before .before .before .before .before .before .before .before .before .before .before .loop .inv) (search needs) (c .before .before .before .before .before .before .before .before .before .before .before .before .before .before .before .before .before .before .pre) (c .line-end .ensures) in let short = c .before .before .before .before .before .before .before .before .before .before .before .before .before .before .before .before .before .before .pre in omega arith
+
+add-n : tie.Need-add-n Inv-loop μ-loop
+add-n c = let few = c .before .before .before .before .before .before .before .before .before .before .before .before .before .before .before .before .loop .inv .few in let small = c .before .before .before .before .before .before .before .before .before .before .before .before .before .before .before .before .before .before .pre in search needs
+
+loop-less : tie.Need-loop-less Inv-loop μ-loop
+loop-less c = let end = c .line-end .ensures in search needs
+
+loop-again : tie.Need-loop-again Inv-loop μ-loop
+loop-again c = look-goes-on (c .before .before .before .before .before .before .before .before .before .before .before .before .before .before .before .before .loop .inv) (search needs) (c .before .before .before .before .before .before .before .before .before .before .before .before .before .before .before .before .before .before .pre) (c .before .before .before .before .before .before .before .before .before .before .before .before .before .before .is-ended .ensures) (c .before .before .before .before .before .before .before .before .before .before .before .before .before .if1 .left) (c .before .before .before .before .before .before .before .before .before .before .before .before .line .ensures) (c .before .before .before .before .before .before .before .before .before .before .read-line .ensures (c .before .before .before .before .before .before .before .before .before .before .before .before .before .before .before .before .loop .inv .before) (look-follows (c .before .before .before .before .before .before .before .before .before .before .before .before .before .before .before .before .loop .inv))) (search needs) (c .before .before .before .before .before .before .is-full .ensures) (c .before .before .before .before .before .if3 .left) (c .line-end .ensures) (c .before .more-rows .ensures) (c .before .before .before .more-cells .ensures)
+
+returns-4 : tie.Need-returns-4 Inv-loop μ-loop
+returns-4 c = look-ends (c .before .loop .inv) (search needs) (c .before .before .before .pre)
+
+pub look-spec : {M : Type 1} → statement M
+look-spec =
+    tie.close
+    (tie.spec
+    Inv-loop
+    μ-loop
+    loop-holds
+    is-ended-requires
+    returns
+    line-requires
+    array-read-read-line
+    array-read-read-line-2
+    array-read-read-line-3
+    read-line-requires
+    returns-2
+    array-read-is-full
+    is-full-requires
+    returns-3
+    array-read-more-cells
+    array-read-more-cells-2
+    more-cells-requires
+    more-rows-requires
+    line-end-requires
+    add-at
+    add-n
+    loop-less
+    loop-again
+    returns-4)
