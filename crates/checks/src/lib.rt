@@ -12,7 +12,7 @@ ghost use Rattle.tables.specs.declared.Counts.{Counts};
 ghost use Rattle.checks.specs.Stages.{staged};
 
 // 2: whether more rows are used than the limit allows or the slice has.
-fn too_many(t: &[u32], width: u32, used: usize, limit: usize) -> bool
+pub fn too_many(t: &[u32], width: u32, used: usize, limit: usize) -> bool
     ensures { λ r. ⌜ r ≡ overfull (record { words = now (t .entry); width = width; used = used; limit = limit }) ⌝ }
 {
     if limit < used {
@@ -48,7 +48,7 @@ pub fn any_too_many(
     or(a, or(b, or(c, or(d, or(e, or(f, false))))))
 }
 
-fn not_whole(t: &[u32], width: u32) -> bool
+pub fn not_whole(t: &[u32], width: u32) -> bool
     ensures { λ r. ⌜ r ≡ not (wholeRows (now (t .entry)) width) ⌝ }
 {
     !rows::whole(t, width)

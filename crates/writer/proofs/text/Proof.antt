@@ -1,0 +1,74 @@
+-- `writer::text` meets its contract. The invariant: the sections before `section` are put.
+use native.Mathlib.Omega.{arith}
+use Prim.Native.Nat.{_-_, _≤_, _<_}
+use mathlib.Core.Path.{_≡_, sym, ap, subst, _∙_}
+use mathlib.Core.List.{_++_}
+use borrow.Author.Needs.{needs}
+use Rattle.writer.specs.Put.{Put}
+use Rattle.writer.specs.Lines.{lineOf, linesOf, sectionText, textOf}
+use Rattle.writer.proofs.Puts.{put-nothing, put-then, put-as, put-within}
+use Rattle.writer.proofs.Sections.{lines-none, lines-more, sound-fit}
+use borrow.Author.Needs.{needs}
+use Rattle.writer.proofs.text.Statement.{statement}
+use Rattle.writer.proofs.text.Tie as tie
+
+abbrev Inv-loop : tie.InvT-loop
+Inv-loop out₀ n used types relationships rules bodies objects links events next₀ section₀ out next section =
+    (section ≤ 6) × Put out₀ 0 (linesOf (sectionText n used types relationships rules bodies objects links events) section) out next
+
+abbrev μ-loop : tie.MeasureT-loop
+μ-loop out₀ n used types relationships rules bodies objects links events next₀ section₀ out next section = 6 - section
+
+loop-holds : tie.Need-loop-holds Inv-loop μ-loop
+loop-holds c = (search needs, put-as (put-nothing _ _ (omega arith)) (sym (lines-none _)))
+
+rows-in-requires : tie.Need-rows-in-requires Inv-loop μ-loop
+rows-in-requires c κs = search needs
+
+section-lines-requires : tie.Need-section-lines-requires Inv-loop μ-loop
+section-lines-requires c κs =
+    let s = c .before .before .before .before .before .before .before .before .before .before .before .before in
+    let at-loop = c .before .before .before in
+    (λ i h. sound-fit (s .pre) (at-loop .loop .section) i (subst (λ k. i < k) (c .before .rows-in .ensures) h), put-within (at-loop .loop .inv .1))
+
+add-section : tie.Need-add-section Inv-loop μ-loop
+add-section c = search needs
+
+loop-less : tie.Need-loop-less Inv-loop μ-loop
+loop-less c = search needs
+
+loop-again : tie.Need-loop-again Inv-loop μ-loop
+unfolding sectionText
+loop-again c =
+    let s = c .before .before .before .before .before .before .before .before .before .before .before .before .before .before .before in
+    let at-loop = c .before .before .before .before .before .before in (
+      search needs,
+      put-as (put-then (at-loop .loop .inv .1) (c .before .before .section-lines .ensures))
+          (ap (λ k. linesOf (sectionText (s .args .n) (s .args .used) (s .args .types .now) (s .args .relationships .now) (s .args .rules .now) (s .args .bodies .now) (s .args .objects .now) (s .args .links .now) (s .args .events .now)) (at-loop .loop .section) ++ linesOf (lineOf (s .args .types .now) (s .args .relationships .now) (s .args .rules .now) (s .args .bodies .now) (s .args .objects .now) (s .args .links .now) (s .args .events .now) (at-loop .loop .section)) k) (c .before .before .before .before .rows-in .ensures)
+          ∙ lines-more (sectionText (s .args .n) (s .args .used) (s .args .types .now) (s .args .relationships .now) (s .args .rules .now) (s .args .bodies .now) (s .args .objects .now) (s .args .links .now) (s .args .events .now)) (at-loop .loop .section)),
+    )
+
+same-length : tie.Need-same-length Inv-loop μ-loop
+same-length c = c .before .loop .inv .1 .size
+
+returns : tie.Need-returns Inv-loop μ-loop
+unfolding textOf
+returns c =
+    let s = c .before .before .before .before .before .before .before .before .before .before in
+    let past : c .before .loop .section ≡ 6 = omega arith in
+    put-as (c .before .loop .inv .1) (ap (linesOf (sectionText (s .args .n) (s .args .used) (s .args .types .now) (s .args .relationships .now) (s .args .rules .now) (s .args .bodies .now) (s .args .objects .now) (s .args .links .now) (s .args .events .now))) past)
+
+pub text-spec : {M : Type 1} → statement M
+text-spec =
+    tie.close
+    (tie.spec
+    Inv-loop
+    μ-loop
+    loop-holds
+    rows-in-requires
+    section-lines-requires
+    add-section
+    loop-less
+    loop-again
+    same-length
+    returns)

@@ -1,0 +1,326 @@
+// The writer: lent tables as their one text.
+use tables::Counts;
+use tables::Found;
+use tables::Verdict;
+
+mod batch;
+mod lines;
+mod pieces;
+
+ghost use mathlib.Core.Path.{_≡_};
+ghost use mathlib.Core.Bool.{false};
+ghost use mathlib.Core.List.{List};
+ghost use Prim.Native.Nat.{ℕ, _+_, _<_, _≤_};
+ghost use lib.ListN.{length};
+ghost use Rattle.meaning.specs.Lists.{firstOf};
+ghost use Rattle.meaning.specs.Answers.{refusalAt};
+ghost use Rattle.tables.specs.Refusals.{verdictOf, lentTables, bookOf, lentRefusal};
+ghost use Rattle.text.specs.Texts.{spelled};
+ghost use Rattle.text.specs.Sheets.{entriesOf, sheetRefusal, textRefusal, writerRefusal, bytesAfter};
+ghost use Rattle.writer.specs.Put.{Put};
+ghost use Rattle.writer.specs.Lines.{lineOf, rowsIn, linesOf, textOf};
+ghost use Rattle.writer.specs.Sound.{Sound, Fit};
+ghost use Rattle.writer.specs.Answers.{writtenOf, Answered, eventFault};
+
+// How many bytes were written, or a refusal's number and place.
+pub enum Written {
+    Done(u32),
+    Refused(u32, u32),
+}
+
+// The line of a row, by its section: 0 types, 1 relationships, 2 rules, 3 objects, 4 links, 5 events.
+fn line(
+    out: &mut [u8],
+    at: usize,
+    types: &[u32],
+    relationships: &[u32],
+    rules: &[u32],
+    bodies: &[u32],
+    objects: &[u32],
+    links: &[u32],
+    events: &[u32],
+    section: u32,
+    row: u32,
+) -> usize
+    requires { ⌜ Fit (now types) (now rules) (now bodies) (now objects) (now links) (now events) section row ⌝ }
+    ensures { λ r. ⌜ Put (now (out .entry)) at (lineOf (now (types .entry)) (now (relationships .entry)) (now (rules .entry)) (now (bodies .entry)) (now (objects .entry)) (now (links .entry)) (now (events .entry)) section row) (now (out .exit)) r ⌝ }
+{
+    if section == 0 {
+        return lines::type_line(out, at, types, row);
+    }
+    if section == 1 {
+        return lines::relationship_line(out, at, relationships, row);
+    }
+    if section == 2 {
+        return lines::rule_line(out, at, rules, bodies, row);
+    }
+    if section == 3 {
+        return lines::object_line(out, at, types, objects, row);
+    }
+    if section == 4 {
+        return lines::link_line(out, at, links, row);
+    }
+    lines::event_line(out, at, events, row)
+}
+
+// The lines of the first rows of a section.
+fn section_lines(
+    out: &mut [u8],
+    at: usize,
+    types: &[u32],
+    relationships: &[u32],
+    rules: &[u32],
+    bodies: &[u32],
+    objects: &[u32],
+    links: &[u32],
+    events: &[u32],
+    section: u32,
+    count: u32,
+) -> usize
+    requires { ⌜ ((i : ℕ) → i < count → Fit (now types) (now rules) (now bodies) (now objects) (now links) (now events) section i) × (at ≤ length (now out) + 1) ⌝ }
+    ensures { λ r. ⌜ Put (now (out .entry)) at (linesOf (lineOf (now (types .entry)) (now (relationships .entry)) (now (rules .entry)) (now (bodies .entry)) (now (objects .entry)) (now (links .entry)) (now (events .entry)) section) count) (now (out .exit)) r ⌝ }
+{
+    let mut next = at;
+    let mut row: u32 = 0;
+    while row < count {
+        next = line(
+            &mut *out,
+            next,
+            types,
+            relationships,
+            rules,
+            bodies,
+            objects,
+            links,
+            events,
+            section,
+            row,
+        );
+        row += 1;
+    }
+    next
+}
+
+// How many rows of a section are used.
+fn rows_in(n: Counts, used: u32, section: u32) -> u32
+    ensures { λ r. ⌜ r ≡ rowsIn n used section ⌝ }
+{
+    if section == 0 {
+        return n.types;
+    }
+    if section == 1 {
+        return n.relationships;
+    }
+    if section == 2 {
+        return n.rules;
+    }
+    if section == 3 {
+        return n.objects;
+    }
+    if section == 4 {
+        return n.links;
+    }
+    used
+}
+
+// The lines of all sections in order, from the start of the bytes on.
+fn text(
+    out: &mut [u8],
+    n: Counts,
+    used: u32,
+    types: &[u32],
+    relationships: &[u32],
+    rules: &[u32],
+    bodies: &[u32],
+    objects: &[u32],
+    links: &[u32],
+    events: &[u32],
+) -> usize
+    requires { ⌜ Sound n used (now types) (now relationships) (now rules) (now bodies) (now objects) (now links) (now events) ⌝ }
+    ensures { λ r. ⌜ Put (now (out .entry)) 0 (textOf n used (now (types .entry)) (now (relationships .entry)) (now (rules .entry)) (now (bodies .entry)) (now (objects .entry)) (now (links .entry)) (now (events .entry))) (now (out .exit)) r ⌝ }
+{
+    let mut next = 0;
+    let mut section: u32 = 0;
+    while section < 6 {
+        let count = rows_in(n, used, section);
+        next = section_lines(
+            &mut *out,
+            next,
+            types,
+            relationships,
+            rules,
+            bodies,
+            objects,
+            links,
+            events,
+            section,
+            count,
+        );
+        section += 1;
+    }
+    next
+}
+
+// A text from the buffer to the lent bytes, where it keeps its limit and fits there, else refusal 2 or 14. A text that is over its limit
+// ends past the buffer.
+fn deliver(buffer: &[u8], end: usize, out: &mut [u8]) -> Written
+    requires { ⌜ length (now buffer) ≡ 65536 ⌝ }
+    ensures { λ r. ⌜ ((d s : List ℕ) → length d ≡ 65536 → Put d 0 s (now (buffer .entry)) end → Answered r (now (out .exit)) (textRefusal s (length (now (out .entry)))) s (now (out .entry))) ⌝ }
+{
+    if 65536 < end {
+        return Written::Refused(2, 0);
+    }
+    if out.len() < end {
+        return Written::Refused(14, 0);
+    }
+    lexical::write_bytes(out, 0, &buffer[..end]);
+    Written::Done(end as u32)
+}
+
+// Refusals 3, 4 and 5, and 7 of the events' rows; before them 2 and 6 of the other tables.
+fn contents(
+    n: Counts,
+    used: u32,
+    types: &[u32],
+    relationships: &[u32],
+    rules: &[u32],
+    bodies: &[u32],
+    objects: &[u32],
+    links: &[u32],
+    events: &[u32],
+) -> Verdict
+    ensures { λ r. ⌜ r ≡ verdictOf (firstOf (lentRefusal (lentTables n (now (types .entry)) (now (relationships .entry)) (now (rules .entry)) (now (bodies .entry)) (now (objects .entry)) (now (links .entry))) false) (refusalAt 7 (eventFault used (now (events .entry)) ((bookOf (lentTables n (now (types .entry)) (now (relationships .entry)) (now (rules .entry)) (now (bodies .entry)) (now (objects .entry)) (now (links .entry)))) .schema)))) ⌝ }
+{
+    match checks::check(
+        n,
+        types,
+        relationships,
+        rules,
+        bodies,
+        objects,
+        links,
+        false,
+    ) {
+        Verdict::Refused(number, place) => Verdict::Refused(number, place),
+        Verdict::Clear => match batch::first_unknown(n, used, events) {
+            Found::At(place) => Verdict::Refused(7, place),
+            Found::Nothing => Verdict::Clear,
+        },
+    }
+}
+
+// Refusals 2 and 6 of all tables, 3, 4 and 5, and 7 of the events' rows.
+fn refused(
+    n: Counts,
+    used: u32,
+    types: &[u32],
+    relationships: &[u32],
+    rules: &[u32],
+    bodies: &[u32],
+    objects: &[u32],
+    links: &[u32],
+    events: &[u32],
+) -> Verdict
+    ensures { λ r. ⌜ r ≡ verdictOf (sheetRefusal (lentTables n (now (types .entry)) (now (relationships .entry)) (now (rules .entry)) (now (bodies .entry)) (now (objects .entry)) (now (links .entry))) used (now (events .entry))) ⌝ }
+{
+    if checks::any_too_many(n, types, relationships, rules, bodies, objects, links) {
+        return Verdict::Refused(2, 0);
+    }
+    if checks::too_many(events, 4, used as usize, 256) {
+        return Verdict::Refused(2, 0);
+    }
+    if checks::any_broken(types, relationships, rules, bodies, objects, links) {
+        return Verdict::Refused(6, 0);
+    }
+    if checks::not_whole(events, 4) {
+        return Verdict::Refused(6, 0);
+    }
+    contents(
+        n,
+        used,
+        types,
+        relationships,
+        rules,
+        bodies,
+        objects,
+        links,
+        events,
+    )
+}
+
+// The text unless the tables are refused.
+fn unless_refused(
+    verdict: Verdict,
+    n: Counts,
+    used: u32,
+    types: &[u32],
+    relationships: &[u32],
+    rules: &[u32],
+    bodies: &[u32],
+    objects: &[u32],
+    links: &[u32],
+    events: &[u32],
+    out: &mut [u8],
+) -> Written
+    requires { ⌜ verdict ≡ verdictOf (sheetRefusal (lentTables n (now types) (now relationships) (now rules) (now bodies) (now objects) (now links)) used (now events)) ⌝ }
+    ensures { λ r. ⌜ Answered r (now (out .exit)) (writerRefusal (lentTables n (now (types .entry)) (now (relationships .entry)) (now (rules .entry)) (now (bodies .entry)) (now (objects .entry)) (now (links .entry))) used (now (events .entry)) (length (now (out .entry)))) (spelled (entriesOf (lentTables n (now (types .entry)) (now (relationships .entry)) (now (rules .entry)) (now (bodies .entry)) (now (objects .entry)) (now (links .entry))) used (now (events .entry)))) (now (out .entry)) ⌝ }
+{
+    if let Verdict::Refused(number, place) = verdict {
+        return Written::Refused(number, place);
+    }
+    let mut buffer = [0u8; 65536];
+    let end = text(
+        &mut buffer,
+        n,
+        used,
+        types,
+        relationships,
+        rules,
+        bodies,
+        objects,
+        links,
+        events,
+    );
+    deliver(&buffer, end, out)
+}
+
+// The text of lent tables, into lent bytes: the first refusal, else how many bytes were written. On a refusal nothing is written.
+pub fn write(
+    n: Counts,
+    events_used: u32,
+    types: &[u32],
+    relationships: &[u32],
+    rules: &[u32],
+    bodies: &[u32],
+    objects: &[u32],
+    links: &[u32],
+    events: &[u32],
+    out: &mut [u8],
+) -> Written
+    ensures { λ r. ⌜ (r ≡ writtenOf (writerRefusal (lentTables n (now (types .entry)) (now (relationships .entry)) (now (rules .entry)) (now (bodies .entry)) (now (objects .entry)) (now (links .entry))) «events_used» (now (events .entry)) (length (now (out .entry)))) (length (spelled (entriesOf (lentTables n (now (types .entry)) (now (relationships .entry)) (now (rules .entry)) (now (bodies .entry)) (now (objects .entry)) (now (links .entry))) «events_used» (now (events .entry)))))) × (now (out .exit) ≡ bytesAfter (writerRefusal (lentTables n (now (types .entry)) (now (relationships .entry)) (now (rules .entry)) (now (bodies .entry)) (now (objects .entry)) (now (links .entry))) «events_used» (now (events .entry)) (length (now (out .entry)))) (spelled (entriesOf (lentTables n (now (types .entry)) (now (relationships .entry)) (now (rules .entry)) (now (bodies .entry)) (now (objects .entry)) (now (links .entry))) «events_used» (now (events .entry)))) (now (out .entry))) ⌝ }
+{
+    let verdict = refused(
+        n,
+        events_used,
+        types,
+        relationships,
+        rules,
+        bodies,
+        objects,
+        links,
+        events,
+    );
+    unless_refused(
+        verdict,
+        n,
+        events_used,
+        types,
+        relationships,
+        rules,
+        bodies,
+        objects,
+        links,
+        events,
+        out,
+    )
+}
