@@ -182,8 +182,8 @@ module _ {text lent : List ℕ} {at n : ℕ} {counts cells : List ℕ} {section 
     one-line : readFrom (length text) lent 1 [] text ≡ cond (lineEnded rest) (entryThen lent n (k .before) more (entryIn (k .before) (lineIn rest))) (refused 1 n)
     one-line = sym (k .same) ∙ reading-line (k .fuel) lent n (k .before) rest some-left (k .left)
 
-    refusing : (number : ℕ) → readFrom (length text) lent 1 [] text ≡ refused number n → Shown (reading lent text) (record { number = number; line = n; counts = counts; cells = cells })
-    refusing number q = shown text lent (refused number n) short q refl refl (λ es e. absurd (false≢true (ap isTaken e)))
+    refusing : (number : ℕ) → readFrom (length text) lent 1 [] text ≡ refused number n → {seen : Seen} → (seen .number ≡ number) × (seen .line ≡ n) → Shown (reading lent text) seen
+    refusing number q is = shown text lent (refused number n) short q (is .0) (is .1) (λ es e. absurd (false≢true (ap isTaken e)))
 
     -- a text that is taken ends its line
     pub ended-fine : {es : List Entry} → readFrom (length text) lent 1 [] text ≡ taken es → lineEnded rest ≡ true
@@ -193,8 +193,8 @@ module _ {text lent : List ℕ} {at n : ℕ} {counts cells : List ℕ} {section 
         step true o q = refl
         step false o q = absurd (false≢true (ap isTaken q))
 
-    pub look-unended : {ended : Bool} → ended ≡ lineEnded rest → not ended ≡ true → Shown (reading lent text) (record { number = 1; line = n; counts = counts; cells = cells })
-    look-unended {ended} q g = refusing 1 (one-line ∙ ap (λ b. cond b (entryThen lent n (k .before) more (entryIn (k .before) (lineIn rest))) (refused 1 n)) (sym q ∙ not-true ended g))
+    pub look-unended : {ended : Bool} → ended ≡ lineEnded rest → not ended ≡ true → {seen : Seen} → (seen .number ≡ 1) × (seen .line ≡ n) → Shown (reading lent text) seen
+    look-unended {ended} q g is = refusing 1 (one-line ∙ ap (λ b. cond b (entryThen lent n (k .before) more (entryIn (k .before) (lineIn rest))) (refused 1 n)) (sym q ∙ not-true ended g)) is
 
     module _ {ended : Bool} (q : ended ≡ lineEnded rest) (g : not ended ≡ false) {line : List ℕ} (l : line ≡ lineIn rest) {held : Row} (r : held ≡ rowHeld (entryIn (k .before) line)) where
       at-entry : readFrom (length text) lent 1 [] text ≡ entryThen lent n (k .before) more (entryIn (k .before) (lineIn rest))
@@ -212,9 +212,9 @@ module _ {text lent : List ℕ} {at n : ℕ} {counts cells : List ℕ} {section 
           step none e t r = absurd (false≢true (ap isTaken t))
           step (some f) e t r = omega (arith, ap (λ r. r .section) r, section-small (k .before) f (entry-spelled (k .before) (lineIn rest) f e .fits))
 
-      pub look-bad : 6 ≤ held .section → Shown (reading lent text) (record { number = 1; line = n; counts = counts; cells = cells })
+      pub look-bad : 6 ≤ held .section → {seen : Seen} → (seen .number ≡ 1) × (seen .line ≡ n) → Shown (reading lent text) seen
       unfolding entryThen
-      look-bad s = refusing 1 (at-entry ∙ ap (entryThen lent n (k .before) more) (no-entry (k .before) (lineIn rest) row-here s))
+      look-bad s is = refusing 1 (at-entry ∙ ap (entryThen lent n (k .before) more) (no-entry (k .before) (lineIn rest) row-here s)) is
 
       module _ (s : held .section < 6) {full : Bool} (f : full ≡ (ltb (min (limitOf (held .section)) (getD lent (held .section) 0)) (suc (getD counts (held .section) 0)) || (eqb (held .section) 2 && ltb 64 (getD (held .words) 1 0)))) where
         pub e : Entry
@@ -254,8 +254,8 @@ module _ {text lent : List ℕ} {at n : ℕ} {counts cells : List ℕ} {section 
             step true o q = absurd (false≢true (ap isTaken q))
             step false o q = refl
 
-        pub look-full : full ≡ true → Shown (reading lent text) (record { number = 2; line = n; counts = counts; cells = cells })
-        look-full t = refusing 2 (at-row ∙ ap (λ b. cond b (refused 2 n) (more e)) t)
+        pub look-full : full ≡ true → {seen : Seen} → (seen .number ≡ 2) × (seen .line ≡ n) → Shown (reading lent text) seen
+        look-full t is = refusing 2 (at-row ∙ ap (λ b. cond b (refused 2 n) (more e)) t) is
 
         -- ---- a line with a row
 

@@ -16,6 +16,18 @@ pub struct Seen {
     pub cells: [u32; 32],
 }
 
+// A refusal, with nothing counted.
+fn refused(number: u32, line: u32) -> Seen
+    ensures { λ r. ⌜ (r .number ≡ number) × (r .line ≡ line) ⌝ }
+{
+    Seen {
+        number,
+        line,
+        counts: [0u32; 6],
+        cells: [0u32; 32],
+    }
+}
+
 // The limit on a section's rows.
 fn limit_of(section: u32) -> u32
     requires { ⌜ section < 6 ⌝ }
@@ -84,32 +96,17 @@ pub fn look(text: &[u8], room: &[usize; 6]) -> Seen
     let mut n: u32 = 1;
     while at < text.len() {
         if !lexical::is_ended(text, at) {
-            return Seen {
-                number: 1,
-                line: n,
-                counts,
-                cells,
-            };
+            return refused(1, n);
         }
         let line = lexical::line(text, at);
         let row = read_line(line, counts[0], counts[1], counts[2], &cells, section);
         let words = row.words;
         section = row.section;
         if 6 <= section {
-            return Seen {
-                number: 1,
-                line: n,
-                counts,
-                cells,
-            };
+            return refused(1, n);
         }
         if is_full(section, words[1], &counts, room) {
-            return Seen {
-                number: 2,
-                line: n,
-                counts,
-                cells,
-            };
+            return refused(2, n);
         }
         cells = more_cells(&cells, counts[0], section, words[1]);
         counts = more_rows(&counts, section);

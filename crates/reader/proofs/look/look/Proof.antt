@@ -21,8 +21,11 @@ loop-holds c = look-starts (now (c .before .args .text)) (now (c .before .args .
 is-ended-requires : tie.Need-is-ended-requires Inv-loop μ-loop
 is-ended-requires c κs = search needs
 
+refused-requires : tie.Need-refused-requires Inv-loop μ-loop
+refused-requires c κs = search needs
+
 returns : tie.Need-returns Inv-loop μ-loop
-returns c = look-unended (c .before .before .before .loop .inv) (search needs) (c .before .before .before .before .before .pre) (c .before .is-ended .ensures) (c .if1 .taken)
+returns c = look-unended (c .before .before .before .before .loop .inv) (search needs) (c .before .before .before .before .before .before .pre) (c .before .before .is-ended .ensures) (c .before .if1 .taken) (c .refused .ensures)
 
 line-requires : tie.Need-line-requires Inv-loop μ-loop
 line-requires c κs = search needs
@@ -39,8 +42,11 @@ array-read-read-line-3 c = search needs
 read-line-requires : tie.Need-read-line-requires Inv-loop μ-loop
 read-line-requires c κs = (line-short (c .before .before .before .before .before .loop .inv) (search needs) (c .before .before .before .before .before .before .before .pre) (c .before .line .ensures), look-follows (c .before .before .before .before .before .loop .inv) .types-few)
 
+refused-requires-2 : tie.Need-refused-requires-2 Inv-loop μ-loop
+refused-requires-2 c κs = search needs
+
 returns-2 : tie.Need-returns-2 Inv-loop μ-loop
-returns-2 c = look-bad (c .before .before .before .before .before .before .before .before .loop .inv) (search needs) (c .before .before .before .before .before .before .before .before .before .before .pre) (c .before .before .before .before .before .before .is-ended .ensures) (c .before .before .before .before .before .if1 .left) (c .before .before .before .before .line .ensures) (c .before .before .read-line .ensures (c .before .before .before .before .before .before .before .before .loop .inv .before) (look-follows (c .before .before .before .before .before .before .before .before .loop .inv))) (c .if2 .taken)
+returns-2 c = look-bad (c .before .before .before .before .before .before .before .before .before .loop .inv) (search needs) (c .before .before .before .before .before .before .before .before .before .before .before .pre) (c .before .before .before .before .before .before .before .is-ended .ensures) (c .before .before .before .before .before .before .if1 .left) (c .before .before .before .before .before .line .ensures) (c .before .before .before .read-line .ensures (c .before .before .before .before .before .before .before .before .before .loop .inv .before) (look-follows (c .before .before .before .before .before .before .before .before .before .loop .inv))) (c .before .if2 .taken) (c .refused2 .ensures)
 
 array-read-is-full : tie.Need-array-read-is-full Inv-loop μ-loop
 array-read-is-full c = search needs
@@ -48,8 +54,11 @@ array-read-is-full c = search needs
 is-full-requires : tie.Need-is-full-requires Inv-loop μ-loop
 is-full-requires c κs = search needs
 
+refused-requires-3 : tie.Need-refused-requires-3 Inv-loop μ-loop
+refused-requires-3 c κs = search needs
+
 returns-3 : tie.Need-returns-3 Inv-loop μ-loop
-returns-3 c = look-full (c .before .before .before .before .before .before .before .before .before .before .before .loop .inv) (search needs) (c .before .before .before .before .before .before .before .before .before .before .before .before .before .pre) (c .before .before .before .before .before .before .before .before .before .is-ended .ensures) (c .before .before .before .before .before .before .before .before .if1 .left) (c .before .before .before .before .before .before .before .line .ensures) (c .before .before .before .before .before .read-line .ensures (c .before .before .before .before .before .before .before .before .before .before .before .loop .inv .before) (look-follows (c .before .before .before .before .before .before .before .before .before .before .before .loop .inv))) (search needs) (c .before .is-full .ensures) (c .if3 .taken)
+returns-3 c = look-full (c .before .before .before .before .before .before .before .before .before .before .before .before .loop .inv) (search needs) (c .before .before .before .before .before .before .before .before .before .before .before .before .before .before .pre) (c .before .before .before .before .before .before .before .before .before .before .is-ended .ensures) (c .before .before .before .before .before .before .before .before .before .if1 .left) (c .before .before .before .before .before .before .before .before .line .ensures) (c .before .before .before .before .before .before .read-line .ensures (c .before .before .before .before .before .before .before .before .before .before .before .before .loop .inv .before) (look-follows (c .before .before .before .before .before .before .before .before .before .before .before .before .loop .inv))) (search needs) (c .before .before .is-full .ensures) (c .before .if3 .taken) (c .refused3 .ensures)
 
 array-read-more-cells : tie.Need-array-read-more-cells Inv-loop μ-loop
 array-read-more-cells c = search needs
@@ -89,15 +98,18 @@ look-spec =
     μ-loop
     loop-holds
     is-ended-requires
+    refused-requires
     returns
     line-requires
     array-read-read-line
     array-read-read-line-2
     array-read-read-line-3
     read-line-requires
+    refused-requires-2
     returns-2
     array-read-is-full
     is-full-requires
+    refused-requires-3
     returns-3
     array-read-more-cells
     array-read-more-cells-2
