@@ -5,3 +5,6 @@ pub mod Flat
 pub mod Lines
 pub mod Room
 pub mod Looking
+pub mod Filling
+pub mod Bodied
+pub mod Answers

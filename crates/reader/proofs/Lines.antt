@@ -115,7 +115,7 @@ body-held t numbered (some ts) = by-form (formIn (length ts) ts)
     by-form none = no-body t numbered (isWord t)
     by-form (some f) = by-end f (onlyEnd (f .rest))
 
-bind-nothing : {A B : Type 0} (o : Option A) (f : A → Option B) → ((a : A) → f a ≡ none) → bind o f ≡ none
+pub bind-nothing : {A B : Type 0} (o : Option A) (f : A → Option B) → ((a : A) → f a ≡ none) → bind o f ≡ none
 unfolding bind
 bind-nothing none f h = refl
 bind-nothing (some a) f h = h a
@@ -125,7 +125,7 @@ module _ (line : List ℕ) (at : ℕ) (says : List Token → Option Entry) where
   abbrev here : ItemAt
   here = itemOf (foundAt at (tokenIn (drop at line)))
 
-  not-item : here .good ≡ false → says [] ≡ none → ((k : ℕ) (ts : List Token) → says (begin k ∷ ts) ≡ none) → ((ts : List Token) → says (end ∷ ts) ≡ none) → bind (tokensIn (drop at line)) says ≡ none
+  pub not-item : here .good ≡ false → says [] ≡ none → ((k : ℕ) (ts : List Token) → says (begin k ∷ ts) ≡ none) → ((ts : List Token) → says (end ∷ ts) ≡ none) → bind (tokensIn (drop at line)) says ≡ none
   not-item h empty begins ends = step (tokenIn (drop at line)) refl h
     where
       by-token : (t : Lexed) (k : Token) → t .token ≡ k → tokenIn (drop at line) ≡ some t → (itemOf (tokenAt at k (t .size))) .good ≡ false → bind (tokensIn (drop at line)) says ≡ none
@@ -137,7 +137,7 @@ module _ (line : List ℕ) (at : ℕ) (says : List Token → Option Entry) where
       step none q g = first-none (drop at line) says q empty
       step (some t) q g = by-token t (t .token) refl q g
 
-  is-item : here .good ≡ true → bind (tokensIn (drop at line)) says ≡ bind (tokensIn (drop (here .next) line)) (λ ts. says (item (here .value) ∷ ts))
+  pub is-item : here .good ≡ true → bind (tokensIn (drop at line)) says ≡ bind (tokensIn (drop (here .next) line)) (λ ts. says (item (here .value) ∷ ts))
   is-item h = step (tokenIn (drop at line)) refl h
     where
       by-token : (t : Lexed) (k : Token) → t .token ≡ k → tokenIn (drop at line) ≡ some t → (itemOf (tokenAt at k (t .size))) .good ≡ true → bind (tokensIn (drop at line)) says ≡ bind (tokensIn (drop ((itemOf (tokenAt at k (t .size))) .next) line)) (λ ts. says (item ((itemOf (tokenAt at k (t .size))) .value) ∷ ts))
@@ -236,7 +236,7 @@ module _ (before : List Entry) where
 
   -- a line that starts with a bracket and a name
   module _ (line : List ℕ) (long : 1 ≤ length line) (opened : getD line 0 0 ≡ 40) where
-    named : says line ≡ bind (placeOf (lettersIn (drop 1 line))) (λ k. bind (tokensIn (drop (1 + length (lettersIn (drop 1 line))) line)) (λ ts. insideIn before (record { name = k; tokens = ts })))
+    pub named : says line ≡ bind (placeOf (lettersIn (drop 1 line))) (λ k. bind (tokensIn (drop (1 + length (lettersIn (drop 1 line))) line)) (λ ts. insideIn before (record { name = k; tokens = ts })))
     unfolding bracketIn bind
     named = step line long opened
       where

@@ -124,6 +124,10 @@ look-starts text lent =
       section-is = refl;
     }
 
+pub starts-before : (text lent : List ℕ) → look-starts text lent .before ≡ []
+unfolding look-starts
+starts-before text lent = refl
+
 -- what a reading shows
 shown : (text lent : List ℕ) (r : Reading) → length text ≤ maxText → readFrom (length text) lent 1 [] text ≡ r → {seen : Seen} → seen .number ≡ numberOf r → seen .line ≡ lineOf r → ((es : List Entry) → r ≡ taken es → Counted es (seen .counts) (seen .cells)) → Shown (reading lent text) seen
 unfolding reading
@@ -135,6 +139,14 @@ shown text lent r short q {seen} n l c =
 abbrev isTaken : Reading → Bool
 isTaken (taken es) = true
 isTaken (refused m n) = false
+
+pub taken-same : {k l : List Entry} → taken k ≡ taken l → k ≡ l
+taken-same q = cc
+
+-- a text that is short and taken
+pub read-short : (text lent : List ℕ) {es : List Entry} → length text ≤ maxText → reading lent text ≡ taken es → readFrom (length text) lent 1 [] text ≡ taken es
+unfolding reading
+read-short text lent short q = sym (ap (λ b. cond b (refused 2 0) (readFrom (length text) lent 1 [] text)) (le-ltb maxText (length text) short)) ∙ q
 
 module _ {text lent : List ℕ} {at n : ℕ} {counts cells : List ℕ} {section : ℕ} (k : Looking text lent at n counts cells section) where
   pub look-follows : Follows (k .before) (getD counts 0 0) (getD counts 1 0) (getD counts 2 0) cells section
@@ -149,13 +161,12 @@ module _ {text lent : List ℕ} {at n : ℕ} {counts cells : List ℕ} {section 
         section-is = k .section-is;
       }
 
-  taken-same : {k l : List Entry} → taken k ≡ taken l → k ≡ l
-  taken-same q = cc
+  pub look-done : length text ≤ at → readFrom (length text) lent 1 [] text ≡ taken (k .before)
+  look-done h = sym (k .same) ∙ ap (readFrom (k .fuel) lent n (k .before)) (drop-of-length-le text h) ∙ reading-end (k .fuel) lent n (k .before)
 
   pub look-ends : length text ≤ at → length text ≤ maxText → Shown (reading lent text) (record { number = 0; line = 0; counts = counts; cells = cells })
   look-ends h short =
-      let done : readFrom (length text) lent 1 [] text ≡ taken (k .before) = sym (k .same) ∙ ap (readFrom (k .fuel) lent n (k .before)) (drop-of-length-le text h) ∙ reading-end (k .fuel) lent n (k .before) in
-      shown text lent (taken (k .before)) short done refl refl
+      shown text lent (taken (k .before)) short (look-done h) refl refl
       (λ es q. subst (λ es. Counted es counts cells) (taken-same q) (record { rows = k .rows; cells-of = k .cells-of }))
 
   -- ---- a line
@@ -393,3 +404,10 @@ module _ {text lent : List ℕ} {at n : ℕ} {counts cells : List ℕ} {section 
           look-goes-on {end} {more-counts} {more-cells} a c d =
               subst (λ l. Looking text lent (end + 1) (n + 1) l more-cells S) (sym c)
               (subst (λ l. Looking text lent (end + 1) (n + 1) (set counts S (getD counts S 0 + 1)) l S) (sym d) (goes-on {after = end + 1} (ap (λ m. m + 1) a)))
+
+          -- the same, with the lines before it
+          pub look-with : {end : ℕ} {more-counts more-cells : List ℕ} → end ≡ at + length (lineIn rest) → more-counts ≡ set counts S (getD counts S 0 + 1) → more-cells ≡ cond (eqb S 0 && ltb (getD counts 0 0) 32) (set cells (getD counts 0 0) (getD (held .words) 1 0)) cells → (m : Looking text lent (end + 1) (n + 1) more-counts more-cells S) × (m .before ≡ next)
+          unfolding goes-on
+          look-with {end} {more-counts} {more-cells} a c d =
+              subst (λ l. (m : Looking text lent (end + 1) (n + 1) l more-cells S) × (m .before ≡ next)) (sym c)
+              (subst (λ l. (m : Looking text lent (end + 1) (n + 1) (set counts S (getD counts S 0 + 1)) l S) × (m .before ≡ next)) (sym d) (goes-on {after = end + 1} (ap (λ m. m + 1) a), refl))

@@ -10,7 +10,7 @@ body-place-requires : tie.Need-body-place-requires
 body-place-requires c κs = search needs
 
 write-body-requires : tie.Need-write-body-requires
-write-body-requires c κs = (let ready = c .before .before .before .before .before .pre .0 (c .before .before .if1 .taken) in (ready .0, ready .1, subst (λ n. WholeBody (drop n (now (c .before .before .before .before .before .args .line))) (ready .0) (ready .1)) (sym (c .before .body-place .ensures)) (ready .2)), c .before .before .before .before .before .pre .1)
+write-body-requires c κs = (let ready = c .before .before .before .before .before .pre .0 (c .before .before .if1 .taken) in (ready .0, ready .1, subst (λ n. WholeBody (drop n (now (c .before .before .before .before .before .args .line))) (ready .0) (ready .1)) (sym (c .before .body-place .ensures)) (ready .2)), c .before .before .before .before .before .pre .1 (c .before .before .if1 .taken))
 
 same-length : tie.Need-same-length
 same-length c = search needs
