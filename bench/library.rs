@@ -2,7 +2,7 @@
 use crate::park::Tables;
 use std::time::Instant;
 
-// Both entries take the five counts, then each table by its address and length.
+// The entries over lent books and registers take the five counts, then each table by its address and length.
 macro_rules! entries {
     ($($(#[$note:meta])* $name:ident($($last:ident: $type:ty)?) $(-> $result:ty)?;)*) => {
         extern "C" {
@@ -46,6 +46,34 @@ pub fn check(t: &Tables) -> u64 {
 pub fn full_check(t: &Tables) -> [u32; 3] {
     let mut answer = [0; 3];
     on_tables!(checker_full_check, t, answer.as_mut_ptr());
+    answer
+}
+
+extern "C" {
+    /// 0 and the rows of the six sections; or 1, number, line
+    fn checker_read(
+        text: *const u8, text_len: usize,
+        types: *mut u32, types_len: usize, relationships: *mut u32, relationships_len: usize,
+        rules: *mut u32, rules_len: usize, bodies: *mut u32, bodies_len: usize,
+        objects: *mut u32, objects_len: usize, links: *mut u32, links_len: usize,
+        events: *mut u32, events_len: usize,
+        answer: *mut u32,
+    );
+}
+
+// Reads a text; the events' table stands beside the others.
+pub fn read(text: &[u8], t: &mut Tables, events: &mut [u32]) -> [u32; 7] {
+    let mut answer = [0; 7];
+    unsafe {
+        checker_read(
+            text.as_ptr(), text.len(),
+            t.types.as_mut_ptr(), t.types.len(), t.relationships.as_mut_ptr(), t.relationships.len(),
+            t.rules.as_mut_ptr(), t.rules.len(), t.bodies.as_mut_ptr(), t.bodies.len(),
+            t.objects.as_mut_ptr(), t.objects.len(), t.links.as_mut_ptr(), t.links.len(),
+            events.as_mut_ptr(), events.len(),
+            answer.as_mut_ptr(),
+        );
+    }
     answer
 }
 

@@ -5,11 +5,14 @@ use mathlib.Core.List.{[], _∷_}
 use mathlib.Core.Option.{Option, none, some}
 use Rattle.meaning.specs.Events.{Refusal}
 use Rattle.meaning.specs.Answers.{Answer, accepted, brokenAt, refused}
+use Rattle.text.specs.Texts as Texts
+use Rattle.reader.specs.Reads.{readAnswer}
+use Rattle.reader.specs.declared.Outcome.the-variants as Outcomes
 use Rattle.tables.specs.Refusals.{verdictOf}
 use Rattle.tables.specs.declared.Verdict.the-variants.{Clear, Refused}
 use Rattle.full.specs.Answers.{answerOf}
 use Rattle.full.specs.declared.Answer.the-variants as Answers
-use Rattle.exports.specs.Coded.{coded, wordsOf}
+use Rattle.exports.specs.Coded.{coded, wordsOf, readWords}
 
 pub coded-clear : (o : Option Refusal) → Clear ≡ verdictOf o → coded o ≡ 0
 unfolding coded
@@ -38,3 +41,15 @@ unfolding wordsOf
 words-refused accepted e = cc
 words-refused (brokenAt rule id) e = cc
 words-refused (refused number place) e = cc
+
+pub words-taken :
+    (r : Texts.Reading) {a b c d e f : ℕ} → Outcomes.Done a b c d e f ≡ readAnswer r → 0 ∷ a ∷ b ∷ c ∷ d ∷ e ∷ f ∷ [] ≡ readWords r
+unfolding readWords
+words-taken (Texts.taken es) e = cc
+words-taken (Texts.refused number line) e = cc
+
+pub words-unread :
+    (r : Texts.Reading) {n l : ℕ} → Outcomes.Refused n l ≡ readAnswer r → 1 ∷ n ∷ l ∷ 0 ∷ 0 ∷ 0 ∷ 0 ∷ [] ≡ readWords r
+unfolding readWords
+words-unread (Texts.taken es) e = cc
+words-unread (Texts.refused number line) e = cc

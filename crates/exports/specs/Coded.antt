@@ -3,8 +3,13 @@ use Prim.Native.Nat.{ℕ, _+_, _*_, _^_}
 use mathlib.Core.List.{List, [], _∷_}
 use mathlib.Core.Option.{Option, none, some}
 use Rattle.meaning.specs.Events.{Refusal}
-use Rattle.meaning.specs.Answers.{Answer, accepted, brokenAt, refused}
+use Rattle.meaning.specs.Answers as Answers
+use Rattle.meaning.specs.Answers.{Answer, accepted, brokenAt}
 use Rattle.tables.specs.declared.Counts.{Counts}
+use Rattle.text.specs.Names.{typeName, relationshipName, ruleName, objectName, linkName}
+use Rattle.text.specs.Entries.{eventSection, countOf}
+use Rattle.text.specs.Texts.{Reading, taken, refused, reading}
+use Rattle.reader.specs.Reads.{lentRows, allWhole, unlessBroken}
 
 abbrev pub countsOf : ℕ → ℕ → ℕ → ℕ → ℕ → Counts
 countsOf types relationships rules objects links =
@@ -19,4 +24,17 @@ coded (some r) = (r .number) * 2 ^ 32 + r .place
 unfoldable pub wordsOf : Answer → List ℕ
 wordsOf accepted = 0 ∷ 0 ∷ 0 ∷ []
 wordsOf (brokenAt rule id) = 1 ∷ rule ∷ id ∷ []
-wordsOf (refused number place) = 2 ∷ number ∷ place ∷ []
+wordsOf (Answers.refused number place) = 2 ∷ number ∷ place ∷ []
+
+-- what a text meets that is read into lent tables
+abbrev pub lentReading : List ℕ → List ℕ → List ℕ → List ℕ → List ℕ → List ℕ → List ℕ → List ℕ → Reading
+lentReading text types relationships rules bodies objects links events =
+    unlessBroken (reading (lentRows types relationships rules bodies objects links events) text)
+    (allWhole types relationships rules bodies objects links events)
+
+-- a reading as seven words: 0 and the rows of the six sections; 1, number, line, and zeros
+unfoldable pub readWords : Reading → List ℕ
+readWords (taken es) =
+    0 ∷ countOf typeName es ∷ countOf relationshipName es ∷ countOf ruleName es ∷ countOf objectName es ∷ countOf linkName es
+    ∷ countOf eventSection es ∷ []
+readWords (refused number line) = 1 ∷ number ∷ line ∷ 0 ∷ 0 ∷ 0 ∷ 0 ∷ []

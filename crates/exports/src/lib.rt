@@ -1,12 +1,16 @@
 // What Rust and C programs link: the checker's entries over pointers and numbers.
 use full::Answer;
+use reader::Outcome;
 use tables::Counts;
 use tables::Verdict;
 ghost use mathlib.Core.Path.{_≡_};
 ghost use mathlib.Core.Bool.{false};
 ghost use Rattle.tables.specs.Refusals.{lentTables, lentRefusal};
 ghost use Rattle.full.specs.Answers.{lentAnswer};
-ghost use Rattle.exports.specs.Coded.{coded, countsOf, wordsOf};
+ghost use Rattle.text.specs.Names.{typeName, relationshipName, ruleName, objectName, linkName};
+ghost use Rattle.text.specs.Entries.{eventSection, tableOf, bodiesOf};
+ghost use Rattle.reader.specs.Reads.{tableAfter};
+ghost use Rattle.exports.specs.Coded.{coded, countsOf, wordsOf, lentReading, readWords};
 
 // Refusals 2, 6, 3, 4 and 5 of a lent book and register: a refusal's number times 2^32 plus its place, or 0.
 #[no_mangle]
@@ -76,5 +80,42 @@ pub extern "C" fn checker_full_check(
         Answer::Accepted => [0, 0, 0],
         Answer::Broken(rule, id) => [1, rule, id],
         Answer::Refused(number, place) => [2, number, place],
+    };
+}
+
+// Reads a text into lent tables. The answer is 0 and the rows of the six sections, bodies left out; or 1, a refusal's number and its line.
+#[no_mangle]
+pub extern "C" fn checker_read(
+    text: &[u8],
+    types: &mut [u32],
+    relationships: &mut [u32],
+    rules: &mut [u32],
+    bodies: &mut [u32],
+    objects: &mut [u32],
+    links: &mut [u32],
+    events: &mut [u32],
+    answer: &mut [u32; 7],
+)
+    ensures { λ r. ⌜ (now (answer .exit) ≡ readWords (lentReading (now (text .entry)) (now (types .entry)) (now (relationships .entry)) (now (rules .entry)) (now (bodies .entry)) (now (objects .entry)) (now (links .entry)) (now (events .entry)))) × (now (types .exit) ≡ tableAfter (lentReading (now (text .entry)) (now (types .entry)) (now (relationships .entry)) (now (rules .entry)) (now (bodies .entry)) (now (objects .entry)) (now (links .entry)) (now (events .entry))) (tableOf typeName) (now (types .entry))) × (now (relationships .exit) ≡ tableAfter (lentReading (now (text .entry)) (now (types .entry)) (now (relationships .entry)) (now (rules .entry)) (now (bodies .entry)) (now (objects .entry)) (now (links .entry)) (now (events .entry))) (tableOf relationshipName) (now (relationships .entry))) × (now (rules .exit) ≡ tableAfter (lentReading (now (text .entry)) (now (types .entry)) (now (relationships .entry)) (now (rules .entry)) (now (bodies .entry)) (now (objects .entry)) (now (links .entry)) (now (events .entry))) (tableOf ruleName) (now (rules .entry))) × (now (bodies .exit) ≡ tableAfter (lentReading (now (text .entry)) (now (types .entry)) (now (relationships .entry)) (now (rules .entry)) (now (bodies .entry)) (now (objects .entry)) (now (links .entry)) (now (events .entry))) bodiesOf (now (bodies .entry))) × (now (objects .exit) ≡ tableAfter (lentReading (now (text .entry)) (now (types .entry)) (now (relationships .entry)) (now (rules .entry)) (now (bodies .entry)) (now (objects .entry)) (now (links .entry)) (now (events .entry))) (tableOf objectName) (now (objects .entry))) × (now (links .exit) ≡ tableAfter (lentReading (now (text .entry)) (now (types .entry)) (now (relationships .entry)) (now (rules .entry)) (now (bodies .entry)) (now (objects .entry)) (now (links .entry)) (now (events .entry))) (tableOf linkName) (now (links .entry))) × (now (events .exit) ≡ tableAfter (lentReading (now (text .entry)) (now (types .entry)) (now (relationships .entry)) (now (rules .entry)) (now (bodies .entry)) (now (objects .entry)) (now (links .entry)) (now (events .entry))) (tableOf eventSection) (now (events .entry))) ⌝ }
+{
+    *answer = match reader::read(
+        text,
+        types,
+        relationships,
+        rules,
+        bodies,
+        objects,
+        links,
+        events,
+    ) {
+        Outcome::Done {
+            types: a,
+            relationships: b,
+            rules: c,
+            objects: d,
+            links: e,
+            events: f,
+        } => [0, a, b, c, d, e, f],
+        Outcome::Refused(number, line) => [1, number, line, 0, 0, 0, 0],
     };
 }

@@ -233,10 +233,10 @@ module _ (before : List Entry) (e : Entry) (fits : sayable before e ≡ true) {S
           let short : length (rowsOf w) ≤ 256 = omega (arith, rows-length w (well-rule before c w (ap (sayable before) (sym is) ∙ fits)), few-forms c w it is) in
           let left-room : at + 256 ≤ length t = subst (λ n. at + 256 ≤ n) (sym (k .same)) (room it) in
           let now : u ≡ filled (length t) (bodiesOf before ++ padded 256 (rowsOf w)) =
-              put c w it (whole-body before line c w (there ∙ ap some is) (few-forms c w it is))
-              ∙ ap (λ n. rowsPut t (n * 256) (rowsOf w)) counted
-              ∙ put-filled t (bodiesOf before) (k .is) at (k .wide) (rowsOf w)
-              ∙ pad-filled t (bodiesOf before) (k .is) at (k .wide) 256 (rowsOf w) short left-room in
+          put c w it (whole-body before line c w (there ∙ ap some is) (few-forms c w it is))
+          ∙ ap (λ n. rowsPut t (n * 256) (rowsOf w)) counted
+          ∙ put-filled t (bodiesOf before) (k .is) at (k .wide) (rowsOf w)
+          ∙ pad-filled t (bodiesOf before) (k .is) at (k .wide) 256 (rowsOf w) short left-room in
           let size : length (bodiesOf before ++ padded 256 (rowsOf w)) ≡ at + 256 = length-append (bodiesOf before) (padded 256 (rowsOf w)) ∙ ap₂ (λ a b. a + b) (k .wide) (padded-length 256 (rowsOf w) short) in
           let as-long : length u ≡ length t = ap length now ∙ filled-length (length t) (bodiesOf before ++ padded 256 (rowsOf w)) (subst (λ n. n ≤ length t) (sym size) left-room) in
           record {
@@ -300,13 +300,13 @@ module _ {text types₀ relationships₀ rules₀ bodies₀ objects₀ links₀ 
   fill-ends h es q =
       subst (λ es. Holds es types relationships rules bodies objects links events) (taken-same (sym (look-done (k .looking) h) ∙ read-short text lent short q))
       (record {
-      types-are = k .types-held .is;
-      relationships-are = k .relationships-held .is;
-      rules-are = k .rules-held .is;
-      bodies-are = k .bodies-held .is;
-      objects-are = k .objects-held .is;
-      links-are = k .links-held .is;
-      events-are = k .events-held .is;
+        types-are = k .types-held .is;
+        relationships-are = k .relationships-held .is;
+        rules-are = k .rules-held .is;
+        bodies-are = k .bodies-held .is;
+        objects-are = k .objects-held .is;
+        links-are = k .links-held .is;
+        events-are = k .events-held .is;
       })
 
   -- a line

@@ -1,0 +1,51 @@
+-- `build::lines` is safe and ends.
+use Prim.Native.Nat.{_-_}
+use mathlib.Core.Path.{_≡_}
+use lib.ListN.{length}
+use borrow.Author.Needs.{needs}
+use Rattle.test_text.proofs.build.lines.Statement.{statement}
+use Rattle.test_text.proofs.build.lines.Tie as tie
+use Rattle.test_text.proofs.build.lines.Reads as reads
+use Rattle.test_text.proofs.build.lines.Lts as lts
+use Rattle.test_text.proofs.build.numbered.Reads as numbered-reads
+
+abbrev Inv-loop : tie.InvT-loop
+Inv-loop out₀ at name from to rest next₀ i₀ out next i = length out ≡ length out₀
+
+abbrev μ-loop : tie.MeasureT-loop
+μ-loop out₀ at name from to rest next₀ i₀ out next i = to - i
+
+loop-holds : tie.Need-loop-holds Inv-loop μ-loop
+loop-holds c = search needs
+
+numbered-requires : tie.Need-numbered-requires Inv-loop μ-loop
+numbered-requires c κs = search needs
+
+add-i : tie.Need-add-i Inv-loop μ-loop
+add-i c = search needs
+
+loop-less : tie.Need-loop-less Inv-loop μ-loop
+loop-less c = search needs
+
+loop-again : tie.Need-loop-again Inv-loop μ-loop
+loop-again c = search needs
+
+same-length : tie.Need-same-length Inv-loop μ-loop
+same-length c = search needs
+
+returns : tie.Need-returns Inv-loop μ-loop
+returns c = search needs
+
+pub lines-spec : {M : Type 1} → statement M
+lines-spec =
+    tie.close
+    (tie.spec
+    Inv-loop
+    μ-loop
+    loop-holds
+    numbered-requires
+    add-i
+    loop-less
+    loop-again
+    same-length
+    returns)

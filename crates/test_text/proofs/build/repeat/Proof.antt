@@ -1,0 +1,51 @@
+-- `build::repeat` is safe and ends.
+use Prim.Native.Nat.{_-_}
+use mathlib.Core.Path.{_≡_}
+use lib.ListN.{length}
+use borrow.Author.Needs.{needs}
+use Rattle.test_text.proofs.build.repeat.Statement.{statement}
+use Rattle.test_text.proofs.build.repeat.Tie as tie
+use Rattle.test_text.proofs.build.repeat.Reads as reads
+use Rattle.test_text.proofs.build.repeat.Lts as lts
+use Rattle.lexical.proofs.write_bytes.Reads as write-bytes-reads
+
+abbrev Inv-loop : tie.InvT-loop
+Inv-loop out₀ at bytes times next₀ i₀ out next i = length out ≡ length out₀
+
+abbrev μ-loop : tie.MeasureT-loop
+μ-loop out₀ at bytes times next₀ i₀ out next i = times - i
+
+loop-holds : tie.Need-loop-holds Inv-loop μ-loop
+loop-holds c = search needs
+
+write-bytes-requires : tie.Need-write-bytes-requires Inv-loop μ-loop
+write-bytes-requires c κs = search needs
+
+add-i : tie.Need-add-i Inv-loop μ-loop
+add-i c = search needs
+
+loop-less : tie.Need-loop-less Inv-loop μ-loop
+loop-less c = search needs
+
+loop-again : tie.Need-loop-again Inv-loop μ-loop
+loop-again c = search needs
+
+same-length : tie.Need-same-length Inv-loop μ-loop
+same-length c = search needs
+
+returns : tie.Need-returns Inv-loop μ-loop
+returns c = search needs
+
+pub repeat-spec : {M : Type 1} → statement M
+repeat-spec =
+    tie.close
+    (tie.spec
+    Inv-loop
+    μ-loop
+    loop-holds
+    write-bytes-requires
+    add-i
+    loop-less
+    loop-again
+    same-length
+    returns)
