@@ -7,3 +7,4 @@ pub mod Texts
 pub mod Determined
 pub mod Blocks
 pub mod Sheets
+pub mod ReadBack

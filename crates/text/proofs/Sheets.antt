@@ -5,9 +5,10 @@ use mathlib.Core.Bool.{Bool, true, false, _&&_, _||_, not, cond, false≢true}
 use mathlib.Core.Logic.{⊎-elim}
 use mathlib.Core.List.{List, [], _∷_, _++_, append-nil, append-assoc}
 use mathlib.Core.Option.{Option, none, some, Option·none-ne-some}
+use native.Mathlib.Nat.{div-mul-le-self}
 use native.Mathlib.Omega.{arith}
 use lib.Dec.{T, ltb, leb, eqb, leb→le, ltb→lt}
-use lib.ListN.{length, getD, getElem?, drop}
+use lib.ListN.{length, getD, getElem?, take, drop}
 use lib.IntN.{pos, negsuc}
 use denote.Floats.{is-true}
 use borrow.Author.Tests.{ltb-false, le-ltb, lt-ltb, le-leb, eq-eqb}
@@ -28,27 +29,27 @@ use Rattle.rows.specs.Rows.{wordAt, readRows, rowsFrom, rowsLent, signed, allZe
 use Rattle.tables.specs.Bodies.{BodyRow, bodyRow, readBody, wholeBody}
 use Rattle.tables.specs.Columns.{noParent, typeRow, ruleRow, objectRow, eventRow, eventsOf}
 use Rattle.tables.specs.Refusals.{Table, Tables, bookOf, registerIn, overfull, tablesOf, tableRefusal}
-use Rattle.tables.proofs.Forms.{wordsFrom, whole-body, body-none, body-words, body-count}
+use Rattle.tables.proofs.Forms.{wordsFrom, whole-body, body-none, body-words, body-count, table-words}
 use Rattle.tables.proofs.Determined.{Words, eventWords, event-back}
 use Rattle.schema.proofs.Rows.{length-rows, row-there, row-at}
 use Rattle.text.specs.Names.{typeName, relationshipName, ruleName, objectName, linkName}
 use Rattle.text.specs.Tokens.{dash, isWord}
-use Rattle.text.specs.Bodies.{wellWritten, formsIn, writtenOf}
+use Rattle.text.specs.Bodies.{wellWritten, formsIn, rowsOf, writtenOf}
 use Rattle.text.specs.Entries.{Entry, row, eventSection, sectionOf, wordsOf, countOf, tableOf, cellsIn, eventFields}
 use Rattle.text.specs.Texts.{maxText, spelled, limitOf, tooLong, taken, reading}
 use Rattle.text.specs.Sheets.{wordsAt, rowEntries, ruleEntry, entriesOf, sheetRefusal}
-use Rattle.text.proofs.Bodies.{written-count, written-well}
+use Rattle.text.proofs.Bodies.{written-rows, written-count, written-well}
 use Rattle.text.proofs.Entries.{rowFits, sayable}
 use Rattle.text.proofs.Texts.{fitFrom, fit, read-after-write}
 use Rattle.text.proofs.Blocks.{count-append, table-append, fit-append, At, at-start, count-block, at-block, block-fits}
 
 -- ---- the table of rows
 
-shift-rows : {X : Type 0} (f : ℕ → X) (a j n : ℕ) → rowsFrom (λ c. f (a + c)) j n ≡ rowsFrom f (a + j) n
+pub shift-rows : {X : Type 0} (f : ℕ → X) (a j n : ℕ) → rowsFrom (λ c. f (a + c)) j n ≡ rowsFrom f (a + j) n
 shift-rows f a j zero = refl
 shift-rows f a j (suc n) = ap (λ l. f (a + j) ∷ l) (shift-rows f a (suc j) n ∙ ap (λ k. rowsFrom f k n) (omega arith))
 
-rows-append : {X : Type 0} (f : ℕ → X) (a n m : ℕ) → rowsFrom f a (n + m) ≡ rowsFrom f a n ++ rowsFrom f (a + n) m
+pub rows-append : {X : Type 0} (f : ℕ → X) (a n m : ℕ) → rowsFrom f a (n + m) ≡ rowsFrom f a n ++ rowsFrom f (a + n) m
 rows-append f a zero m =
     let none-before : zero + m ≡ m = omega arith in
     let here : a ≡ a + zero = omega arith in
@@ -103,10 +104,10 @@ not-refused : (b : Bool) (r : Refusal) (o : Option Refusal) → cond b (some r) 
 not-refused true r o e = cc
 not-refused false r o e = refl
 
--- a table of the list has no more used rows than its limit
-within : (n : ℕ) (l : List Table) → any overfull l ≡ false → (table : Table) → getElem? l n ≡ some table → table .used ≤ table .limit
+-- a table of the list has no more used rows than its limit and its lent rows
+within : (n : ℕ) (l : List Table) → any overfull l ≡ false → (table : Table) → getElem? l n ≡ some table → table .used ≤ min (table .limit) (rowsLent (table .words) (table .width))
 within n [] h table q = absurd (Option·none-ne-some table q)
-within zero (x ∷ l) h table q = let fits = ltb-false (min (x .limit) (rowsLent (x .words) (x .width))) (x .used) (not-any overfull x l h .0) in subst (λ y. y .used ≤ y .limit) (some-same q) (omega (arith, fits))
+within zero (x ∷ l) h table q = subst (λ y. y .used ≤ min (y .limit) (rowsLent (y .words) (y .width))) (some-same q) (ltb-false (min (x .limit) (rowsLent (x .words) (x .width))) (x .used) (not-any overfull x l h .0))
 within (suc n) (x ∷ l) h table q = within n l (not-any overfull x l h .1) table q
 
 module _ (t : Tables) (eventCount : ℕ) (events : List ℕ) (w : Writable t eventCount events) where
@@ -136,18 +137,46 @@ module _ (t : Tables) (eventCount : ℕ) (events : List ℕ) (w : Writable t eve
     pub few-links : t .linkCount ≤ maxLinks
     pub few-events : eventCount ≤ maxEvents
 
+  tables : List Table
+  tables = tablesOf t ++ (record { words = events; width = 4; used = eventCount; limit = maxEvents }) ∷ []
+
+  none-over : any overfull tables ≡ false
+  unfolding tableRefusal tables
+  none-over = not-refused (any overfull tables) _ _ (stages .0)
+
   pub limited : Limited
-  unfolding tableRefusal tablesOf
+  unfolding tablesOf tables
   limited =
-      let tables = tablesOf t ++ (record { words = events; width = 4; used = eventCount; limit = maxEvents }) ∷ [] in
-      let fits = not-refused (any overfull tables) _ _ (stages .0) in
       record {
-        few-types = within 0 tables fits _ refl;
-        few-relationships = within 1 tables fits _ refl;
-        few-rules = within 2 tables fits _ refl;
-        few-objects = within 4 tables fits _ refl;
-        few-links = within 5 tables fits _ refl;
-        few-events = within 6 tables fits _ refl;
+        few-types = omega (arith, within 0 tables none-over _ refl);
+        few-relationships = omega (arith, within 1 tables none-over _ refl);
+        few-rules = omega (arith, within 2 tables none-over _ refl);
+        few-objects = omega (arith, within 4 tables none-over _ refl);
+        few-links = omega (arith, within 5 tables none-over _ refl);
+        few-events = omega (arith, within 6 tables none-over _ refl);
+      }
+
+  -- the used rows are lent
+  pub record RowsLent : Type 0 where
+    pub types-lent : t .typeCount * 2 ≤ length (t .types)
+    pub relationships-lent : t .relationshipCount * 2 ≤ length (t .relationships)
+    pub rules-lent : t .ruleCount * 2 ≤ length (t .rules)
+    pub bodies-lent : t .ruleCount * 256 ≤ length (t .bodies)
+    pub objects-lent : t .objectCount * 10 ≤ length (t .objects)
+    pub links-lent : t .linkCount * 3 ≤ length (t .links)
+    pub events-lent : eventCount * 4 ≤ length events
+
+  pub rows-lent : RowsLent
+  unfolding tablesOf tables
+  rows-lent =
+      record {
+        types-lent = omega (arith, within 0 tables none-over _ refl, div-mul-le-self (length (t .types)) 2);
+        relationships-lent = omega (arith, within 1 tables none-over _ refl, div-mul-le-self (length (t .relationships)) 2);
+        rules-lent = omega (arith, within 2 tables none-over _ refl, div-mul-le-self (length (t .rules)) 2);
+        bodies-lent = omega (arith, within 3 tables none-over _ refl, div-mul-le-self (length (t .bodies)) 4);
+        objects-lent = omega (arith, within 4 tables none-over _ refl, div-mul-le-self (length (t .objects)) 10);
+        links-lent = omega (arith, within 5 tables none-over _ refl, div-mul-le-self (length (t .links)) 3);
+        events-lent = omega (arith, within 6 tables none-over _ refl, div-mul-le-self (length events) 4);
       }
 
   -- ---- rows that can be said
@@ -239,6 +268,23 @@ module _ (t : Tables) (eventCount : ℕ) (events : List ℕ) (w : Writable t eve
       let f = readBody (slot i) (sizeAt i) in
       let count = body-count (slot i) (λ j. w .body-words ((i * maxForms + j) * 4 + 1)) (sizeAt i) (body-whole i h) in
       le-ltb maxForms (formsIn (writtenOf f)) (omega (arith, written-count f, count, whole-body (slot i) (sizeAt i) (body-whole i h) .few))
+
+  -- a rule's body has as many forms as it has rows, and these rows
+  pub rule-size : (i : ℕ) → i < t .ruleCount → formsIn (writtenOf ((ruleRow (t .rules) (t .bodies) i) .body)) ≡ sizeAt i
+  unfolding ruleRow
+  rule-size i h = written-count (readBody (slot i) (sizeAt i)) ∙ body-count (slot i) (λ j. w .body-words ((i * maxForms + j) * 4 + 1)) (sizeAt i) (body-whole i h)
+
+  pub rule-few : (i : ℕ) → i < t .ruleCount → sizeAt i ≤ maxForms
+  rule-few i h = whole-body (slot i) (sizeAt i) (body-whole i h) .few
+
+  pub rule-rows : (i : ℕ) → i < t .ruleCount → rowsOf (writtenOf ((ruleRow (t .rules) (t .bodies) i) .body)) ≡ take (sizeAt i * 4) (drop (i * 256) (t .bodies))
+  unfolding ruleRow
+  rule-rows i h =
+      let place : (i * maxForms + 0) * 4 ≡ i * 256 = omega arith in
+      written-rows (readBody (slot i) (sizeAt i))
+      ∙ sym (body-words (slot i) (λ j. w .body-words ((i * maxForms + j) * 4 + 1)) (sizeAt i) (body-whole i h))
+      ∙ table-words (t .bodies) (i * maxForms) 0 (sizeAt i) (omega (arith, h, rule-few i h, rows-lent .bodies-lent))
+      ∙ ap (λ k. take (sizeAt i * 4) (drop k (t .bodies))) place
 
   -- the types are those of the tables
   pub record TypesAre (b : List Entry) : Type 0 where
