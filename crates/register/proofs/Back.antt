@@ -20,10 +20,10 @@ use Rattle.tables.specs.Columns.{linkRow}
 use Rattle.schema.proofs.Scan.{passed-none}
 use Rattle.register.specs.Tables.{LinksAscend, linkPlace}
 use Rattle.register.specs.Index.{leadsTo, nextLead, headPlace, wordIn, Indexed, Ahead}
-use Rattle.register.proofs.Hits.{firstHit, missed-to, hit-at, hit-none}
+use Rattle.register.proofs.Hits.{firstHit, missed-to, hit-at, hit-none, hit-some}
 use Rattle.register.proofs.Places.{ordered}
 use Rattle.register.proofs.Far.{reaches, Reached, reach, missed}
-use Rattle.register.proofs.Leads.{hit-some, leads-parts, parts-lead, Lead, next-some, next-none}
+use Rattle.register.proofs.Leads.{leads-parts, parts-lead, Lead, next-some, next-none}
 
 -- ---- where the way goes on
 

@@ -60,7 +60,7 @@ module _ (role u least : ℕ) where
     unfolding farEnds
     far-row = first-kept (startsAt role u) (farEnd role) (leb least) (readRows (linkRow links) n) ∙ ap (Option·map (farEnd role)) (first-row reaches (linkRow links) n)
 
-    far-found : {i : ℕ} → firstHit reaches (linkRow links) n ≡ some i → first (leb least) (farEnds (linksWith os n links) role u) ≡ some (farEnd role (linkRow links i))
+    pub far-found : {i : ℕ} → firstHit reaches (linkRow links) n ≡ some i → first (leb least) (farEnds (linksWith os n links) role u) ≡ some (farEnd role (linkRow links i))
     far-found e = far-row ∙ ap (λ o. Option·map (farEnd role) (Option·map (linkRow links) o)) e
 
     pub far-target : {i : ℕ} → forward role ≡ true → firstHit reaches (linkRow links) n ≡ some i → first (leb least) (farEnds (linksWith os n links) role u) ≡ some ((linkRow links i) .target)

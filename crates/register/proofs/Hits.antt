@@ -1,10 +1,10 @@
 -- The first row that passes a test, and what `first` finds.
 use Prim.Native.Nat.{ℕ, zero, suc, _+_, _-_, _≤_, _<_}
-use mathlib.Core.Path.{_≡_, refl, ap, subst, _∙_}
+use mathlib.Core.Path.{_≡_, refl, sym, ap, subst, _∙_}
 use mathlib.Core.Logic.{_⊎_, inl, inr, ⊎-elim}
 use mathlib.Core.Bool.{Bool, true, false, _&&_, _||_, not, cond}
 use mathlib.Core.List.{List, [], _∷_, map}
-use mathlib.Core.Option.{Option, none, some, Option·map}
+use mathlib.Core.Option.{Option, none, some, Option·map, Option·none-ne-some}
 use native.Mathlib.Nat.{le-refl}
 use native.Mathlib.Numerals.{add-one}
 use native.Mathlib.Omega.{arith}
@@ -106,3 +106,18 @@ first-kept {A} p f q (x ∷ xs) = step (p x) (q (f x)) refl (first-kept p f q xs
     step true true e below = rw e
     step true false e below = rw e below
     step false d e below = below
+
+-- a row that is found passes the test
+pub hit-some : {A : Type 0} (hit : A → Bool) (read : ℕ → A) (n : ℕ) {i : ℕ} → firstHit hit read n ≡ some i → (i < n) × T (hit (read i))
+hit-some {A} hit read n {i} e = let r = from 0 n none e in (omega (arith, r .0), r .1)
+  where
+    from : (j m : ℕ) (previous : Option A) → faultFrom (alone hit) j previous (rowsFrom read j m) ≡ some i → (i < j + m) × T (hit (read i))
+    from j zero previous e = absurd (Option·none-ne-some i e)
+    from j (suc m) previous e = step (hit (read j)) refl (from (suc j) m (some (read j))) e
+      where
+        rest : Option ℕ
+        rest = faultFrom (alone hit) (suc j) (some (read j)) (rowsFrom read (suc j) m)
+
+        step : (b : Bool) → hit (read j) ≡ b → (rest ≡ some i → (i < suc j + m) × T (hit (read i))) → cond b (some j) rest ≡ some i → (i < j + suc m) × T (hit (read i))
+        step true q below e = let same : j ≡ i = cc in (omega arith, subst (λ k. T (hit (read k))) same (subst T (sym q) tt))
+        step false q below e = let r = below e in (omega (arith, r .0), r .1)

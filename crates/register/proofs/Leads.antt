@@ -17,7 +17,7 @@ use Rattle.rows.specs.Rows.{rowsFrom}
 use Rattle.tables.specs.Columns.{objectRow, linkRow}
 use Rattle.register.specs.Tables.{objectsWith, objectPlace}
 use Rattle.register.specs.Index.{leadsTo, leadFrom, nextLead, headPlace}
-use Rattle.register.proofs.Hits.{alone, firstHit}
+use Rattle.register.proofs.Hits.{hit-some}
 use Rattle.register.proofs.Searches.{object-row}
 
 yes : {b : Bool} → b ≡ true → T b
@@ -25,19 +25,6 @@ yes e = subst T (sym e) tt
 
 no : {b : Bool} → b ≡ false → T b → ⊥
 no e t = subst T e t
-
--- ---- a row that is found passes the test
-
-pub hit-some : {A : Type 0} (hit : A → Bool) (read : ℕ → A) (n : ℕ) {i : ℕ} → firstHit hit read n ≡ some i → (i < n) × T (hit (read i))
-hit-some {A} hit read n {i} e = let r = from 0 n none e in (omega (arith, r .0), r .1)
-  where
-    from : (j m : ℕ) (previous : Option A) → faultFrom (alone hit) j previous (rowsFrom read j m) ≡ some i → (i < j + m) × T (hit (read i))
-    from j zero previous e = absurd (let z : _≡_ {A = ℕ} 0 1 = cc in omega arith)
-    from j (suc m) previous e = step (hit (read j)) refl (from (suc j) m (some (read j))) e
-      where
-        step : (b : Bool) → hit (read j) ≡ b → (faultFrom (alone hit) (suc j) (some (read j)) (rowsFrom read (suc j) m) ≡ some i → (i < suc j + m) × T (hit (read i))) → cond b (some j) (faultFrom (alone hit) (suc j) (some (read j)) (rowsFrom read (suc j) m)) ≡ some i → (i < j + suc m) × T (hit (read i))
-        step true q below e = let same : j ≡ i = cc in (omega arith, subst (λ k. T (hit (read k))) same (yes q))
-        step false q below e = let r = below e in (omega (arith, r .0), r .1)
 
 -- ---- rows that lead to u by r
 

@@ -7,3 +7,7 @@ pub mod Cells
 pub mod Leads
 pub mod Built
 pub mod Back
+pub mod Chains
+pub mod Rows
+pub mod Slots
+pub mod Walk
