@@ -8,7 +8,7 @@ use lib.Seq.{take-all, drop-length}
 use borrow.Rule.Slice.PartMut.{putMid}
 use native.Mathlib.Omega.{arith}
 use Rattle.rows.specs.Rows.{clearedPast}
-use Rattle.rows.proofs.Place.{place-fits}
+use Rattle.rows.proofs.Offsets.{place-fits}
 use Rattle.rows.proofs.Parts.{put-down}
 use borrow.Author.Needs.{needs}
 use Rattle.rows.proofs.clear_past.Statement.{statement}

@@ -5,7 +5,7 @@ use borrow.Rule.Slice.PartMut.{putMid}
 use native.Mathlib.Omega.{arith}
 use borrow.Author.Tests.{lt-ltb, le-ltb, le-leb, lt-leb}
 use Rattle.rows.specs.Rows.{withoutRow}
-use Rattle.rows.proofs.Place.{place-fits, row-before}
+use Rattle.rows.proofs.Offsets.{place-fits, row-before}
 use Rattle.rows.proofs.Parts.{put-down}
 use borrow.Author.Needs.{needs}
 use Rattle.rows.proofs.close_gap.Statement.{statement}

@@ -5,7 +5,7 @@ use borrow.Rule.Slice.PartMut.{putMid}
 use native.Mathlib.Omega.{arith}
 use borrow.Author.Tests.{lt-leb, le-leb}
 use Rattle.rows.specs.Rows.{withGap}
-use Rattle.rows.proofs.Place.{place-fits, next-fits, next-place, row-before}
+use Rattle.rows.proofs.Offsets.{place-fits, next-fits, next-place, row-before}
 use Rattle.rows.proofs.Parts.{put-up}
 use borrow.Author.Needs.{needs}
 use Rattle.rows.proofs.open_gap.Statement.{statement}

@@ -3,7 +3,7 @@ use native.Mathlib.Omega.{arith}
 use lib.ListN.{List·getD-eq-default}
 use mathlib.Core.Path.{sym}
 use borrow.Author.Needs.{needs}
-use Rattle.rows.proofs.Place.{place-bound, place-fits}
+use Rattle.rows.proofs.Offsets.{place-bound, place-fits}
 use Rattle.rows.proofs.word.Statement.{statement}
 use Rattle.rows.proofs.word.Tie as tie
 

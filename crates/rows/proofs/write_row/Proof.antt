@@ -5,7 +5,7 @@ use lib.ListN.{length}
 use borrow.Rule.Slice.PartMut.{putMid}
 use borrow.Author.Tests.{eq-eqb, ne-eqb, lt-leb, le-leb}
 use Rattle.rows.specs.Rows.{withRow}
-use Rattle.rows.proofs.Place.{place-fits, next-fits}
+use Rattle.rows.proofs.Offsets.{place-fits, next-fits}
 use Rattle.rows.proofs.Parts.{put-words}
 use borrow.Author.Needs.{needs}
 use Rattle.rows.proofs.write_row.Statement.{statement}

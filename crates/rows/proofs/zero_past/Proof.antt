@@ -5,7 +5,7 @@ use borrow.Author.Needs.{needs}
 use borrow.Author.Tests.{eq-eqb, ne-eqb}
 use lib.ListN.{length, drop, drop-of-length-le}
 use Rattle.rows.specs.Rows.{allZero, zeroPast}
-use Rattle.rows.proofs.Place.{place-fits}
+use Rattle.rows.proofs.Offsets.{place-fits}
 use Rattle.rows.proofs.Zeros.{zero-step}
 use Rattle.rows.proofs.zero_past.Statement.{statement}
 use Rattle.rows.proofs.zero_past.Tie as tie
