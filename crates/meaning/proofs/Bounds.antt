@@ -37,7 +37,11 @@ combined-size add a b = natAbs-add a b
 combined-size sub a b = natAbs-sub a b
 
 -- Cells are words, a collection has at most 1024 members, and a form passes a test that asks of its numbers that they are words.
-module _ (types : List ObjectType) (g : Register) (cells : (x k : ℕ) → natAbs (cellAt g x k) ≤ 2 ^ 31) (few : (c : Form collection) (vs : List ℕ) → length (meaning types g c vs) ≤ 1024) (fit : Form number → Bool) (word : (n : ℤ) → T (fit (num n)) → T (fitsWord n)) (parts : (o : Arithmetic) (a b : Form number) → T (fit (combine o a b)) → T (fit a) × T (fit b)) where
+module _ (types : List ObjectType) (g : Register)
+    (cells : (x k : ℕ) → natAbs (cellAt g x k) ≤ 2 ^ 31)
+    (few : (c : Form collection) (vs : List ℕ) → length (meaning types g c vs) ≤ 1024)
+    (fit : Form number → Bool) (word : (n : ℤ) → T (fit (num n)) → T (fitsWord n))
+    (parts : (o : Arithmetic) (a b : Form number) → T (fit (combine o a b)) → T (fit a) × T (fit b)) where
   -- a form adds at most 2^41 of its own: the sum of 1024 cells
   number-size : (f : Form number) → T (fit f) → (vs : List ℕ) → natAbs (meaning types g f vs) ≤ formCount f * 2 ^ 41
   unfolding meaning formCount

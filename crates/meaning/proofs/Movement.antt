@@ -14,7 +14,7 @@ use Rattle.meaning.specs.Lists.{any}
 use Rattle.meaning.specs.Schema.{ObjectType, Relationship, Schema, cellsOf, under, knownType, knownRole, nearType, farType}
 use Rattle.meaning.specs.Register.{Register, isUnder, cellAt, instances, farEnds}
 use Rattle.meaning.specs.Forms.{Sort, truth, number, collection, Form, compare, negate, connect, quantify, kind, num, cell, size, sum, combine, role, all, select, bind, variable, memberType, wellTyped}
-use Rattle.meaning.specs.Meaning.{meaning}
+use Rattle.meaning.specs.Meaning.{Value, meaning}
 use Rattle.meaning.specs.Reach.{Change, Direction, up, down, opposite, Passing, same, reversed, either, through, leftOf, rightOf, firstPart, secondPart, sourceOf, secondTerm, roleMoves, allMoves, cellMoves, kindMoves, moves}
 use Rattle.meaning.proofs.Lists.{_∈_, any-none, keep-from}
 use Rattle.meaning.proofs.Variables.{Each, each-at, each-bind}
@@ -70,15 +70,27 @@ module _ (c : Change) (first : Register) (Kept : ℕ → ℕ → Type 0) (leaves
   abbrev relationships : List Relationship
   relationships = S .relationships
 
+  -- a form's value before and at the end
+  abbrev was : {s : Sort} → Form s → List ℕ → Value s
+  was f vs = meaning types first f vs
+
+  abbrev now : {s : Sort} → Form s → List ℕ → Value s
+  now f vs = meaning types (c .end) f vs
+
   -- what is claimed of a form that is not moved in direction d
   abbrev Claim : (s : Sort) → Form s → List ℕ → List ℕ → Direction → Type 0
-  Claim truth f ts vs d = Unmoved truth d (meaning types first f vs) (meaning types (c .end) f vs)
-  Claim number f ts vs d = Unmoved number d (meaning types first f vs) (meaning types (c .end) f vs)
-  Claim collection f ts vs d = UnmovedKept Kept (memberType relationships ts f) d (meaning types first f vs) (meaning types (c .end) f vs)
+  Claim truth f ts vs d = Unmoved truth d (was f vs) (now f vs)
+  Claim number f ts vs d = Unmoved number d (was f vs) (now f vs)
+  Claim collection f ts vs d = UnmovedKept Kept (memberType relationships ts f) d (was f vs) (now f vs)
 
   -- a form over a collection that does not move
-  over-members : (p : Passing) (e : Form collection) (ts vs : List ℕ) (at : ℕ → Bool) (d : Direction) → ((d′ : Direction) → T (not (moves c e vs d′)) → Claim collection e ts vs d′) → T (not (through _||_ p (moves c e vs) d || any at (meaning types (c .end) e vs))) → (Through p (λ d′. Unmoved collection d′ (meaning types first e vs) (meaning types (c .end) e vs)) d × ((x : ℕ) → x ∈ meaning types first e vs → x ∈ meaning types (c .end) e vs → Kept x (memberType relationships ts e))) × ((x : ℕ) → x ∈ meaning types (c .end) e vs → T (not (at x)))
-  over-members p e ts vs at d f n = part-and-members p (moves c e vs) _ _ at (meaning types (c .end) e vs) d f n
+  over-members : (p : Passing) (e : Form collection) (ts vs : List ℕ) (at : ℕ → Bool) (d : Direction)
+      → ((d′ : Direction) → T (not (moves c e vs d′)) → Claim collection e ts vs d′)
+      → T (not (through _||_ p (moves c e vs) d || any at (now e vs)))
+      → (Through p (λ d′. Unmoved collection d′ (was e vs) (now e vs)) d
+      × ((x : ℕ) → x ∈ was e vs → x ∈ now e vs → Kept x (memberType relationships ts e)))
+      × ((x : ℕ) → x ∈ now e vs → T (not (at x)))
+  over-members p e ts vs at d f n = part-and-members p (moves c e vs) _ _ at (now e vs) d f n
 
   pub unmoved : {s : Sort} (f : Form s) (ts vs : List ℕ) → T (wellTyped S ts f) → Each Kept vs ts → (d : Direction) → T (not (moves c f vs d)) → Claim s f ts vs d
   unfolding moves meaning wellTyped memberType

@@ -23,13 +23,16 @@ abbrev pub pairKey : Pair → List ℕ
 pairKey p = p .rule ∷ p .id ∷ []
 
 module _ (types : List ObjectType) (g : Register) where
-  -- n is the first rule's number, and i the rule's place after it
-  pairs-from : (n : ℕ) (rs : List Rule) {p : Pair} → p ∈ pairsFrom types g n rs → (i : ℕ) × (r : Rule) × (p .rule ≡ n + i) × (getElem? rs i ≡ some r) × p .id ∈ instances types g (r .context)
+  -- the pair is that of the rule at place i and an object under its context type; n is the first rule's number
+  abbrev PairOf : ℕ → List Rule → Pair → Type 0
+  PairOf n rs p = (i : ℕ) × (r : Rule) × (p .rule ≡ n + i) × (getElem? rs i ≡ some r) × p .id ∈ instances types g (r .context)
+
+  pairs-from : (n : ℕ) (rs : List Rule) {p : Pair} → p ∈ pairsFrom types g n rs → PairOf n rs p
   unfolding pairsFrom
   pairs-from n [] m = absurd (List·Memᴰ·not-nil m)
   pairs-from n (r ∷ rs) {p} m = step (λ k. pairs-from (suc n) rs k) (List·Memᴰ·append-cases (map (pairOf n) (instances types g (r .context))) m)
     where
-      step : (p ∈ pairsFrom types g (suc n) rs → (i : ℕ) × (q : Rule) × (p .rule ≡ suc n + i) × (getElem? rs i ≡ some q) × p .id ∈ instances types g (q .context)) → (p ∈ map (pairOf n) (instances types g (r .context))) ⊎ (p ∈ pairsFrom types g (suc n) rs) → (i : ℕ) × (q : Rule) × (p .rule ≡ n + i) × (getElem? (r ∷ rs) i ≡ some q) × p .id ∈ instances types g (q .context)
+      step : (p ∈ pairsFrom types g (suc n) rs → PairOf (suc n) rs p) → (p ∈ map (pairOf n) (instances types g (r .context))) ⊎ (p ∈ pairsFrom types g (suc n) rs) → PairOf n (r ∷ rs) p
       step below (inl k) =
           let x = map-from (pairOf n) (instances types g (r .context)) k in
           (0, r, ap (λ (q : Pair). q .rule) (x .2) ∙ sym (add-zero n), refl, Memᴰ·cast (ap (λ (q : Pair). q .id) (x .2)) (x .1))

@@ -1,4 +1,4 @@
--- What a schema without refusal 3 is, and the laws of `under` in it.
+-- What the types of a schema without refusal 3 are, and the laws of `under` in them.
 use Prim.Native.Nat.{ℕ, zero, suc, _<_, _≤_}
 use mathlib.Core.Path.{_≡_, refl, sym, ap, subst, _∙_}
 use mathlib.Core.Logic.{_⊎_, inl, inr, ⊎-elim}

@@ -216,7 +216,13 @@ module _ (c : Change) where
   through-listed either f vs ts h d = occur-either (moves c f vs up) (moves c f vs down) (lists S f ts up) (lists S f ts down) (h up) (h down)
 
   -- a form of two parts
-  parts-listed : {s u : Sort} (x y : Passing) (a : Form s) (b : Form u) (vs ts : List ℕ) → (T (wellTyped S ts a) → Listed a vs ts) → (T (wellTyped S ts b) → Listed b vs ts) → T (wellTyped S ts a && wellTyped S ts b) → (d : Direction) → T (through _||_ x (moves c a vs) d || through _||_ y (moves c b vs) d) → T (occur (through _++_ x (lists S a ts) d ++ through _++_ y (lists S b ts) d))
+  parts-listed : {s u : Sort} (x y : Passing) (a : Form s) (b : Form u) (vs ts : List ℕ)
+      → (T (wellTyped S ts a) → Listed a vs ts)
+      → (T (wellTyped S ts b) → Listed b vs ts)
+      → T (wellTyped S ts a && wellTyped S ts b)
+      → (d : Direction)
+      → T (through _||_ x (moves c a vs) d || through _||_ y (moves c b vs) d)
+      → T (occur (through _++_ x (lists S a ts) d ++ through _++_ y (lists S b ts) d))
   parts-listed x y a b vs ts f g w d =
       let typed = and-yes (wellTyped S ts a) (wellTyped S ts b) w in
       occur-either (through _||_ x (moves c a vs) d) (through _||_ y (moves c b vs) d) (through _++_ x (lists S a ts) d) (through _++_ y (lists S b ts) d)
@@ -261,14 +267,26 @@ module _ (c : Change) where
     kind-listed u t down h = general-listed t (some-first (generalisesFrom S t) (λ e. eqb (subject e) u) h)
 
     -- a form over a collection: by the collection, or at one of its members
-    members-listed : (x : Passing) (k : Form collection) (vs ts : List ℕ) (m : ℕ → Bool) (l : List EventType) → Listed k vs ts → ((u : ℕ) → T (isUnder types (c .end) u (memberType relationships ts k)) → T (m u) → T (occur l)) → (d : Direction) → T (through _||_ x (moves c k vs) d || any m (meaning types (c .end) k vs)) → T (occur (through _++_ x (lists S k ts) d ++ l))
+    members-listed : (x : Passing) (k : Form collection) (vs ts : List ℕ) (m : ℕ → Bool) (l : List EventType)
+        → Listed k vs ts
+        → ((u : ℕ) → T (isUnder types (c .end) u (memberType relationships ts k)) → T (m u) → T (occur l))
+        → (d : Direction)
+        → T (through _||_ x (moves c k vs) d || any m (meaning types (c .end) k vs))
+        → T (occur (through _++_ x (lists S k ts) d ++ l))
     members-listed x k vs ts m l f g d =
         occur-either (through _||_ x (moves c k vs) d) (any m (meaning types (c .end) k vs)) (through _++_ x (lists S k ts) d) l
         (through-listed x k vs ts f d)
         (λ t. let u = any-cases m (meaning types (c .end) k vs) t in g (u .0) (member-under S (c .end) end-fits k vs ts (u .0) (u .1)) (u .2))
 
     -- the same, with a body that has a variable for the member
-    body-listed : (x : Passing) (k : Form collection) (b : Form truth) (vs ts : List ℕ) → Typed types (c .end) vs ts → (T (wellTyped S ts k) → Listed k vs ts) → ((us ws : List ℕ) → Typed types (c .end) us ws → T (wellTyped S ws b) → Listed b us ws) → T (wellTyped S ts k && wellTyped S (bind ts (memberType relationships ts k)) b) → (d : Direction) → T (through _||_ x (moves c k vs) d || any (λ u. moves c b (bind vs u) d) (meaning types (c .end) k vs)) → T (occur (through _++_ x (lists S k ts) d ++ lists S b (bind ts (memberType relationships ts k)) d))
+    body-listed : (x : Passing) (k : Form collection) (b : Form truth) (vs ts : List ℕ)
+        → Typed types (c .end) vs ts
+        → (T (wellTyped S ts k) → Listed k vs ts)
+        → ((us ws : List ℕ) → Typed types (c .end) us ws → T (wellTyped S ws b) → Listed b us ws)
+        → T (wellTyped S ts k && wellTyped S (bind ts (memberType relationships ts k)) b)
+        → (d : Direction)
+        → T (through _||_ x (moves c k vs) d || any (λ u. moves c b (bind vs u) d) (meaning types (c .end) k vs))
+        → T (occur (through _++_ x (lists S k ts) d ++ lists S b (bind ts (memberType relationships ts k)) d))
     body-listed x k b vs ts v f g w d =
         let member = memberType relationships ts k in
         let typed = and-yes (wellTyped S ts k) (wellTyped S (bind ts member) b) w in
