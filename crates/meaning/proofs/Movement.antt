@@ -78,35 +78,35 @@ module _ (c : Change) (first : Register) (Kept : ℕ → ℕ → Type 0) (leaves
   now f vs = meaning types (c .end) f vs
 
   -- what is claimed of a form that is not moved in direction d
-  abbrev Claim : (s : Sort) → Form s → List ℕ → List ℕ → Direction → Type 0
-  Claim truth f ts vs d = Unmoved truth d (was f vs) (now f vs)
-  Claim number f ts vs d = Unmoved number d (was f vs) (now f vs)
-  Claim collection f ts vs d = UnmovedKept Kept (memberType relationships ts f) d (was f vs) (now f vs)
+  abbrev Claim : (s : Sort) → Form s → List ℕ → Direction → Type 0
+  Claim truth f vs d = Unmoved truth d (was f vs) (now f vs)
+  Claim number f vs d = Unmoved number d (was f vs) (now f vs)
+  Claim collection f vs d = UnmovedKept Kept (memberType relationships f) d (was f vs) (now f vs)
 
   -- a form over a collection that does not move
-  over-members : (p : Passing) (e : Form collection) (ts vs : List ℕ) (at : ℕ → Bool) (d : Direction)
-      → ((d′ : Direction) → T (not (moves c e vs d′)) → Claim collection e ts vs d′)
+  over-members : (p : Passing) (e : Form collection) (vs : List ℕ) (at : ℕ → Bool) (d : Direction)
+      → ((d′ : Direction) → T (not (moves c e vs d′)) → Claim collection e vs d′)
       → T (not (through _||_ p (moves c e vs) d || any at (now e vs)))
       → (Through p (λ d′. Unmoved collection d′ (was e vs) (now e vs)) d
-      × ((x : ℕ) → x ∈ was e vs → x ∈ now e vs → Kept x (memberType relationships ts e)))
+      × ((x : ℕ) → x ∈ was e vs → x ∈ now e vs → Kept x (memberType relationships e)))
       × ((x : ℕ) → x ∈ now e vs → T (not (at x)))
-  over-members p e ts vs at d f n = part-and-members p (moves c e vs) _ _ at (now e vs) d f n
+  over-members p e vs at d f n = part-and-members p (moves c e vs) _ _ at (now e vs) d f n
 
-  pub unmoved : {s : Sort} (f : Form s) (ts vs : List ℕ) → T (wellTyped S ts f) → Each Kept vs ts → (d : Direction) → T (not (moves c f vs d)) → Claim s f ts vs d
+  pub unmoved : {s : Sort} (f : Form s) (ts vs : List ℕ) → T (wellTyped S ts f) → Each Kept vs ts → (d : Direction) → T (not (moves c f vs d)) → Claim s f vs d
   unfolding moves meaning wellTyped memberType
   unmoved (compare o a b) ts vs w k d n =
       let ws = and-yes (wellTyped S ts a) (wellTyped S ts b) w in
-      let h = two-parts (leftOf o) (rightOf o) (moves c a vs) (moves c b vs) (Claim number a ts vs) (Claim number b ts vs) d (unmoved a ts vs (ws .0) k) (unmoved b ts vs (ws .1) k) n in
+      let h = two-parts (leftOf o) (rightOf o) (moves c a vs) (moves c b vs) (Claim number a vs) (Claim number b vs) d (unmoved a ts vs (ws .0) k) (unmoved b ts vs (ws .1) k) n in
       comparison-unmoved o d _ _ _ _ (h .0) (h .1)
   unmoved (negate a) ts vs w k d n = negation-unmoved d _ _ (unmoved a ts vs w k (opposite d) n)
   unmoved (connect o a b) ts vs w k d n =
       let ws = and-yes (wellTyped S ts a) (wellTyped S ts b) w in
-      let h = two-parts (firstPart o) (secondPart o) (moves c a vs) (moves c b vs) (Claim truth a ts vs) (Claim truth b ts vs) d (unmoved a ts vs (ws .0) k) (unmoved b ts vs (ws .1) k) n in
+      let h = two-parts (firstPart o) (secondPart o) (moves c a vs) (moves c b vs) (Claim truth a vs) (Claim truth b vs) d (unmoved a ts vs (ws .0) k) (unmoved b ts vs (ws .1) k) n in
       connective-unmoved o d _ _ _ _ (h .0) (h .1)
   unmoved (quantify q e b) ts vs w k d n =
-      let ws = and-yes (wellTyped S ts e) (wellTyped S (bind ts (memberType relationships ts e)) b) w in
-      let h = over-members (sourceOf q) e ts vs (λ x. moves c b (bind vs x) d) d (unmoved e ts vs (ws .0) k) n in
-      quantifier-unmoved q d _ _ _ _ (h .0 .0) (λ x m m′. unmoved b (bind ts (memberType relationships ts e)) (bind vs x) (ws .1) (each-bind Kept vs ts x (memberType relationships ts e) k (h .0 .1 x m m′)) d (h .1 x m′))
+      let ws = and-yes (wellTyped S ts e) (wellTyped S (bind ts (memberType relationships e)) b) w in
+      let h = over-members (sourceOf q) e vs (λ x. moves c b (bind vs x) d) d (unmoved e ts vs (ws .0) k) n in
+      quantifier-unmoved q d _ _ _ _ (h .0 .0) (λ x m m′. unmoved b (bind ts (memberType relationships e)) (bind vs x) (ws .1) (each-bind Kept vs ts x (memberType relationships e) k (h .0 .1 x m m′)) d (h .1 x m′))
   unmoved (kind v t) ts vs w k d n =
       let ws = and-yes (ltb v (length ts)) (knownType types t) w in
       leaves .kind-unmoved d (variable vs v) (variable ts v) t (each-at Kept vs ts k v (ltb→lt v (length ts) (ws .0))) n
@@ -117,21 +117,21 @@ module _ (c : Change) (first : Register) (Kept : ℕ → ℕ → Type 0) (leaves
   unmoved (size e) ts vs w k d n =
       size-unmoved d _ _ (members-ascend types first (gathered S first (leaves .first-fits)) e vs) (members-ascend types (c .end) (gathered S (c .end) (leaves .end-fits)) e vs) (unmoved e ts vs w k d n .0)
   unmoved (sum e j) ts vs w k d n =
-      let ws = and-yes (wellTyped S ts e) (ltb j (cellsOf types (memberType relationships ts e))) w in
-      let h = over-members either e ts vs (λ x. cellMoves c x j) d (unmoved e ts vs (ws .0) k) n in
+      let ws = and-yes (wellTyped S ts e) (ltb j (cellsOf types (memberType relationships e))) w in
+      let h = over-members either e vs (λ x. cellMoves c x j) d (unmoved e ts vs (ws .0) k) n in
       sum-unmoved d _ _ _ _ (members-ascend types first (gathered S first (leaves .first-fits)) e vs) (members-ascend types (c .end) (gathered S (c .end) (leaves .end-fits)) e vs) (h .0 .0)
-      (λ x m m′. leaves .cell-unmoved x (memberType relationships ts e) j (h .0 .1 x m m′) (ltb→lt j (cellsOf types (memberType relationships ts e)) (ws .1)) (h .1 x m′))
+      (λ x m m′. leaves .cell-unmoved x (memberType relationships e) j (h .0 .1 x m m′) (ltb→lt j (cellsOf types (memberType relationships e)) (ws .1)) (h .1 x m′))
   unmoved (combine o a b) ts vs w k d n =
       let ws = and-yes (wellTyped S ts a) (wellTyped S ts b) w in
-      let h = two-parts same (secondTerm o) (moves c a vs) (moves c b vs) (Claim number a ts vs) (Claim number b ts vs) d (unmoved a ts vs (ws .0) k) (unmoved b ts vs (ws .1) k) n in
+      let h = two-parts same (secondTerm o) (moves c a vs) (moves c b vs) (Claim number a vs) (Claim number b vs) d (unmoved a ts vs (ws .0) k) (unmoved b ts vs (ws .1) k) n in
       arithmetic-unmoved o d _ _ _ _ (h .0) (h .1)
   unmoved (role v r) ts vs w k d n =
       let ws = and-yes (ltb v (length ts) && knownRole relationships r) (under types (variable ts v) (nearType relationships r)) w in
       leaves .role-unmoved d (variable vs v) (variable ts v) r (each-at Kept vs ts k v (ltb→lt v (length ts) (and-yes (ltb v (length ts)) (knownRole relationships r) (ws .0) .0))) (ws .1) n
   unmoved (all t) ts vs w k d n = leaves .all-unmoved d t n
   unmoved (select e b) ts vs w k d n =
-      let ws = and-yes (wellTyped S ts e) (wellTyped S (bind ts (memberType relationships ts e)) b) w in
-      let h = over-members same e ts vs (λ x. moves c b (bind vs x) d) d (unmoved e ts vs (ws .0) k) n in (
-        select-unmoved d _ _ _ _ (h .0 .0) (λ x m m′. unmoved b (bind ts (memberType relationships ts e)) (bind vs x) (ws .1) (each-bind Kept vs ts x (memberType relationships ts e) k (h .0 .1 x m m′)) d (h .1 x m′)),
+      let ws = and-yes (wellTyped S ts e) (wellTyped S (bind ts (memberType relationships e)) b) w in
+      let h = over-members same e vs (λ x. moves c b (bind vs x) d) d (unmoved e ts vs (ws .0) k) n in (
+        select-unmoved d _ _ _ _ (h .0 .0) (λ x m m′. unmoved b (bind ts (memberType relationships e)) (bind vs x) (ws .1) (each-bind Kept vs ts x (memberType relationships e) k (h .0 .1 x m m′)) d (h .1 x m′)),
         λ x m m′. h .0 .1 x (keep-from _ _ m .0) (keep-from _ _ m′ .0),
       )

@@ -73,13 +73,13 @@ abbrev Typed : List ObjectType → Register → List ℕ → List ℕ → Type 0
 Typed types g = Each (λ x t. T (isUnder types g x t))
 
 module _ (S : Schema) (g : Register) where
-  pub member-under : RegisterFits S g → (k : Form collection) (vs ts : List ℕ) (x : ℕ) → x ∈ meaning (S .types) g k vs → T (isUnder (S .types) g x (memberType (S .relationships) ts k))
+  pub member-under : RegisterFits S g → (k : Form collection) (vs : List ℕ) (x : ℕ) → x ∈ meaning (S .types) g k vs → T (isUnder (S .types) g x (memberType (S .relationships) k))
   unfolding meaning memberType
-  member-under f (role v r) vs ts x m =
+  member-under f (role v r) vs x m =
       let l = far-from g r (variable vs v) x m in
       rw (l .3) (far-under S g f r (variable vs v) (l .0) (l .1) (l .2))
-  member-under f (all t) vs ts x m = instance-from (S .types) g (f .objects-ascend) x t m
-  member-under f (select k b) vs ts x m = member-under f k vs ts x (keep-from (λ y. meaning (S .types) g b (bind vs y)) (meaning (S .types) g k vs) m .0)
+  member-under f (all t) vs x m = instance-from (S .types) g (f .objects-ascend) x t m
+  member-under f (select k b) vs x m = member-under f k vs x (keep-from (λ y. meaning (S .types) g b (bind vs y)) (meaning (S .types) g k vs) m .0)
 
 -- ---- the event list
 
@@ -269,26 +269,26 @@ module _ (c : Change) where
     -- a form over a collection: by the collection, or at one of its members
     members-listed : (x : Passing) (k : Form collection) (vs ts : List ℕ) (m : ℕ → Bool) (l : List EventType)
         → Listed k vs ts
-        → ((u : ℕ) → T (isUnder types (c .end) u (memberType relationships ts k)) → T (m u) → T (occur l))
+        → ((u : ℕ) → T (isUnder types (c .end) u (memberType relationships k)) → T (m u) → T (occur l))
         → (d : Direction)
         → T (through _||_ x (moves c k vs) d || any m (meaning types (c .end) k vs))
         → T (occur (through _++_ x (lists S k ts) d ++ l))
     members-listed x k vs ts m l f g d =
         occur-either (through _||_ x (moves c k vs) d) (any m (meaning types (c .end) k vs)) (through _++_ x (lists S k ts) d) l
         (through-listed x k vs ts f d)
-        (λ t. let u = any-cases m (meaning types (c .end) k vs) t in g (u .0) (member-under S (c .end) end-fits k vs ts (u .0) (u .1)) (u .2))
+        (λ t. let u = any-cases m (meaning types (c .end) k vs) t in g (u .0) (member-under S (c .end) end-fits k vs (u .0) (u .1)) (u .2))
 
     -- the same, with a body that has a variable for the member
     body-listed : (x : Passing) (k : Form collection) (b : Form truth) (vs ts : List ℕ)
         → Typed types (c .end) vs ts
         → (T (wellTyped S ts k) → Listed k vs ts)
         → ((us ws : List ℕ) → Typed types (c .end) us ws → T (wellTyped S ws b) → Listed b us ws)
-        → T (wellTyped S ts k && wellTyped S (bind ts (memberType relationships ts k)) b)
+        → T (wellTyped S ts k && wellTyped S (bind ts (memberType relationships k)) b)
         → (d : Direction)
         → T (through _||_ x (moves c k vs) d || any (λ u. moves c b (bind vs u) d) (meaning types (c .end) k vs))
-        → T (occur (through _++_ x (lists S k ts) d ++ lists S b (bind ts (memberType relationships ts k)) d))
+        → T (occur (through _++_ x (lists S k ts) d ++ lists S b (bind ts (memberType relationships k)) d))
     body-listed x k b vs ts v f g w d =
-        let member = memberType relationships ts k in
+        let member = memberType relationships k in
         let typed = and-yes (wellTyped S ts k) (wellTyped S (bind ts member) b) w in
         members-listed x k vs ts (λ u. moves c b (bind vs u) d) (lists S b (bind ts member) d) (f (typed .0))
         (λ u h. g (bind vs u) (bind ts member) (each-bind _ vs ts u member v h) (typed .1) d) d
@@ -307,7 +307,7 @@ module _ (c : Change) where
         λ d t. one-listed (setOf (variable ts x) k) (cell-listed (variable vs x) (variable ts x) k within t)
     moves-listed (size k) vs ts v w = moves-listed k vs ts v w
     moves-listed (sum k n) vs ts v w =
-        let member = memberType relationships ts k in
+        let member = memberType relationships k in
         members-listed either k vs ts (λ u. cellMoves c u n) (setOf member n ∷ [])
         (moves-listed k vs ts v (and-yes (wellTyped S ts k) (ltb n (cellsOf types member)) w .0))
         (λ u h t. one-listed (setOf member n) (cell-listed u member n h t))
