@@ -7,14 +7,14 @@ use mathlib.Core.List.{List}
 use mathlib.Core.Option.{none}
 use lib.Dec.{T, eqb, eqb→eq}
 use mir.Facts.{and-yes, yes-and, and-no, T-not, not-T}
-use Rattle.meaning.specs.Schema.{Schema, cellsOf, farType}
+use Rattle.meaning.specs.Schema.{ObjectType, Relationship, Schema, cellsOf, farType}
 use Rattle.meaning.specs.Register.{Link, Register, present, isUnder, cellAt, instances, sameLink, hasLink, farEnd, startsAt, farEnds}
 use Rattle.meaning.specs.Forms.{truth}
 use Rattle.meaning.specs.Events.{Event, Lent, apply, after, eventRefusal}
 use Rattle.meaning.specs.Reach.{Change, changeBy, someStep, subject, linkNamed, joins, parts, sets, insertsInto, specialisesInto, deletesFrom, generalisesFrom, Direction, up, down, roleMoves, bringsIn, takesOut, allMoves, cellMoves, kindMoves, inserted, specialised}
 use Rattle.meaning.specs.Lists.{any}
 use Rattle.meaning.proofs.Lists.{_∈_, or-left, or-right, any-map}
-use Rattle.meaning.proofs.Schemas.{SchemaFits}
+use Rattle.meaning.proofs.Schemas.{TypesFit}
 use Rattle.meaning.proofs.Registers.{RegisterFits, same-link, under-present, instance-in, instance-from, far-in, far-from, far-under}
 use Rattle.meaning.proofs.Effects.{link-stays, link-was, under-stays, under-was, cell-same, insert-absent, delete-absent}
 use Rattle.meaning.proofs.Monotone.{Unmoved}
@@ -36,13 +36,19 @@ some-narrow c did narrower f n =
     not-T (any (λ s. narrower (s .met) (s .event)) (c .steps))
     (λ t. T-not (any (λ s. did (s .met) (s .event)) (c .steps)) (any-map (λ s. narrower (s .met) (s .event)) (λ s. did (s .met) (s .event)) (c .steps) (λ s m. f (s .met) (s .event)) t) n)
 
-module _ (S : Schema) (schema-fits : SchemaFits S) (lent : Lent) (g : Register) (fits : RegisterFits S g) (es : List Event) (ok : Unrefused S lent g es) where
+module _ (S : Schema) (types-fit : TypesFit (S .types)) (lent : Lent) (g : Register) (fits : RegisterFits S g) (es : List Event) (ok : Unrefused S lent g es) where
+  abbrev types : List ObjectType
+  types = S .types
+
+  abbrev relationships : List Relationship
+  relationships = S .relationships
+
   abbrev c : Change
   c = changeBy S g es
 
   -- the object was under the type all the while
   abbrev pub Kept : ℕ → ℕ → Type 0
-  Kept x t = Throughout (λ g′. T (isUnder S g′ x t)) S g es
+  Kept x t = Throughout (λ g′. T (isUnder types g′ x t)) S g es
 
   abbrev Linked : Link → Type 0
   Linked l = Throughout (λ g′. T (hasLink g′ l)) S g es
@@ -50,27 +56,27 @@ module _ (S : Schema) (schema-fits : SchemaFits S) (lent : Lent) (g : Register) 
   -- What holds at the start and is kept by each event holds all the while. R is what is known of each step.
   persists : (P : Register → Type 0) (R : Register → Event → Type 0) → ((g′ : Register) → RegisterFits S g′ → (e : Event) → eventRefusal S lent g′ e ≡ none → R g′ e → P g′ → P (apply S e g′)) → EachStep R S g es → P g → Throughout P S g es
   persists P R law known p =
-      forwards S P g es (each-map S _ _ (λ g′ e k. law g′ (k .0 .0) e (k .0 .1) (k .1)) g es (each-both S _ R g es (each-fit S schema-fits lent g es fits ok) known)) p
+      forwards S P g es (each-map S _ _ (λ g′ e k. law g′ (k .0 .0) e (k .0 .1) (k .1)) g es (each-both S _ R g es (each-fit S types-fit lent g es fits ok) known)) p
 
   -- What holds at the end and is brought about by no event held all the while.
   held : (P : Register → Type 0) (R : Register → Event → Type 0) → ((g′ : Register) → RegisterFits S g′ → (e : Event) → eventRefusal S lent g′ e ≡ none → R g′ e → P (apply S e g′) → P g′) → EachStep R S g es → P (after S g es) → Throughout P S g es
   held P R law known p =
-      backwards S P g es (each-map S _ _ (λ g′ e k. law g′ (k .0 .0) e (k .0 .1) (k .1)) g es (each-both S _ R g es (each-fit S schema-fits lent g es fits ok) known)) p
+      backwards S P g es (each-map S _ _ (λ g′ e k. law g′ (k .0 .0) e (k .0 .1) (k .1)) g es (each-both S _ R g es (each-fit S types-fit lent g es fits ok) known)) p
 
   -- ---- roles
 
   not-joined : (l : Link) → T (not (someStep c (names joins l))) → T (hasLink (after S g es) l) → Linked l
   not-joined l n h =
-      held (λ g′. T (hasLink g′ l)) _ (λ g′ f e o. link-was S schema-fits lent g′ f e o l) (no-step S (names joins l) g es n) h
+      held (λ g′. T (hasLink g′ l)) _ (λ g′ f e o. link-was S types-fit lent g′ f e o l) (no-step S (names joins l) g es n) h
 
   not-parted : (l : Link) → T (not (someStep c (names parts l))) → T (hasLink g l) → Linked l
   not-parted l n h =
-      persists (λ g′. T (hasLink g′ l)) _ (λ g′ f e o. link-stays S schema-fits lent g′ f e o l) (no-step S (names parts l) g es n) h
+      persists (λ g′. T (hasLink g′ l)) _ (λ g′ f e o. link-stays S types-fit lent g′ f e o l) (no-step S (names parts l) g es n) h
 
-  link-kept : (r x : ℕ) (l : Link) → T (startsAt r x l) → Linked l → Kept (farEnd r l) (farType S r)
+  link-kept : (r x : ℕ) (l : Link) → T (startsAt r x l) → Linked l → Kept (farEnd r l) (farType relationships r)
   link-kept r x l s h =
       throughout-map S _ _ (λ g′ k. far-under S g′ (k .0) r x l (k .1) s) g es
-      (throughout-both S (RegisterFits S) (λ g′. T (hasLink g′ l)) g es (fits-throughout S schema-fits lent g es fits ok) h)
+      (throughout-both S (RegisterFits S) (λ g′. T (hasLink g′ l)) g es (fits-throughout S types-fit lent g es fits ok) h)
 
   -- with no gain, a link at the end was there all the while
   pub no-gain : (r x : ℕ) → T (not (roleMoves c r x up)) → (l : Link) → T (startsAt r x l) → T (hasLink (after S g es) l) → Linked l
@@ -97,42 +103,42 @@ module _ (S : Schema) (schema-fits : SchemaFits S) (lent : Lent) (g : Register) 
       n)
       h
 
-  role-end : (r x y : ℕ) → T (not (roleMoves c r x up)) → y ∈ farEnds (after S g es) r x → y ∈ farEnds g r x × Kept y (farType S r)
+  role-end : (r x y : ℕ) → T (not (roleMoves c r x up)) → y ∈ farEnds (after S g es) r x → y ∈ farEnds g r x × Kept y (farType relationships r)
   role-end r x y n m =
       let f = far-from (after S g es) r x y m in
       let h = no-gain r x n (f .0) (f .2) (f .1) in (
         subst (λ z. z ∈ farEnds g r x) (sym (f .3)) (far-in g r x (f .0) (at-start S _ g es h) (f .2)),
-        subst (λ z. Kept z (farType S r)) (sym (f .3)) (link-kept r x (f .0) (f .2) h),
+        subst (λ z. Kept z (farType relationships r)) (sym (f .3)) (link-kept r x (f .0) (f .2) h),
       )
 
-  role-start : (r x y : ℕ) → T (not (roleMoves c r x down)) → y ∈ farEnds g r x → y ∈ farEnds (after S g es) r x × Kept y (farType S r)
+  role-start : (r x y : ℕ) → T (not (roleMoves c r x down)) → y ∈ farEnds g r x → y ∈ farEnds (after S g es) r x × Kept y (farType relationships r)
   role-start r x y n m =
       let f = far-from g r x y m in
       let h = no-loss r x n (f .0) (f .2) (f .1) in (
         subst (λ z. z ∈ farEnds (after S g es) r x) (sym (f .3)) (far-in (after S g es) r x (f .0) (at-end S _ g es h) (f .2)),
-        subst (λ z. Kept z (farType S r)) (sym (f .3)) (link-kept r x (f .0) (f .2) h),
+        subst (λ z. Kept z (farType relationships r)) (sym (f .3)) (link-kept r x (f .0) (f .2) h),
       )
 
-  role-leaf : (d : Direction) (r x : ℕ) → T (not (roleMoves c r x d)) → UnmovedKept Kept (farType S r) d (farEnds g r x) (farEnds (after S g es) r x)
+  role-leaf : (d : Direction) (r x : ℕ) → T (not (roleMoves c r x d)) → UnmovedKept Kept (farType relationships r) d (farEnds g r x) (farEnds (after S g es) r x)
   role-leaf up r x n = (λ y m. role-end r x y n m .0, λ y m m′. role-end r x y n m′ .1)
   role-leaf down r x n = (λ y m. role-start r x y n m .0, λ y m m′. role-start r x y n m .1)
 
   -- ---- types
 
   -- an object under t at the end, whom no insert and no special brought into t, was under t all the while
-  pub not-brought-in : (x t : ℕ) → T (not (inserted c x t)) → T (not (specialised c x t)) → T (isUnder S (after S g es) x t) → Kept x t
+  pub not-brought-in : (x t : ℕ) → T (not (inserted c x t)) → T (not (specialised c x t)) → T (isUnder types (after S g es) x t) → Kept x t
   unfolding inserted specialised
   not-brought-in x t ni ns u =
-      held (λ g′. T (isUnder S g′ x t)) _ (λ g′ f e o k. under-was S schema-fits lent g′ f e o x t (k .0) (k .1))
+      held (λ g′. T (isUnder types g′ x t)) _ (λ g′ f e o k. under-was S types-fit lent g′ f e o x t (k .0) (k .1))
       (each-both S _ _ g es (no-step S (about (insertsInto S t) x) g es ni) (no-step S (about (specialisesInto S t) x) g es ns)) u
 
   -- an object under t, whom no delete and no general took out of t, stays under t all the while
-  not-taken-out : (x t : ℕ) → T (not (someStep c (about (deletesFrom S t) x))) → T (not (someStep c (about (generalisesFrom S t) x))) → T (isUnder S g x t) → Kept x t
+  not-taken-out : (x t : ℕ) → T (not (someStep c (about (deletesFrom S t) x))) → T (not (someStep c (about (generalisesFrom S t) x))) → T (isUnder types g x t) → Kept x t
   not-taken-out x t nd ng u =
-      persists (λ g′. T (isUnder S g′ x t)) _ (λ g′ f e o k. under-stays S schema-fits lent g′ f e o x t (k .0) (k .1))
+      persists (λ g′. T (isUnder types g′ x t)) _ (λ g′ f e o k. under-stays S types-fit lent g′ f e o x t (k .0) (k .1))
       (each-both S _ _ g es (no-step S (about (deletesFrom S t) x) g es nd) (no-step S (about (generalisesFrom S t) x) g es ng)) u
 
-  all-end : (t x : ℕ) → T (not (allMoves c t up)) → T (isUnder S (after S g es) x t) → Kept x t
+  all-end : (t x : ℕ) → T (not (allMoves c t up)) → T (isUnder types (after S g es) x t) → Kept x t
   unfolding allMoves bringsIn inserted specialised
   all-end t x n u = not-brought-in x t (narrowed (insertsInto S t) (λ g′ e i. or-left (insertsInto S t g′ e) (specialisesInto S t g′ e) i)) (narrowed (specialisesInto S t) (λ g′ e i. or-right (insertsInto S t g′ e) (specialisesInto S t g′ e) i)) u
     where
@@ -141,10 +147,10 @@ module _ (S : Schema) (schema-fits : SchemaFits S) (lent : Lent) (g : Register) 
           some-narrow c _ (about did x)
           (λ g′ e h.
           let hs = and-yes (did g′ e) (eqb (subject e) x) h in
-          yes-and (insertsInto S t g′ e || specialisesInto S t g′ e) _ (f g′ e (hs .0)) (subst (λ y. T (isUnder S (after S g es) y t)) (sym (eqb→eq (subject e) x (hs .1))) u))
+          yes-and (insertsInto S t g′ e || specialisesInto S t g′ e) _ (f g′ e (hs .0)) (subst (λ y. T (isUnder types (after S g es) y t)) (sym (eqb→eq (subject e) x (hs .1))) u))
           n
 
-  all-start : (t x : ℕ) → T (not (allMoves c t down)) → T (isUnder S g x t) → Kept x t
+  all-start : (t x : ℕ) → T (not (allMoves c t down)) → T (isUnder types g x t) → Kept x t
   unfolding allMoves takesOut
   all-start t x n u =
       not-taken-out x t
@@ -153,55 +159,55 @@ module _ (S : Schema) (schema-fits : SchemaFits S) (lent : Lent) (g : Register) 
       u
 
   end-register : RegisterFits S (after S g es)
-  end-register = at-end S (RegisterFits S) g es (fits-throughout S schema-fits lent g es fits ok)
+  end-register = at-end S (RegisterFits S) g es (fits-throughout S types-fit lent g es fits ok)
 
-  all-leaf : (d : Direction) (t : ℕ) → T (not (allMoves c t d)) → UnmovedKept Kept t d (instances S g t) (instances S (after S g es) t)
+  all-leaf : (d : Direction) (t : ℕ) → T (not (allMoves c t d)) → UnmovedKept Kept t d (instances types g t) (instances types (after S g es) t)
   all-leaf up t n =
-      (λ x m. instance-in S g x t (at-start S _ g es (was x m)), λ x m m′. was x m′)
+      (λ x m. instance-in types g x t (at-start S _ g es (was x m)), λ x m m′. was x m′)
     where
-      was : (x : ℕ) → x ∈ instances S (after S g es) t → Kept x t
-      was x m = all-end t x n (instance-from S (after S g es) (end-register .objects-ascend) x t m)
+      was : (x : ℕ) → x ∈ instances types (after S g es) t → Kept x t
+      was x m = all-end t x n (instance-from types (after S g es) (end-register .objects-ascend) x t m)
   all-leaf down t n =
-      (λ x m. instance-in S (after S g es) x t (at-end S _ g es (stays x m)), λ x m m′. stays x m)
+      (λ x m. instance-in types (after S g es) x t (at-end S _ g es (stays x m)), λ x m m′. stays x m)
     where
-      stays : (x : ℕ) → x ∈ instances S g t → Kept x t
-      stays x m = all-start t x n (instance-from S g (fits .objects-ascend) x t m)
+      stays : (x : ℕ) → x ∈ instances types g t → Kept x t
+      stays x m = all-start t x n (instance-from types g (fits .objects-ascend) x t m)
 
   -- each step, with the object under its type before and after it
-  kept-sides : (x t : ℕ) → Kept x t → EachStep (λ g′ e. T (isUnder S g′ x t) × T (isUnder S (apply S e g′) x t)) S g es
-  kept-sides x t h = each-side S (λ g′. T (isUnder S g′ x t)) g es h
+  kept-sides : (x t : ℕ) → Kept x t → EachStep (λ g′ e. T (isUnder types g′ x t) × T (isUnder types (apply S e g′) x t)) S g es
+  kept-sides x t h = each-side S (λ g′. T (isUnder types g′ x t)) g es h
 
   -- ---- cells
 
-  cell-leaf : (x t k : ℕ) → Kept x t → k < cellsOf S t → T (not (cellMoves c x k)) → cellAt g x k ≡ cellAt (after S g es) x k
+  cell-leaf : (x t k : ℕ) → Kept x t → k < cellsOf types t → T (not (cellMoves c x k)) → cellAt g x k ≡ cellAt (after S g es) x k
   unfolding cellMoves
   cell-leaf x t k h l n =
       unchanged S (λ g′. cellAt g′ x k) g es
-      (each-map S _ _ (λ g′ e q. cell-same S schema-fits lent g′ (q .0 .0) e (q .0 .1) x t k l (q .1 .0 .0) (q .1 .0 .1) (q .1 .1)) g es
-      (each-both S _ _ g es (each-fit S schema-fits lent g es fits ok)
+      (each-map S _ _ (λ g′ e q. cell-same S types-fit lent g′ (q .0 .0) e (q .0 .1) x t k l (q .1 .0 .0) (q .1 .0 .1) (q .1 .1)) g es
+      (each-both S _ _ g es (each-fit S types-fit lent g es fits ok)
       (each-both S _ _ g es (kept-sides x t h) (no-step S (λ g′ e. sets k e && eqb (subject e) x) g es n))))
 
   -- ---- kinds: an object that is kept is neither inserted nor deleted
 
-  not-special-in : (x u t : ℕ) → Kept x u → T (not (specialised c x t)) → T (isUnder S (after S g es) x t) → Kept x t
+  not-special-in : (x u t : ℕ) → Kept x u → T (not (specialised c x t)) → T (isUnder types (after S g es) x t) → Kept x t
   unfolding specialised
   not-special-in x u t h n e =
-      held (λ g′. T (isUnder S g′ x t)) _
-      (λ g′ f e o k. under-was S schema-fits lent g′ f e o x t (not-T (about (insertsInto S t) x g′ e) (λ i. T-not (present g′ x) (under-present S g′ x u (k .0 .0)) (insert-absent S schema-fits lent g′ f e o x t i))) (k .1))
+      held (λ g′. T (isUnder types g′ x t)) _
+      (λ g′ f e o k. under-was S types-fit lent g′ f e o x t (not-T (about (insertsInto S t) x g′ e) (λ i. T-not (present g′ x) (under-present types g′ x u (k .0 .0)) (insert-absent S types-fit lent g′ f e o x t i))) (k .1))
       (each-both S _ _ g es (kept-sides x u h) (no-step S (about (specialisesInto S t) x) g es n)) e
 
-  not-general-out : (x u t : ℕ) → Kept x u → T (not (someStep c (about (generalisesFrom S t) x))) → T (isUnder S g x t) → Kept x t
+  not-general-out : (x u t : ℕ) → Kept x u → T (not (someStep c (about (generalisesFrom S t) x))) → T (isUnder types g x t) → Kept x t
   not-general-out x u t h n e =
-      persists (λ g′. T (isUnder S g′ x t)) _
-      (λ g′ f e o k. under-stays S schema-fits lent g′ f e o x t (not-T (about (deletesFrom S t) x g′ e) (λ i. T-not (present (apply S e g′) x) (under-present S (apply S e g′) x u (k .0 .1)) (delete-absent S schema-fits lent g′ f e o x t i))) (k .1))
+      persists (λ g′. T (isUnder types g′ x t)) _
+      (λ g′ f e o k. under-stays S types-fit lent g′ f e o x t (not-T (about (deletesFrom S t) x g′ e) (λ i. T-not (present (apply S e g′) x) (under-present types (apply S e g′) x u (k .0 .1)) (delete-absent S types-fit lent g′ f e o x t i))) (k .1))
       (each-both S _ _ g es (kept-sides x u h) (no-step S (about (generalisesFrom S t) x) g es n)) e
 
-  kind-leaf : (d : Direction) (x u t : ℕ) → Kept x u → T (not (kindMoves c x t d)) → Unmoved truth d (isUnder S g x t) (isUnder S (after S g es) x t)
+  kind-leaf : (d : Direction) (x u t : ℕ) → Kept x u → T (not (kindMoves c x t d)) → Unmoved truth d (isUnder types g x t) (isUnder types (after S g es) x t)
   unfolding kindMoves specialised
   kind-leaf up x u t h n = λ e.
       at-start S _ g es
       (not-special-in x u t h
-      (⊎-elim (λ q. q) (λ q. absurd (T-not (isUnder S (after S g es) x t) e q)) (and-no (specialised c x t) (isUnder S (after S g es) x t) n)) e)
+      (⊎-elim (λ q. q) (λ q. absurd (T-not (isUnder types (after S g es) x t) e q)) (and-no (specialised c x t) (isUnder types (after S g es) x t) n)) e)
   kind-leaf down x u t h n = λ e. at-end S _ g es (not-general-out x u t h n e)
 
   pub leaves : Leaves c g Kept

@@ -12,7 +12,7 @@ use lib.IntN.{ℤ, pos, natAbs}
 use lib.Signed.{natAbs-le}
 use mir.Facts.{and-yes, ltb-yes}
 use Rattle.meaning.specs.Limits.{fitsWord}
-use Rattle.meaning.specs.Schema.{Schema}
+use Rattle.meaning.specs.Schema.{ObjectType, Schema}
 use Rattle.meaning.specs.Register.{Object, Register, objectAt, cellAt}
 use Rattle.meaning.specs.Forms.{number, collection, Arithmetic, add, sub, Form, num, cell, size, sum, combine, variable, formCount, wellTyped}
 use Rattle.meaning.specs.Meaning.{combined, total, meaning}
@@ -37,19 +37,23 @@ combined-size add a b = natAbs-add a b
 combined-size sub a b = natAbs-sub a b
 
 -- Cells are words, a collection has at most 1024 members, and a form passes a test that asks of its numbers that they are words.
-module _ (S : Schema) (g : Register) (cells : (x k : ℕ) → natAbs (cellAt g x k) ≤ 2 ^ 31) (few : (c : Form collection) (vs : List ℕ) → length (meaning S g c vs) ≤ 1024) (fit : Form number → Bool) (word : (n : ℤ) → T (fit (num n)) → T (fitsWord n)) (parts : (o : Arithmetic) (a b : Form number) → T (fit (combine o a b)) → T (fit a) × T (fit b)) where
+module _ (types : List ObjectType) (g : Register)
+    (cells : (x k : ℕ) → natAbs (cellAt g x k) ≤ 2 ^ 31)
+    (few : (c : Form collection) (vs : List ℕ) → length (meaning types g c vs) ≤ 1024)
+    (fit : Form number → Bool) (word : (n : ℤ) → T (fit (num n)) → T (fitsWord n))
+    (parts : (o : Arithmetic) (a b : Form number) → T (fit (combine o a b)) → T (fit a) × T (fit b)) where
   -- a form adds at most 2^41 of its own: the sum of 1024 cells
-  number-size : (f : Form number) → T (fit f) → (vs : List ℕ) → natAbs (meaning S g f vs) ≤ formCount f * 2 ^ 41
+  number-size : (f : Form number) → T (fit f) → (vs : List ℕ) → natAbs (meaning types g f vs) ≤ formCount f * 2 ^ 41
   unfolding meaning formCount
   number-size (num n) w vs = le-trans (word-size n (word n w)) (lit≤ tt)
   number-size (cell v k) w vs = le-trans (cells (variable vs v) k) (lit≤ tt)
   number-size (size c) w vs = omega (arith, few c vs)
-  number-size (sum c k) w vs = omega (arith, total-size (λ x. cellAt g x k) (λ x. cells x k) (meaning S g c vs), few c vs)
+  number-size (sum c k) w vs = omega (arith, total-size (λ x. cellAt g x k) (λ x. cells x k) (meaning types g c vs), few c vs)
   number-size (combine o a b) w vs =
       let r = parts o a b w in
-      omega (arith, combined-size o (meaning S g a vs) (meaning S g b vs), number-size a (r .0) vs, number-size b (r .1) vs)
+      omega (arith, combined-size o (meaning types g a vs) (meaning types g b vs), number-size a (r .0) vs, number-size b (r .1) vs)
 
-  pub number-small : (f : Form number) → T (fit f) → formCount f ≤ 64 → (vs : List ℕ) → natAbs (meaning S g f vs) ≤ 2 ^ 47
+  pub number-small : (f : Form number) → T (fit f) → formCount f ≤ 64 → (vs : List ℕ) → natAbs (meaning types g f vs) ≤ 2 ^ 47
   number-small f w n vs = omega (arith, number-size f w vs)
 
 module _ (S : Schema) (g : Register) (fits : RegisterFits S g) where
@@ -61,11 +65,11 @@ module _ (S : Schema) (g : Register) (fits : RegisterFits S g) where
       step none e = zero-le
       step (some o) e =
           word-size (getD (o .cells) k (pos 0))
-          (every-getD fitsWord (o .cells) k (pos 0) (object-parts S o (fits .objects-fit o (object-at g x e .0)) .cells-word) tt)
+          (every-getD fitsWord (o .cells) k (pos 0) (object-parts (S .types) o (fits .objects-fit o (object-at g x e .0)) .cells-word) tt)
 
   module _ (few : length (g .objects) ≤ 1024) where
-    pub number-bound : (ts : List ℕ) (f : Form number) → T (wellTyped S ts f) → formCount f ≤ 64 → (vs : List ℕ) → natAbs (meaning S g f vs) ≤ 2 ^ 47
+    pub number-bound : (ts : List ℕ) (f : Form number) → T (wellTyped S ts f) → formCount f ≤ 64 → (vs : List ℕ) → natAbs (meaning (S .types) g f vs) ≤ 2 ^ 47
     unfolding wellTyped
     number-bound ts =
-        number-small S g cell-size (λ c vs. le-trans (members-count S g (gathered S g fits) c vs) few) (wellTyped S ts) (λ n w. w)
+        number-small (S .types) g cell-size (λ c vs. le-trans (members-count (S .types) g (gathered S g fits) c vs) few) (wellTyped S ts) (λ n w. w)
         (λ o a b. and-yes (wellTyped S ts a) (wellTyped S ts b))

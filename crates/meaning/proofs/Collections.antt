@@ -7,7 +7,7 @@ use mathlib.Core.List.{List, map}
 use native.Mathlib.Nat.{lt-irrefl, lt-trans}
 use lib.Dec.{T}
 use lib.ListN.{length, length-map}
-use Rattle.meaning.specs.Schema.{Schema, farType}
+use Rattle.meaning.specs.Schema.{ObjectType, Schema, farType}
 use Rattle.meaning.specs.Register.{Object, Register, objectKey, objectAt, present, farEnd, farEnds}
 use Rattle.meaning.specs.Forms.{collection, Form, role, all, select, bind, variable}
 use Rattle.meaning.specs.Meaning.{meaning}
@@ -36,25 +36,25 @@ gathered S g fits = record { objects-ascend = fits .objects-ascend; far-ascend =
     ends : (r u x : ℕ) → x ∈ farEnds g r u → T (present g x)
     ends r u x m =
         let (l, h, s, e) = far-from g r u x m in
-        subst (λ y. T (present g y)) (sym e) (under-present S g (farEnd r l) (farType S r) (far-under S g fits r u l h s))
+        subst (λ y. T (present g y)) (sym e) (under-present (S .types) g (farEnd r l) (farType (S .relationships) r) (far-under S g fits r u l h s))
 
-module _ (S : Schema) (g : Register) (h : Gathered g) where
-  pub members-ascend : (c : Form collection) (vs : List ℕ) → Ascending _<_ (meaning S g c vs)
+module _ (types : List ObjectType) (g : Register) (h : Gathered g) where
+  pub members-ascend : (c : Form collection) (vs : List ℕ) → Ascending _<_ (meaning types g c vs)
   unfolding meaning
   members-ascend (role v r) vs = h .far-ascend r (variable vs v)
-  members-ascend (all t) vs = instances-ascend S g (h .objects-ascend) t
-  members-ascend (select c b) vs = ascending-keep _<_ (λ x. meaning S g b (bind vs x)) (meaning S g c vs) (members-ascend c vs)
+  members-ascend (all t) vs = instances-ascend types g (h .objects-ascend) t
+  members-ascend (select c b) vs = ascending-keep _<_ (λ x. meaning types g b (bind vs x)) (meaning types g c vs) (members-ascend c vs)
 
-  pub member-present : (c : Form collection) (vs : List ℕ) (x : ℕ) → x ∈ meaning S g c vs → T (present g x)
+  pub member-present : (c : Form collection) (vs : List ℕ) (x : ℕ) → x ∈ meaning types g c vs → T (present g x)
   unfolding meaning
   member-present (role v r) vs x m = h .ends r (variable vs v) x m
-  member-present (all t) vs x m = under-present S g x t (instance-from S g (h .objects-ascend) x t m)
-  member-present (select c b) vs x m = member-present c vs x (keep-from (λ y. meaning S g b (bind vs y)) (meaning S g c vs) m .0)
+  member-present (all t) vs x m = under-present types g x t (instance-from types g (h .objects-ascend) x t m)
+  member-present (select c b) vs x m = member-present c vs x (keep-from (λ y. meaning types g b (bind vs y)) (meaning types g c vs) m .0)
 
-  pub members-count : (c : Form collection) (vs : List ℕ) → length (meaning S g c vs) ≤ length (g .objects)
+  pub members-count : (c : Form collection) (vs : List ℕ) → length (meaning types g c vs) ≤ length (g .objects)
   members-count c vs =
       rw (← length-map (g .objects) idOf)
-      (ascending-shorter _<_ lt-irrefl (λ x y z. lt-trans) (meaning S g c vs) (map idOf (g .objects))
+      (ascending-shorter _<_ lt-irrefl (λ x y z. lt-trans) (meaning types g c vs) (map idOf (g .objects))
       (members-ascend c vs)
       (ascending-map idOf (Before objectKey) _<_ (g .objects) (λ o p m n. before-one (o .id) (p .id)) (h .objects-ascend))
       (λ x m. id-in g x (member-present c vs x m)))

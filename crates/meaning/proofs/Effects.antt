@@ -15,13 +15,13 @@ use lib.IntN.{ℤ, pos}
 use mir.Facts.{and-yes, yes-and, or-no, T-not, not-T, T-not-not, eqb-yes, yes-eqb, eqb-no, ltb-yes, leb-no}
 use Rattle.meaning.specs.Lists.{every, keep, place}
 use Rattle.meaning.specs.Limits.{cellCount, maxObjects, validId, fitsWord}
-use Rattle.meaning.specs.Schema.{Schema, knownType, knownRelationship, cellsOf, under, sourceType, targetType}
+use Rattle.meaning.specs.Schema.{ObjectType, Relationship, Schema, knownType, knownRelationship, cellsOf, under, sourceType, targetType}
 use Rattle.meaning.specs.Register.{Object, Link, Register, objectKey, linkKey, objectAt, present, isUnder, cellAt, sameLink, hasLink, isZero, objectFits, linkFits}
 use Rattle.meaning.specs.Events.{Event, insert, delete, set, join, part, special, general, Lent, linkOf, newObject, clearedFrom, withCell, withType, withHigherType, amended, apply, Check, _when_, firstMet, linked, needsType, typeNeeded, strictlyAbove, strictlyUnder, hasCell, checks, eventRefusal, knownEvent}
 use Rattle.meaning.specs.Reach.{subject, linkNamed, joins, parts, sets, insertsInto, specialisesInto, deletesFrom, generalisesFrom}
 use Rattle.meaning.proofs.Lists.{_∈_, Ascending, not-sub, decide, first-absent, first-keep, first-map, every-drop, every-take, every-append, every-replicate, every-set, holds-some, cond-yes, cond-no, any-none, keep-in, keep-from, length-keep, ascending-keep, ascending-map}
 use Rattle.meaning.proofs.Order.{Before, same-refl, same-swap, first-place, length-place, place-from, place-other, place-has, place-ascending}
-use Rattle.meaning.proofs.Schemas.{SchemaFits, under-trans, under-cells}
+use Rattle.meaning.proofs.Schemas.{TypesFit, under-trans, under-cells}
 use Rattle.meaning.proofs.Registers.{RegisterFits, object-parts, object-whole, object-at, ascending-found, under-present, link-in, link-has, link-parts, link-whole}
 
 -- ---- refusals that are not met
@@ -50,8 +50,8 @@ EventFits S g (delete id) = Unit {0}
 EventFits S g (set id k v) = Unit {0}
 EventFits S g (join r a b) = Unit {0}
 EventFits S g (part r a b) = Unit {0}
-EventFits S g (special id t) = T (strictlyAbove S g id t)
-EventFits S g (general id t) = T (strictlyUnder S g id t)
+EventFits S g (special id t) = T (strictlyAbove (S .types) g id t)
+EventFits S g (general id t) = T (strictlyUnder (S .types) g id t)
 
 pub event-fits : (S : Schema) (lent : Lent) (g : Register) (e : Event) → eventRefusal S lent g e ≡ none → EventFits S g e
 unfolding checks knownEvent
@@ -60,8 +60,8 @@ event-fits S lent g (delete id) ok = tt
 event-fits S lent g (set id k v) ok = tt
 event-fits S lent g (join r a b) ok = tt
 event-fits S lent g (part r a b) ok = tt
-event-fits S lent g (special id t) ok = T-not-not (strictlyAbove S g id t) (clear S lent g (special id t) ok .1 .1 .0)
-event-fits S lent g (general id t) ok = T-not-not (strictlyUnder S g id t) (clear S lent g (general id t) ok .1 .1 .0)
+event-fits S lent g (special id t) ok = T-not-not (strictlyAbove (S .types) g id t) (clear S lent g (special id t) ok .1 .1 .0)
+event-fits S lent g (general id t) ok = T-not-not (strictlyUnder (S .types) g id t) (clear S lent g (general id t) ok .1 .1 .0)
 
 -- a refusal of what lacks one of two
 both : (a b : Bool) → T (not (not (a && b))) → T a × T b
@@ -81,23 +81,23 @@ at-self false x n = tt
 
 -- ---- cells
 
-module _ (S : Schema) (o : Object) where
-  with-cell-fits : (k : ℕ) (v : ℤ) → T (fitsWord v) → k < cellsOf S (o .type) → T (objectFits S o) → T (objectFits S (withCell k v o))
+module _ (types : List ObjectType) (o : Object) where
+  with-cell-fits : (k : ℕ) (v : ℤ) → T (fitsWord v) → k < cellsOf types (o .type) → T (objectFits types o) → T (objectFits types (withCell k v o))
   with-cell-fits k v w h t =
-      let f = object-parts S o t in
-      object-whole S (withCell k v o)
+      let f = object-parts types o t in
+      object-whole types (withCell k v o)
       (record {
         id-valid = f .id-valid;
         type-known = f .type-known;
         cells-count = length-set (o .cells) k v ∙ f .cells-count;
         cells-word = every-set fitsWord (o .cells) k v w (f .cells-word);
-        cells-zero = rw (drop-set-lt (cellsOf S (o .type)) (o .cells) k v h) (f .cells-zero);
+        cells-zero = rw (drop-set-lt (cellsOf types (o .type)) (o .cells) k v h) (f .cells-zero);
       })
 
-  with-type-fits : (t : ℕ) → T (knownType S t) → cellsOf S (o .type) ≤ cellsOf S t → T (objectFits S o) → T (objectFits S (withType t o))
+  with-type-fits : (t : ℕ) → T (knownType types t) → cellsOf types (o .type) ≤ cellsOf types t → T (objectFits types o) → T (objectFits types (withType t o))
   with-type-fits t known h fit =
-      let f = object-parts S o fit in
-      object-whole S (withType t o)
+      let f = object-parts types o fit in
+      object-whole types (withType t o)
       (record {
         id-valid = f .id-valid;
         type-known = known;
@@ -105,18 +105,18 @@ module _ (S : Schema) (o : Object) where
         cells-word = f .cells-word;
         cells-zero =
             subst (λ l. T (every isZero l))
-            (drop-drop (cellsOf S t - cellsOf S (o .type)) (cellsOf S (o .type)) (o .cells) ∙ ap (λ n. drop n (o .cells)) (add-sub-of-le h))
-            (every-drop isZero (cellsOf S t - cellsOf S (o .type)) (drop (cellsOf S (o .type)) (o .cells)) (f .cells-zero));
+            (drop-drop (cellsOf types t - cellsOf types (o .type)) (cellsOf types (o .type)) (o .cells) ∙ ap (λ n. drop n (o .cells)) (add-sub-of-le h))
+            (every-drop isZero (cellsOf types t - cellsOf types (o .type)) (drop (cellsOf types (o .type)) (o .cells)) (f .cells-zero));
       })
 
-  with-higher-type-fits : (t : ℕ) → T (knownType S t) → cellsOf S t ≤ cellCount → T (objectFits S o) → T (objectFits S (withHigherType S t o))
+  with-higher-type-fits : (t : ℕ) → T (knownType types t) → cellsOf types t ≤ cellCount → T (objectFits types o) → T (objectFits types (withHigherType types t o))
   unfolding fitsWord
   with-higher-type-fits t known h fit =
-      let f = object-parts S o fit in
-      let n = cellsOf S t in
+      let f = object-parts types o fit in
+      let n = cellsOf types t in
       let zeros = replicate (cellCount - n) (pos 0) in
       let taken : length (take n (o .cells)) ≡ n = length-take-le n (o .cells) (rw (f .cells-count) h) in
-      object-whole S (withHigherType S t o)
+      object-whole types (withHigherType types t o)
       (record {
         id-valid = f .id-valid;
         type-known = known;
@@ -133,16 +133,16 @@ cleared-same n k cells enough h =
     List·getD-append (take n cells) (replicate (cellCount - n) (pos 0)) (pos 0) k (rw (length-take-le n cells enough) h)
     ∙ getD-take n cells k (pos 0) h
 
-new-object-fits : (S : Schema) (id t : ℕ) → T (validId id) → T (knownType S t) → T (objectFits S (newObject id t))
+new-object-fits : (types : List ObjectType) (id t : ℕ) → T (validId id) → T (knownType types t) → T (objectFits types (newObject id t))
 unfolding fitsWord
-new-object-fits S id t valid known =
-    object-whole S (newObject id t)
+new-object-fits types id t valid known =
+    object-whole types (newObject id t)
     (record {
       id-valid = valid;
       type-known = known;
       cells-count = refl;
       cells-word = tt;
-      cells-zero = every-drop isZero (cellsOf S t) (replicate cellCount (pos 0)) tt;
+      cells-zero = every-drop isZero (cellsOf types t) (replicate cellCount (pos 0)) tt;
     })
 
 -- ---- an object of a register after a change
@@ -221,18 +221,24 @@ module _ (g : Register) (id : ℕ) where
 -- What an event that is not refused did to the object of id x, from register g to register h.
 data Fate (S : Schema) (g h : Register) (x : ℕ) : Event → Type 0 where
   kept : {e : Event} → objectAt h x ≡ objectAt g x → Fate S g h x e
-  came : {t : ℕ} → T (validId x) → T (knownType S t) → T (not (present g x)) → objectAt h x ≡ some (newObject x t) → Fate S g h x (insert x t)
+  came : {t : ℕ} → T (validId x) → T (knownType (S .types) t) → T (not (present g x)) → objectAt h x ≡ some (newObject x t) → Fate S g h x (insert x t)
   went : objectAt h x ≡ none → Fate S g h x (delete x)
-  written : {o : Object} {k : ℕ} {v : ℤ} → T (fitsWord v) → k < cellsOf S (o .type) → objectAt g x ≡ some o → objectAt h x ≡ some (withCell k v o) → Fate S g h x (set x k v)
-  lowered : {o : Object} {t : ℕ} → T (knownType S t) → T (under S t (o .type)) → objectAt g x ≡ some o → objectAt h x ≡ some (withType t o) → Fate S g h x (special x t)
-  raised : {o : Object} {t : ℕ} → T (knownType S t) → T (under S (o .type) t) → objectAt g x ≡ some o → objectAt h x ≡ some (withHigherType S t o) → Fate S g h x (general x t)
+  written : {o : Object} {k : ℕ} {v : ℤ} → T (fitsWord v) → k < cellsOf (S .types) (o .type) → objectAt g x ≡ some o → objectAt h x ≡ some (withCell k v o) → Fate S g h x (set x k v)
+  lowered : {o : Object} {t : ℕ} → T (knownType (S .types) t) → T (under (S .types) t (o .type)) → objectAt g x ≡ some o → objectAt h x ≡ some (withType t o) → Fate S g h x (special x t)
+  raised : {o : Object} {t : ℕ} → T (knownType (S .types) t) → T (under (S .types) (o .type) t) → objectAt g x ≡ some o → objectAt h x ≡ some (withHigherType (S .types) t o) → Fate S g h x (general x t)
 
-module _ (S : Schema) (schema-fits : SchemaFits S) (lent : Lent) (g : Register) (fits : RegisterFits S g) where
+module _ (S : Schema) (types-fit : TypesFit (S .types)) (lent : Lent) (g : Register) (fits : RegisterFits S g) where
+  abbrev types : List ObjectType
+  types = S .types
+
+  abbrev relationships : List Relationship
+  relationships = S .relationships
+
   fate : (e : Event) → eventRefusal S lent g e ≡ none → (x : ℕ) → Fate S g (apply S e g) x e
   unfolding apply checks knownEvent strictlyAbove strictlyUnder hasCell objectAt
   fate (insert id t) ok x =
       let c = clear S lent g (insert id t) ok in
-      let valid = both (validId id) (knownType S t) (c .0) in
+      let valid = both (validId id) (knownType types t) (c .0) in
       at-or-else (λ y. Fate S g (apply S (insert id t) g) y (insert id t)) id x
       (came (valid .0) (valid .1) (c .1 .0) (inserted-at g id S t (fits .objects-ascend) (c .1 .0)))
       (λ n. kept (inserted-other g id S t x n))
@@ -240,7 +246,7 @@ module _ (S : Schema) (schema-fits : SchemaFits S) (lent : Lent) (g : Register) 
       at-or-else (λ y. Fate S g (apply S (delete id) g) y (delete id)) id x (went (deleted-at g id S)) (λ n. kept (deleted-other g id S x n))
   fate (set id k v) ok x =
       let c = clear S lent g (set id k v) ok in
-      let o = holds-some (λ o. ltb k (cellsOf S (o .type))) (objectAt g id) (T-not-not (hasCell S g id k) (c .1 .1 .0)) in
+      let o = holds-some (λ o. ltb k (cellsOf types (o .type))) (objectAt g id) (T-not-not (hasCell types g id k) (c .1 .1 .0)) in
       at-or-else (λ y. Fate S g (apply S (set id k v) g) y (set id k v)) id x
       (written (both (validId id && ltb k cellCount) (fitsWord v) (c .0) .1) (ltb-yes (o .2)) (o .1) (amended-at g id (withCell k v) (λ o. refl) (o .1)))
       (λ n. kept (amended-other g id (withCell k v) (λ o. refl) x n))
@@ -248,50 +254,50 @@ module _ (S : Schema) (schema-fits : SchemaFits S) (lent : Lent) (g : Register) 
   fate (part r a b) ok x = kept refl
   fate (special id t) ok x =
       let c = clear S lent g (special id t) ok in
-      let o = holds-some (λ o. under S t (o .type) && not (eqb t (o .type))) (objectAt g id) (T-not-not (strictlyAbove S g id t) (c .1 .1 .0)) in
-      let lower = and-yes (under S t (o .0 .type)) (not (eqb t (o .0 .type))) (o .2) .0 in
+      let o = holds-some (λ o. under types t (o .type) && not (eqb t (o .type))) (objectAt g id) (T-not-not (strictlyAbove types g id t) (c .1 .1 .0)) in
+      let lower = and-yes (under types t (o .0 .type)) (not (eqb t (o .0 .type))) (o .2) .0 in
       at-or-else (λ y. Fate S g (apply S (special id t) g) y (special id t)) id x
-      (lowered (both (validId id) (knownType S t) (c .0) .1) lower (o .1) (amended-at g id (withType t) (λ o. refl) (o .1)))
+      (lowered (both (validId id) (knownType types t) (c .0) .1) lower (o .1) (amended-at g id (withType t) (λ o. refl) (o .1)))
       (λ n. kept (amended-other g id (withType t) (λ o. refl) x n))
   fate (general id t) ok x =
       let c = clear S lent g (general id t) ok in
-      let o = holds-some (λ o. under S (o .type) t && not (eqb t (o .type))) (objectAt g id) (T-not-not (strictlyUnder S g id t) (c .1 .1 .0)) in
-      let higher = and-yes (under S (o .0 .type) t) (not (eqb t (o .0 .type))) (o .2) .0 in
+      let o = holds-some (λ o. under types (o .type) t && not (eqb t (o .type))) (objectAt g id) (T-not-not (strictlyUnder types g id t) (c .1 .1 .0)) in
+      let higher = and-yes (under types (o .0 .type) t) (not (eqb t (o .0 .type))) (o .2) .0 in
       at-or-else (λ y. Fate S g (apply S (general id t) g) y (general id t)) id x
-      (raised (both (validId id) (knownType S t) (c .0) .1) higher (o .1) (amended-at g id (withHigherType S t) (λ o. refl) (o .1)))
-      (λ n. kept (amended-other g id (withHigherType S t) (λ o. refl) x n))
+      (raised (both (validId id) (knownType types t) (c .0) .1) higher (o .1) (amended-at g id (withHigherType types t) (λ o. refl) (o .1)))
+      (λ n. kept (amended-other g id (withHigherType types t) (λ o. refl) x n))
 
   -- ---- types
 
-  pub under-stays : (e : Event) → eventRefusal S lent g e ≡ none → (x t : ℕ) → T (not (deletesFrom S t g e && eqb (subject e) x)) → T (not (generalisesFrom S t g e && eqb (subject e) x)) → T (isUnder S g x t) → T (isUnder S (apply S e g) x t)
+  pub under-stays : (e : Event) → eventRefusal S lent g e ≡ none → (x t : ℕ) → T (not (deletesFrom S t g e && eqb (subject e) x)) → T (not (generalisesFrom S t g e && eqb (subject e) x)) → T (isUnder types g x t) → T (isUnder types (apply S e g) x t)
   unfolding isUnder
   under-stays e ok x t nd ng u = step (fate e ok x) nd ng
     where
-      step : {f : Event} {h : Register} → Fate S g h x f → T (not (deletesFrom S t g f && eqb (subject f) x)) → T (not (generalisesFrom S t g f && eqb (subject f) x)) → T (isUnder S h x t)
+      step : {f : Event} {h : Register} → Fate S g h x f → T (not (deletesFrom S t g f && eqb (subject f) x)) → T (not (generalisesFrom S t g f && eqb (subject f) x)) → T (isUnder types h x t)
       step (kept q) nd ng = rw q u
-      step (came i k a b) nd ng = absurd (T-not (present g x) (under-present S g x t u) a)
-      step (went b) nd ng = absurd (T-not (isUnder S g x t) u (at-self (isUnder S g x t) x nd))
+      step (came i k a b) nd ng = absurd (T-not (present g x) (under-present types g x t u) a)
+      step (went b) nd ng = absurd (T-not (isUnder types g x t) u (at-self (isUnder types g x t) x nd))
       step (written w k a b) nd ng = rw b (rw a at u)
-      step (lowered {o} {t = s} k l a b) nd ng = rw b (under-trans S schema-fits s (o .type) t l (rw a at u))
+      step (lowered {o} {t = s} k l a b) nd ng = rw b (under-trans types types-fit s (o .type) t l (rw a at u))
       step (raised {o} {t = s} k l a b) nd ng =
-          rw b (T-not-not (under S s t) (and-rest (isUnder S g x t) (not (under S s t)) u (at-self (isUnder S g x t && not (under S s t)) x ng)))
+          rw b (T-not-not (under types s t) (and-rest (isUnder types g x t) (not (under types s t)) u (at-self (isUnder types g x t && not (under types s t)) x ng)))
 
-  pub under-was : (e : Event) → eventRefusal S lent g e ≡ none → (x t : ℕ) → T (not (insertsInto S t g e && eqb (subject e) x)) → T (not (specialisesInto S t g e && eqb (subject e) x)) → T (isUnder S (apply S e g) x t) → T (isUnder S g x t)
+  pub under-was : (e : Event) → eventRefusal S lent g e ≡ none → (x t : ℕ) → T (not (insertsInto S t g e && eqb (subject e) x)) → T (not (specialisesInto S t g e && eqb (subject e) x)) → T (isUnder types (apply S e g) x t) → T (isUnder types g x t)
   unfolding isUnder
   under-was e ok x t ni ns u = step (fate e ok x) ni ns u
     where
-      step : {f : Event} {h : Register} → Fate S g h x f → T (not (insertsInto S t g f && eqb (subject f) x)) → T (not (specialisesInto S t g f && eqb (subject f) x)) → T (isUnder S h x t) → T (isUnder S g x t)
+      step : {f : Event} {h : Register} → Fate S g h x f → T (not (insertsInto S t g f && eqb (subject f) x)) → T (not (specialisesInto S t g f && eqb (subject f) x)) → T (isUnder types h x t) → T (isUnder types g x t)
       step (kept q) ni ns u = rw q at u
-      step (came {t = s} i k a b) ni ns u = absurd (T-not (under S s t) (rw b at u) (at-self (under S s t) x ni))
+      step (came {t = s} i k a b) ni ns u = absurd (T-not (under types s t) (rw b at u) (at-self (under types s t) x ni))
       step (went b) ni ns u = absurd (rw b at u)
       step (written w k a b) ni ns u = rw a (rw b at u)
       step (lowered {o} {t = s} k l a b) ni ns u =
-          T-not-not (isUnder S g x t) (and-rest (under S s t) (not (isUnder S g x t)) (rw b at u) (at-self (under S s t && not (isUnder S g x t)) x ns))
-      step (raised {o} {t = s} k l a b) ni ns u = rw a (under-trans S schema-fits (o .type) s t l (rw b at u))
+          T-not-not (isUnder types g x t) (and-rest (under types s t) (not (isUnder types g x t)) (rw b at u) (at-self (under types s t && not (isUnder types g x t)) x ns))
+      step (raised {o} {t = s} k l a b) ni ns u = rw a (under-trans types types-fit (o .type) s t l (rw b at u))
 
   -- ---- the register fits
 
-  found-fits : (x : ℕ) {o : Object} → objectAt g x ≡ some o → T (objectFits S o)
+  found-fits : (x : ℕ) {o : Object} → objectAt g x ≡ some o → T (objectFits types o)
   found-fits x {o} e = fits .objects-fit o (object-at g x e .0)
 
   objects-ascend-after : (e : Event) → Ascending (Before objectKey) ((apply S e g) .objects)
@@ -302,53 +308,53 @@ module _ (S : Schema) (schema-fits : SchemaFits S) (lent : Lent) (g : Register) 
   objects-ascend-after (join r a b) = fits .objects-ascend
   objects-ascend-after (part r a b) = fits .objects-ascend
   objects-ascend-after (special id t) = amended-ascends g id (withType t) (λ o. refl) (fits .objects-ascend)
-  objects-ascend-after (general id t) = amended-ascends g id (withHigherType S t) (λ o. refl) (fits .objects-ascend)
+  objects-ascend-after (general id t) = amended-ascends g id (withHigherType types t) (λ o. refl) (fits .objects-ascend)
 
-  objects-fit-after : (e : Event) → eventRefusal S lent g e ≡ none → (o : Object) → o ∈ (apply S e g) .objects → T (objectFits S o)
+  objects-fit-after : (e : Event) → eventRefusal S lent g e ≡ none → (o : Object) → o ∈ (apply S e g) .objects → T (objectFits types o)
   objects-fit-after e ok o m = step (fate e ok (o .id)) (ascending-found (apply S e g) (objects-ascend-after e) m)
     where
-      now : {found : Option Object} {n : Object} → found ≡ some o → found ≡ some n → T (objectFits S n) → T (objectFits S o)
-      now {n} p q t = subst (λ z. T (objectFits S z)) (Option·some-injective n o (sym q ∙ p)) t
+      now : {found : Option Object} {n : Object} → found ≡ some o → found ≡ some n → T (objectFits types n) → T (objectFits types o)
+      now {n} p q t = subst (λ z. T (objectFits types z)) (Option·some-injective n o (sym q ∙ p)) t
 
-      step : {f : Event} {h : Register} → Fate S g h (o .id) f → objectAt h (o .id) ≡ some o → T (objectFits S o)
+      step : {f : Event} {h : Register} → Fate S g h (o .id) f → objectAt h (o .id) ≡ some o → T (objectFits types o)
       step (kept q) p = found-fits (o .id) (sym q ∙ p)
-      step (came {t} i k a b) p = now p b (new-object-fits S (o .id) t i k)
+      step (came {t} i k a b) p = now p b (new-object-fits types (o .id) t i k)
       step (went b) p = absurd (Option·none-ne-some o (sym b ∙ p))
-      step (written {o = was} {k} {v} w h a b) p = now p b (with-cell-fits S was k v w h (found-fits (o .id) a))
-      step (lowered {o = was} {t} k l a b) p = now p b (with-type-fits S was t k (under-cells S schema-fits t (was .type) l) (found-fits (o .id) a))
-      step (raised {o = was} {t} k l a b) p = now p b (with-higher-type-fits S was t k (schema-fits .cells-bound t) (found-fits (o .id) a))
+      step (written {o = was} {k} {v} w h a b) p = now p b (with-cell-fits types was k v w h (found-fits (o .id) a))
+      step (lowered {o = was} {t} k l a b) p = now p b (with-type-fits types was t k (under-cells types types-fit t (was .type) l) (found-fits (o .id) a))
+      step (raised {o = was} {t} k l a b) p = now p b (with-higher-type-fits types was t k (types-fit .cells-bound t) (found-fits (o .id) a))
 
   -- the event does not take object x out of type t
   abbrev Leaves : Event → ℕ → ℕ → Type 0
   Leaves e x t = T (not (deletesFrom S t g e && eqb (subject e) x)) × T (not (generalisesFrom S t g e && eqb (subject e) x))
 
   -- a link holds its ends in their types: refusal 12
-  link-holds : (e : Event) → eventRefusal S lent g e ≡ none → (l : Link) → l ∈ g .links → Leaves e (l .source) (sourceType S (l .relationship)) × Leaves e (l .target) (targetType S (l .relationship))
+  link-holds : (e : Event) → eventRefusal S lent g e ≡ none → (l : Link) → l ∈ g .links → Leaves e (l .source) (sourceType relationships (l .relationship)) × Leaves e (l .target) (targetType relationships (l .relationship))
   unfolding checks knownEvent linked needsType typeNeeded
   link-holds (insert id t) ok l m = ((tt, tt), (tt, tt))
   link-holds (delete id) ok l m =
       let n = or-no (eqb (l .source) id) (eqb (l .target) id) (any-none (λ l. eqb (l .source) id || eqb (l .target) id) (clear S lent g (delete id) ok .1 .1 .0) m) in
-      ((not-of (l .source) (sourceType S (l .relationship)) (n .0), tt), (not-of (l .target) (targetType S (l .relationship)) (n .1), tt))
+      ((not-of (l .source) (sourceType relationships (l .relationship)) (n .0), tt), (not-of (l .target) (targetType relationships (l .relationship)) (n .1), tt))
     where
-      not-of : (x s : ℕ) → T (not (eqb x id)) → T (not (isUnder S g id s && eqb id x))
-      not-of x s n = not-sub (isUnder S g id s && eqb id x) (eqb x id) (λ y. eqb-swap id x (and-yes (isUnder S g id s) (eqb id x) y .1)) n
+      not-of : (x s : ℕ) → T (not (eqb x id)) → T (not (isUnder types g id s && eqb id x))
+      not-of x s n = not-sub (isUnder types g id s && eqb id x) (eqb x id) (λ y. eqb-swap id x (and-yes (isUnder types g id s) (eqb id x) y .1)) n
   link-holds (set id k v) ok l m = ((tt, tt), (tt, tt))
   link-holds (join r a b) ok l m = ((tt, tt), (tt, tt))
   link-holds (part r a b) ok l m = ((tt, tt), (tt, tt))
   link-holds (special id t) ok l m = ((tt, tt), (tt, tt))
   link-holds (general id t) ok l m =
-      let n = or-no (needs (l .source) (sourceType S (l .relationship))) (needs (l .target) (targetType S (l .relationship))) (any-none (needsType S id t) (clear S lent g (general id t) ok .1 .1 .1 .0) m) in
-      ((tt, not-out (l .source) (sourceType S (l .relationship)) (n .0)), (tt, not-out (l .target) (targetType S (l .relationship)) (n .1)))
+      let n = or-no (needs (l .source) (sourceType relationships (l .relationship))) (needs (l .target) (targetType relationships (l .relationship))) (any-none (needsType S id t) (clear S lent g (general id t) ok .1 .1 .1 .0) m) in
+      ((tt, not-out (l .source) (sourceType relationships (l .relationship)) (n .0)), (tt, not-out (l .target) (targetType relationships (l .relationship)) (n .1)))
     where
       needs : ℕ → ℕ → Bool
-      needs x s = eqb x id && not (under S t s)
+      needs x s = eqb x id && not (under types t s)
 
-      not-out : (x s : ℕ) → T (not (needs x s)) → T (not (isUnder S g id s && not (under S t s) && eqb id x))
+      not-out : (x s : ℕ) → T (not (needs x s)) → T (not (isUnder types g id s && not (under types t s) && eqb id x))
       not-out x s n =
-          not-sub (isUnder S g id s && not (under S t s) && eqb id x) (needs x s)
+          not-sub (isUnder types g id s && not (under types t s) && eqb id x) (needs x s)
           (λ y.
-          let p = and-yes (isUnder S g id s && not (under S t s)) (eqb id x) y in
-          yes-and (eqb x id) (not (under S t s)) (eqb-swap id x (p .1)) (and-yes (isUnder S g id s) (not (under S t s)) (p .0) .1))
+          let p = and-yes (isUnder types g id s && not (under types t s)) (eqb id x) y in
+          yes-and (eqb x id) (not (under types t s)) (eqb-swap id x (p .1)) (and-yes (isUnder types g id s) (not (under types t s)) (p .0) .1))
           n
 
   old-link-fits : (e : Event) → eventRefusal S lent g e ≡ none → (l : Link) → l ∈ g .links → T (linkFits S (apply S e g) l)
@@ -356,8 +362,8 @@ module _ (S : Schema) (schema-fits : SchemaFits S) (lent : Lent) (g : Register) 
       let p = link-parts S g l (fits .links-fit l m) in
       let h = link-holds e ok l m in
       link-whole S (apply S e g) l (p .0) (
-        under-stays e ok (l .source) (sourceType S (l .relationship)) (h .0 .0) (h .0 .1) (p .1 .0),
-        under-stays e ok (l .target) (targetType S (l .relationship)) (h .1 .0) (h .1 .1) (p .1 .1),
+        under-stays e ok (l .source) (sourceType relationships (l .relationship)) (h .0 .0) (h .0 .1) (p .1 .0),
+        under-stays e ok (l .target) (targetType relationships (l .relationship)) (h .1 .0) (h .1 .1) (p .1 .1),
       )
 
   links-ascend-after : (e : Event) → Ascending (Before linkKey) ((apply S e g) .links)
@@ -375,8 +381,8 @@ module _ (S : Schema) (schema-fits : SchemaFits S) (lent : Lent) (g : Register) 
   new-link-fits r a b ok =
       let c = clear S lent g (join r a b) ok in
       link-whole S (apply S (join r a b) g) (linkOf r a b)
-      (and-yes (knownRelationship S r) (validId a) (both (knownRelationship S r && validId a) (validId b) (c .0) .0) .0)
-      (both (isUnder S g a (sourceType S r)) (isUnder S g b (targetType S r)) (c .1 .1 .1 .0))
+      (and-yes (knownRelationship relationships r) (validId a) (both (knownRelationship relationships r && validId a) (validId b) (c .0) .0) .0)
+      (both (isUnder types g a (sourceType relationships r)) (isUnder types g b (targetType relationships r)) (c .1 .1 .1 .0))
 
   links-fit-after : (e : Event) → eventRefusal S lent g e ≡ none → (l : Link) → l ∈ (apply S e g) .links → T (linkFits S (apply S e g) l)
   unfolding apply
@@ -433,20 +439,20 @@ module _ (S : Schema) (schema-fits : SchemaFits S) (lent : Lent) (g : Register) 
 
   -- ---- cells
 
-  pub cell-same : (e : Event) → eventRefusal S lent g e ≡ none → (x t k : ℕ) → k < cellsOf S t → T (isUnder S g x t) → T (isUnder S (apply S e g) x t) → T (not (sets k e && eqb (subject e) x)) → cellAt (apply S e g) x k ≡ cellAt g x k
+  pub cell-same : (e : Event) → eventRefusal S lent g e ≡ none → (x t k : ℕ) → k < cellsOf types t → T (isUnder types g x t) → T (isUnder types (apply S e g) x t) → T (not (sets k e && eqb (subject e) x)) → cellAt (apply S e g) x k ≡ cellAt g x k
   unfolding isUnder cellAt
   cell-same e ok x t k h u v n = step (fate e ok x) v n
     where
-      step : {f : Event} {after : Register} → Fate S g after x f → T (isUnder S after x t) → T (not (sets k f && eqb (subject f) x)) → cellAt after x k ≡ cellAt g x k
+      step : {f : Event} {after : Register} → Fate S g after x f → T (isUnder types after x t) → T (not (sets k f && eqb (subject f) x)) → cellAt after x k ≡ cellAt g x k
       step (kept q) v n = rw (cellAt, q)
-      step (came i j a b) v n = absurd (T-not (present g x) (under-present S g x t u) a)
+      step (came i j a b) v n = absurd (T-not (present g x) (under-present types g x t u) a)
       step (went b) v n = absurd (rw b at v)
       step (written {o} {k = j} {v = z} w j< a b) v n =
           rw (cellAt, a, b) (getD-set-other (o .cells) j k z (pos 0) (λ e. eqb-no (at-self (eqb j k) x n) (sym e)))
       step (lowered j l a b) v n = rw (cellAt, a, b)
       step (raised {o} {t = s} j l a b) v n =
-          let enough : cellsOf S s ≤ length (o .cells) = rw ((object-parts S o (found-fits x a)) .cells-count) (schema-fits .cells-bound s) in
-          rw (cellAt, a, b) (cleared-same (cellsOf S s) k (o .cells) enough (lt-of-lt-of-le h (under-cells S schema-fits s t (rw b at v))))
+          let enough : cellsOf types s ≤ length (o .cells) = rw ((object-parts types o (found-fits x a)) .cells-count) (types-fit .cells-bound s) in
+          rw (cellAt, a, b) (cleared-same (cellsOf types s) k (o .cells) enough (lt-of-lt-of-le h (under-cells types types-fit s t (rw b at v))))
 
   -- ---- objects
 
@@ -454,7 +460,7 @@ module _ (S : Schema) (schema-fits : SchemaFits S) (lent : Lent) (g : Register) 
   pub insert-absent : (e : Event) → eventRefusal S lent g e ≡ none → (x t : ℕ) → T (insertsInto S t g e && eqb (subject e) x) → T (not (present g x))
   unfolding checks knownEvent
   insert-absent (insert id s) ok x t i =
-      subst (λ y. T (not (present g y))) (eqb-yes (and-yes (under S s t) (eqb id x) i .1)) (clear S lent g (insert id s) ok .1 .0)
+      subst (λ y. T (not (present g y))) (eqb-yes (and-yes (under types s t) (eqb id x) i .1)) (clear S lent g (insert id s) ok .1 .0)
   insert-absent (delete id) ok x t i = absurd i
   insert-absent (set id k v) ok x t i = absurd i
   insert-absent (join r a b) ok x t i = absurd i
@@ -467,7 +473,7 @@ module _ (S : Schema) (schema-fits : SchemaFits S) (lent : Lent) (g : Register) 
   unfolding present
   delete-absent (insert id s) ok x t d = absurd d
   delete-absent (delete id) ok x t d =
-      subst (λ y. T (not (present (apply S (delete id) g) y))) (eqb-yes (and-yes (isUnder S g id t) (eqb id x) d .1)) gone
+      subst (λ y. T (not (present (apply S (delete id) g) y))) (eqb-yes (and-yes (isUnder types g id t) (eqb id x) d .1)) gone
     where
       gone : T (not (present (apply S (delete id) g) id))
       gone = rw (deleted-at g id S) tt
@@ -489,4 +495,4 @@ module _ (S : Schema) (schema-fits : SchemaFits S) (lent : Lent) (g : Register) 
   objects-limit (join r a b) ok h = h
   objects-limit (part r a b) ok h = h
   objects-limit (special id t) ok h = rw (length-map (g .objects) (λ o. cond (eqb (o .id) id) (withType t o) o)) h
-  objects-limit (general id t) ok h = rw (length-map (g .objects) (λ o. cond (eqb (o .id) id) (withHigherType S t o) o)) h
+  objects-limit (general id t) ok h = rw (length-map (g .objects) (λ o. cond (eqb (o .id) id) (withHigherType types t o) o)) h

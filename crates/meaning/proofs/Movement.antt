@@ -11,10 +11,10 @@ use lib.Signed.{≤ℤ-refl}
 use lib.ListN.{length}
 use mir.Facts.{and-yes, or-no}
 use Rattle.meaning.specs.Lists.{any}
-use Rattle.meaning.specs.Schema.{Schema, cellsOf, under, knownType, knownRole, nearType, farType}
+use Rattle.meaning.specs.Schema.{ObjectType, Relationship, Schema, cellsOf, under, knownType, knownRole, nearType, farType}
 use Rattle.meaning.specs.Register.{Register, isUnder, cellAt, instances, farEnds}
 use Rattle.meaning.specs.Forms.{Sort, truth, number, collection, Form, compare, negate, connect, quantify, kind, num, cell, size, sum, combine, role, all, select, bind, variable, memberType, wellTyped}
-use Rattle.meaning.specs.Meaning.{meaning}
+use Rattle.meaning.specs.Meaning.{Value, meaning}
 use Rattle.meaning.specs.Reach.{Change, Direction, up, down, opposite, Passing, same, reversed, either, through, leftOf, rightOf, firstPart, secondPart, sourceOf, secondTerm, roleMoves, allMoves, cellMoves, kindMoves, moves}
 use Rattle.meaning.proofs.Lists.{_∈_, any-none, keep-from}
 use Rattle.meaning.proofs.Variables.{Each, each-at, each-bind}
@@ -31,10 +31,10 @@ UnmovedKept Kept t d l l′ = Unmoved collection d l l′ × ((x : ℕ) → x �
 pub record Leaves (c : Change) (first : Register) (Kept : ℕ → ℕ → Type 0) : Type 0 where
   pub first-fits : RegisterFits (c .schema) first
   pub end-fits : RegisterFits (c .schema) (c .end)
-  pub role-unmoved : (d : Direction) (x t r : ℕ) → Kept x t → T (under (c .schema) t (nearType (c .schema) r)) → T (not (roleMoves c r x d)) → UnmovedKept Kept (farType (c .schema) r) d (farEnds first r x) (farEnds (c .end) r x)
-  pub all-unmoved : (d : Direction) (t : ℕ) → T (not (allMoves c t d)) → UnmovedKept Kept t d (instances (c .schema) first t) (instances (c .schema) (c .end) t)
-  pub cell-unmoved : (x t k : ℕ) → Kept x t → k < cellsOf (c .schema) t → T (not (cellMoves c x k)) → cellAt first x k ≡ cellAt (c .end) x k
-  pub kind-unmoved : (d : Direction) (x u t : ℕ) → Kept x u → T (not (kindMoves c x t d)) → Unmoved truth d (isUnder (c .schema) first x t) (isUnder (c .schema) (c .end) x t)
+  pub role-unmoved : (d : Direction) (x t r : ℕ) → Kept x t → T (under (c .schema .types) t (nearType (c .schema .relationships) r)) → T (not (roleMoves c r x d)) → UnmovedKept Kept (farType (c .schema .relationships) r) d (farEnds first r x) (farEnds (c .end) r x)
+  pub all-unmoved : (d : Direction) (t : ℕ) → T (not (allMoves c t d)) → UnmovedKept Kept t d (instances (c .schema .types) first t) (instances (c .schema .types) (c .end) t)
+  pub cell-unmoved : (x t k : ℕ) → Kept x t → k < cellsOf (c .schema .types) t → T (not (cellMoves c x k)) → cellAt first x k ≡ cellAt (c .end) x k
+  pub kind-unmoved : (d : Direction) (x u t : ℕ) → Kept x u → T (not (kindMoves c x t d)) → Unmoved truth d (isUnder (c .schema .types) first x t) (isUnder (c .schema .types) (c .end) x t)
 
 -- ---- what passes through a part
 
@@ -64,56 +64,74 @@ module _ (c : Change) (first : Register) (Kept : ℕ → ℕ → Type 0) (leaves
   abbrev S : Schema
   S = c .schema
 
+  abbrev types : List ObjectType
+  types = S .types
+
+  abbrev relationships : List Relationship
+  relationships = S .relationships
+
+  -- a form's value before and at the end
+  abbrev was : {s : Sort} → Form s → List ℕ → Value s
+  was f vs = meaning types first f vs
+
+  abbrev now : {s : Sort} → Form s → List ℕ → Value s
+  now f vs = meaning types (c .end) f vs
+
   -- what is claimed of a form that is not moved in direction d
-  abbrev Claim : (s : Sort) → Form s → List ℕ → List ℕ → Direction → Type 0
-  Claim truth f ts vs d = Unmoved truth d (meaning S first f vs) (meaning S (c .end) f vs)
-  Claim number f ts vs d = Unmoved number d (meaning S first f vs) (meaning S (c .end) f vs)
-  Claim collection f ts vs d = UnmovedKept Kept (memberType S ts f) d (meaning S first f vs) (meaning S (c .end) f vs)
+  abbrev Claim : (s : Sort) → Form s → List ℕ → Direction → Type 0
+  Claim truth f vs d = Unmoved truth d (was f vs) (now f vs)
+  Claim number f vs d = Unmoved number d (was f vs) (now f vs)
+  Claim collection f vs d = UnmovedKept Kept (memberType relationships f) d (was f vs) (now f vs)
 
   -- a form over a collection that does not move
-  over-members : (p : Passing) (e : Form collection) (ts vs : List ℕ) (at : ℕ → Bool) (d : Direction) → ((d′ : Direction) → T (not (moves c e vs d′)) → Claim collection e ts vs d′) → T (not (through _||_ p (moves c e vs) d || any at (meaning S (c .end) e vs))) → (Through p (λ d′. Unmoved collection d′ (meaning S first e vs) (meaning S (c .end) e vs)) d × ((x : ℕ) → x ∈ meaning S first e vs → x ∈ meaning S (c .end) e vs → Kept x (memberType S ts e))) × ((x : ℕ) → x ∈ meaning S (c .end) e vs → T (not (at x)))
-  over-members p e ts vs at d f n = part-and-members p (moves c e vs) _ _ at (meaning S (c .end) e vs) d f n
+  over-members : (p : Passing) (e : Form collection) (vs : List ℕ) (at : ℕ → Bool) (d : Direction)
+      → ((d′ : Direction) → T (not (moves c e vs d′)) → Claim collection e vs d′)
+      → T (not (through _||_ p (moves c e vs) d || any at (now e vs)))
+      → (Through p (λ d′. Unmoved collection d′ (was e vs) (now e vs)) d
+      × ((x : ℕ) → x ∈ was e vs → x ∈ now e vs → Kept x (memberType relationships e)))
+      × ((x : ℕ) → x ∈ now e vs → T (not (at x)))
+  over-members p e vs at d f n = part-and-members p (moves c e vs) _ _ at (now e vs) d f n
 
-  pub unmoved : {s : Sort} (f : Form s) (ts vs : List ℕ) → T (wellTyped S ts f) → Each Kept vs ts → (d : Direction) → T (not (moves c f vs d)) → Claim s f ts vs d
+  pub unmoved : {s : Sort} (f : Form s) (ts vs : List ℕ) → T (wellTyped S ts f) → Each Kept vs ts → (d : Direction) → T (not (moves c f vs d)) → Claim s f vs d
   unfolding moves meaning wellTyped memberType
   unmoved (compare o a b) ts vs w k d n =
       let ws = and-yes (wellTyped S ts a) (wellTyped S ts b) w in
-      let h = two-parts (leftOf o) (rightOf o) (moves c a vs) (moves c b vs) (Claim number a ts vs) (Claim number b ts vs) d (unmoved a ts vs (ws .0) k) (unmoved b ts vs (ws .1) k) n in
+      let h = two-parts (leftOf o) (rightOf o) (moves c a vs) (moves c b vs) (Claim number a vs) (Claim number b vs) d (unmoved a ts vs (ws .0) k) (unmoved b ts vs (ws .1) k) n in
       comparison-unmoved o d _ _ _ _ (h .0) (h .1)
   unmoved (negate a) ts vs w k d n = negation-unmoved d _ _ (unmoved a ts vs w k (opposite d) n)
   unmoved (connect o a b) ts vs w k d n =
       let ws = and-yes (wellTyped S ts a) (wellTyped S ts b) w in
-      let h = two-parts (firstPart o) (secondPart o) (moves c a vs) (moves c b vs) (Claim truth a ts vs) (Claim truth b ts vs) d (unmoved a ts vs (ws .0) k) (unmoved b ts vs (ws .1) k) n in
+      let h = two-parts (firstPart o) (secondPart o) (moves c a vs) (moves c b vs) (Claim truth a vs) (Claim truth b vs) d (unmoved a ts vs (ws .0) k) (unmoved b ts vs (ws .1) k) n in
       connective-unmoved o d _ _ _ _ (h .0) (h .1)
   unmoved (quantify q e b) ts vs w k d n =
-      let ws = and-yes (wellTyped S ts e) (wellTyped S (bind ts (memberType S ts e)) b) w in
-      let h = over-members (sourceOf q) e ts vs (λ x. moves c b (bind vs x) d) d (unmoved e ts vs (ws .0) k) n in
-      quantifier-unmoved q d _ _ _ _ (h .0 .0) (λ x m m′. unmoved b (bind ts (memberType S ts e)) (bind vs x) (ws .1) (each-bind Kept vs ts x (memberType S ts e) k (h .0 .1 x m m′)) d (h .1 x m′))
+      let ws = and-yes (wellTyped S ts e) (wellTyped S (bind ts (memberType relationships e)) b) w in
+      let h = over-members (sourceOf q) e vs (λ x. moves c b (bind vs x) d) d (unmoved e ts vs (ws .0) k) n in
+      quantifier-unmoved q d _ _ _ _ (h .0 .0) (λ x m m′. unmoved b (bind ts (memberType relationships e)) (bind vs x) (ws .1) (each-bind Kept vs ts x (memberType relationships e) k (h .0 .1 x m m′)) d (h .1 x m′))
   unmoved (kind v t) ts vs w k d n =
-      let ws = and-yes (ltb v (length ts)) (knownType S t) w in
+      let ws = and-yes (ltb v (length ts)) (knownType types t) w in
       leaves .kind-unmoved d (variable vs v) (variable ts v) t (each-at Kept vs ts k v (ltb→lt v (length ts) (ws .0))) n
   unmoved (num z) ts vs w k d n = equal-unmoved d z z refl
   unmoved (cell v j) ts vs w k d n =
-      let ws = and-yes (ltb v (length ts)) (ltb j (cellsOf S (variable ts v))) w in
-      equal-unmoved d _ _ (leaves .cell-unmoved (variable vs v) (variable ts v) j (each-at Kept vs ts k v (ltb→lt v (length ts) (ws .0))) (ltb→lt j (cellsOf S (variable ts v)) (ws .1)) n)
+      let ws = and-yes (ltb v (length ts)) (ltb j (cellsOf types (variable ts v))) w in
+      equal-unmoved d _ _ (leaves .cell-unmoved (variable vs v) (variable ts v) j (each-at Kept vs ts k v (ltb→lt v (length ts) (ws .0))) (ltb→lt j (cellsOf types (variable ts v)) (ws .1)) n)
   unmoved (size e) ts vs w k d n =
-      size-unmoved d _ _ (members-ascend S first (gathered S first (leaves .first-fits)) e vs) (members-ascend S (c .end) (gathered S (c .end) (leaves .end-fits)) e vs) (unmoved e ts vs w k d n .0)
+      size-unmoved d _ _ (members-ascend types first (gathered S first (leaves .first-fits)) e vs) (members-ascend types (c .end) (gathered S (c .end) (leaves .end-fits)) e vs) (unmoved e ts vs w k d n .0)
   unmoved (sum e j) ts vs w k d n =
-      let ws = and-yes (wellTyped S ts e) (ltb j (cellsOf S (memberType S ts e))) w in
-      let h = over-members either e ts vs (λ x. cellMoves c x j) d (unmoved e ts vs (ws .0) k) n in
-      sum-unmoved d _ _ _ _ (members-ascend S first (gathered S first (leaves .first-fits)) e vs) (members-ascend S (c .end) (gathered S (c .end) (leaves .end-fits)) e vs) (h .0 .0)
-      (λ x m m′. leaves .cell-unmoved x (memberType S ts e) j (h .0 .1 x m m′) (ltb→lt j (cellsOf S (memberType S ts e)) (ws .1)) (h .1 x m′))
+      let ws = and-yes (wellTyped S ts e) (ltb j (cellsOf types (memberType relationships e))) w in
+      let h = over-members either e vs (λ x. cellMoves c x j) d (unmoved e ts vs (ws .0) k) n in
+      sum-unmoved d _ _ _ _ (members-ascend types first (gathered S first (leaves .first-fits)) e vs) (members-ascend types (c .end) (gathered S (c .end) (leaves .end-fits)) e vs) (h .0 .0)
+      (λ x m m′. leaves .cell-unmoved x (memberType relationships e) j (h .0 .1 x m m′) (ltb→lt j (cellsOf types (memberType relationships e)) (ws .1)) (h .1 x m′))
   unmoved (combine o a b) ts vs w k d n =
       let ws = and-yes (wellTyped S ts a) (wellTyped S ts b) w in
-      let h = two-parts same (secondTerm o) (moves c a vs) (moves c b vs) (Claim number a ts vs) (Claim number b ts vs) d (unmoved a ts vs (ws .0) k) (unmoved b ts vs (ws .1) k) n in
+      let h = two-parts same (secondTerm o) (moves c a vs) (moves c b vs) (Claim number a vs) (Claim number b vs) d (unmoved a ts vs (ws .0) k) (unmoved b ts vs (ws .1) k) n in
       arithmetic-unmoved o d _ _ _ _ (h .0) (h .1)
   unmoved (role v r) ts vs w k d n =
-      let ws = and-yes (ltb v (length ts) && knownRole S r) (under S (variable ts v) (nearType S r)) w in
-      leaves .role-unmoved d (variable vs v) (variable ts v) r (each-at Kept vs ts k v (ltb→lt v (length ts) (and-yes (ltb v (length ts)) (knownRole S r) (ws .0) .0))) (ws .1) n
+      let ws = and-yes (ltb v (length ts) && knownRole relationships r) (under types (variable ts v) (nearType relationships r)) w in
+      leaves .role-unmoved d (variable vs v) (variable ts v) r (each-at Kept vs ts k v (ltb→lt v (length ts) (and-yes (ltb v (length ts)) (knownRole relationships r) (ws .0) .0))) (ws .1) n
   unmoved (all t) ts vs w k d n = leaves .all-unmoved d t n
   unmoved (select e b) ts vs w k d n =
-      let ws = and-yes (wellTyped S ts e) (wellTyped S (bind ts (memberType S ts e)) b) w in
-      let h = over-members same e ts vs (λ x. moves c b (bind vs x) d) d (unmoved e ts vs (ws .0) k) n in (
-        select-unmoved d _ _ _ _ (h .0 .0) (λ x m m′. unmoved b (bind ts (memberType S ts e)) (bind vs x) (ws .1) (each-bind Kept vs ts x (memberType S ts e) k (h .0 .1 x m m′)) d (h .1 x m′)),
+      let ws = and-yes (wellTyped S ts e) (wellTyped S (bind ts (memberType relationships e)) b) w in
+      let h = over-members same e vs (λ x. moves c b (bind vs x) d) d (unmoved e ts vs (ws .0) k) n in (
+        select-unmoved d _ _ _ _ (h .0 .0) (λ x m m′. unmoved b (bind ts (memberType relationships e)) (bind vs x) (ws .1) (each-bind Kept vs ts x (memberType relationships e) k (h .0 .1 x m m′)) d (h .1 x m′)),
         λ x m m′. h .0 .1 x (keep-from _ _ m .0) (keep-from _ _ m′ .0),
       )

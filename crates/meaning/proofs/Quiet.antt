@@ -14,7 +14,7 @@ use Rattle.meaning.specs.Meaning.{connected, quantified, meaning}
 use Rattle.meaning.specs.Events.{Event, Lent, after}
 use Rattle.meaning.specs.Reach.{Change, changeBy, someStep, insertsInto, Direction, up, down, opposite, through, firstPart, secondPart, sourceOf, roleMoves, moves, roleOfSelf, quietQuantifier, quietConnective, quietly, inserted}
 use Rattle.meaning.proofs.Lists.{_∈_, or-left, or-right, no-or, not-and-left, not-and-right, not-not, any-cases, every-of, keep-from}
-use Rattle.meaning.proofs.Schemas.{SchemaFits}
+use Rattle.meaning.proofs.Schemas.{TypesFit}
 use Rattle.meaning.proofs.Registers.{RegisterFits, far-from, near-present}
 use Rattle.meaning.proofs.Effects.{insert-absent}
 use Rattle.meaning.proofs.Steps.{Throughout, Unrefused, throughout-map, throughout-both, each-side, each-both, each-map, step-none, fits-throughout, each-fit}
@@ -77,7 +77,7 @@ opposite-against : (w : Bool) → opposite (against w) ≡ against (not w)
 opposite-against true = refl
 opposite-against false = refl
 
-module _ (S : Schema) (schema-fits : SchemaFits S) (lent : Lent) (g : Register) (fits : RegisterFits S g) (es : List Event) (ok : Unrefused S lent g es) (x t : ℕ) (new : T (inserted (changeBy S g es) x t)) where
+module _ (S : Schema) (types-fit : TypesFit (S .types)) (lent : Lent) (g : Register) (fits : RegisterFits S g) (es : List Event) (ok : Unrefused S lent g es) (x t : ℕ) (new : T (inserted (changeBy S g es) x t)) where
   abbrev c : Change
   c = changeBy S g es
 
@@ -87,18 +87,18 @@ module _ (S : Schema) (schema-fits : SchemaFits S) (lent : Lent) (g : Register) 
   not-linked r l s h =
       T-not (someStep c (about (insertsInto S t) x)) new
       (step-none S (about (insertsInto S t) x) g es
-      (each-map S _ _ (λ g′ e k. not-T (about (insertsInto S t) x g′ e) (λ i. T-not (present g′ x) (k .1 .0) (insert-absent S schema-fits lent g′ (k .0 .0) e (k .0 .1) x t i))) g es
-      (each-both S _ _ g es (each-fit S schema-fits lent g es fits ok)
+      (each-map S _ _ (λ g′ e k. not-T (about (insertsInto S t) x g′ e) (λ i. T-not (present g′ x) (k .1 .0) (insert-absent S types-fit lent g′ (k .0 .0) e (k .0 .1) x t i))) g es
+      (each-both S _ _ g es (each-fit S types-fit lent g es fits ok)
       (each-side S (λ g′. T (present g′ x)) g es
       (throughout-map S _ _ (λ g′ k. near-present S g′ (k .0) r x l (k .1) s) g es
-      (throughout-both S (RegisterFits S) (λ g′. T (hasLink g′ l)) g es (fits-throughout S schema-fits lent g es fits ok) h))))))
+      (throughout-both S (RegisterFits S) (λ g′. T (hasLink g′ l)) g es (fits-throughout S types-fit lent g es fits ok) h))))))
 
   no-members : (r : ℕ) → T (not (roleMoves c r x up)) → (y : ℕ) → ¬ (y ∈ farEnds (after S g es) r x)
   no-members r n y m =
       let f = far-from (after S g es) r x y m in
-      not-linked r (f .0) (f .2) (no-gain S schema-fits lent g fits es ok r x n (f .0) (f .2) (f .1))
+      not-linked r (f .0) (f .2) (no-gain S types-fit lent g fits es ok r x n (f .0) (f .2) (f .1))
 
-  self-empty : (k : Form collection) → T (roleOfSelf k) → T (not (moves c k (x ∷ []) up)) → (y : ℕ) → ¬ (y ∈ meaning S (after S g es) k (x ∷ []))
+  self-empty : (k : Form collection) → T (roleOfSelf k) → T (not (moves c k (x ∷ []) up)) → (y : ℕ) → ¬ (y ∈ meaning (S .types) (after S g es) k (x ∷ []))
   unfolding roleOfSelf moves meaning
   self-empty (role v r) h n y m =
       let self : variable (x ∷ []) v ≡ x = ap (variable (x ∷ [])) (eqb→eq v 0 h) in
@@ -107,9 +107,9 @@ module _ (S : Schema) (schema-fits : SchemaFits S) (lent : Lent) (g : Register) 
   -- `roleOfSelf` has no select; a select of nothing would be as empty
   self-empty (select k b) h n y m =
       let inner : T (roleOfSelf k) = search in
-      self-empty k inner (or-no (moves c k (x ∷ []) up) _ n .0) y (keep-from (λ z. meaning S (after S g es) b (bind (x ∷ []) z)) _ m .0)
+      self-empty k inner (or-no (moves c k (x ∷ []) up) _ n .0) y (keep-from (λ z. meaning (S .types) (after S g es) b (bind (x ∷ []) z)) _ m .0)
 
-  pub quiet-value : (f : Form truth) (w : Bool) → T (quietly f w) → T (not (moves c f (x ∷ []) (against w))) → Is w (meaning S (after S g es) f (x ∷ []))
+  pub quiet-value : (f : Form truth) (w : Bool) → T (quietly f w) → T (not (moves c f (x ∷ []) (against w))) → Is w (meaning (S .types) (after S g es) f (x ∷ []))
   unfolding quietly moves meaning
   quiet-value (compare o a b) w q n = absurd q
   quiet-value (negate a) w q n = negated w _ (quiet-value a (not w) q (subst (λ d. T (not (moves c a (x ∷ []) d))) (opposite-against w) n))
@@ -118,5 +118,5 @@ module _ (S : Schema) (schema-fits : SchemaFits S) (lent : Lent) (g : Register) 
   quiet-value (quantify o k b) w q n =
       let qs = and-yes (quietQuantifier o w) (roleOfSelf k) q in
       let ns = or-no (through _||_ (sourceOf o) (moves c k (x ∷ [])) (against w)) _ n in
-      quantifier-quiet o w _ (meaning S (after S g es) k (x ∷ [])) (qs .0) (self-empty k (qs .1) (quantifier-gain o w (moves c k (x ∷ [])) (qs .0) (ns .0)))
+      quantifier-quiet o w _ (meaning (S .types) (after S g es) k (x ∷ [])) (qs .0) (self-empty k (qs .1) (quantifier-gain o w (moves c k (x ∷ [])) (qs .0) (ns .0)))
   quiet-value (kind v u) w q n = absurd q

@@ -9,59 +9,59 @@ use lib.ListN.{length, getD, drop}
 use mir.Facts.{and-yes, yes-and, eqb-yes, yes-eqb}
 use Rattle.meaning.specs.Lists.{every, keep, before}
 use Rattle.meaning.specs.Limits.{cellCount, validId, fitsWord}
-use Rattle.meaning.specs.Schema.{Schema, knownType, knownRelationship, cellsOf, relationshipOf, forward, sourceType, targetType, farType, under}
+use Rattle.meaning.specs.Schema.{ObjectType, Schema, knownType, knownRelationship, cellsOf, relationshipOf, forward, sourceType, targetType, farType, under}
 use Rattle.meaning.specs.Register.{Object, Link, Register, objectKey, linkKey, objectAt, present, isUnder, instances, sameLink, hasLink, nearEnd, farEnd, startsAt, farEnds, isZero, cellsFit, objectFits, faultyObject, linkFits, faultyLink, objectFault, linkFault}
 use Rattle.meaning.proofs.Lists.{_∈_, Ascending, first-only, ascending-one, holds-some, any-of, any-cases, keep-in, keep-from, first-some, ascending-keep, map-in, map-from, ascending-map}
 use Rattle.meaning.proofs.Order.{Before, before-one, before-last, before-first, before-irreflexive, same-eq, same-refl, rows-fit, fits-rows}
 
 pub record RegisterFits (S : Schema) (g : Register) : Type 0 where
   pub objects-ascend : Ascending (Before objectKey) (g .objects)
-  pub objects-fit : (o : Object) → o ∈ g .objects → T (objectFits S o)
+  pub objects-fit : (o : Object) → o ∈ g .objects → T (objectFits (S .types) o)
   pub links-ascend : Ascending (Before linkKey) (g .links)
   pub links-fit : (l : Link) → l ∈ g .links → T (linkFits S g l)
 
-pub register-fits : (S : Schema) (g : Register) → objectFault S g ≡ none → linkFault S g ≡ none → RegisterFits S g
+pub register-fits : (S : Schema) (g : Register) → objectFault (S .types) g ≡ none → linkFault S g ≡ none → RegisterFits S g
 unfolding objectFault linkFault faultyObject faultyLink
 register-fits S g e f =
-    let o = rows-fit objectKey (objectFits S) (g .objects) e in
+    let o = rows-fit objectKey (objectFits (S .types)) (g .objects) e in
     let l = rows-fit linkKey (linkFits S g) (g .links) f in
     record { objects-ascend = o .0; objects-fit = o .1; links-ascend = l .0; links-fit = l .1 }
 
-pub fits-register : (S : Schema) (g : Register) → RegisterFits S g → (objectFault S g ≡ none) × (linkFault S g ≡ none)
+pub fits-register : (S : Schema) (g : Register) → RegisterFits S g → (objectFault (S .types) g ≡ none) × (linkFault S g ≡ none)
 unfolding objectFault linkFault faultyObject faultyLink
 fits-register S g r = (
-  fits-rows objectKey (objectFits S) (g .objects) (r .objects-ascend) (r .objects-fit),
+  fits-rows objectKey (objectFits (S .types)) (g .objects) (r .objects-ascend) (r .objects-fit),
   fits-rows linkKey (linkFits S g) (g .links) (r .links-ascend) (r .links-fit),
 )
 
 -- ---- objects
 
 -- what `objectFits` tests, part by part
-pub record ObjectFits (S : Schema) (o : Object) : Type 0 where
+pub record ObjectFits (types : List ObjectType) (o : Object) : Type 0 where
   pub id-valid : T (validId (o .id))
-  pub type-known : T (knownType S (o .type))
+  pub type-known : T (knownType types (o .type))
   pub cells-count : length (o .cells) ≡ cellCount
   pub cells-word : T (every fitsWord (o .cells))
-  pub cells-zero : T (every isZero (drop (cellsOf S (o .type)) (o .cells)))
+  pub cells-zero : T (every isZero (drop (cellsOf types (o .type)) (o .cells)))
 
-pub object-parts : (S : Schema) (o : Object) → T (objectFits S o) → ObjectFits S o
+pub object-parts : (types : List ObjectType) (o : Object) → T (objectFits types o) → ObjectFits types o
 unfolding objectFits cellsFit
-object-parts S o t =
+object-parts types o t =
     let count = eqb (length (o .cells)) cellCount in
-    let zero = every isZero (drop (cellsOf S (o .type)) (o .cells)) in
-    let whole = and-yes (validId (o .id) && knownType S (o .type)) (count && every fitsWord (o .cells) && zero) t in
-    let head = and-yes (validId (o .id)) (knownType S (o .type)) (whole .0) in
+    let zero = every isZero (drop (cellsOf types (o .type)) (o .cells)) in
+    let whole = and-yes (validId (o .id) && knownType types (o .type)) (count && every fitsWord (o .cells) && zero) t in
+    let head = and-yes (validId (o .id)) (knownType types (o .type)) (whole .0) in
     let cells = and-yes (count && every fitsWord (o .cells)) zero (whole .1) in
     let words = and-yes count (every fitsWord (o .cells)) (cells .0) in
     record { id-valid = head .0; type-known = head .1; cells-count = eqb-yes (words .0); cells-word = words .1; cells-zero = cells .1 }
 
-pub object-whole : (S : Schema) (o : Object) → ObjectFits S o → T (objectFits S o)
+pub object-whole : (types : List ObjectType) (o : Object) → ObjectFits types o → T (objectFits types o)
 unfolding objectFits cellsFit
-object-whole S o f =
+object-whole types o f =
     let count = eqb (length (o .cells)) cellCount in
-    let zero = every isZero (drop (cellsOf S (o .type)) (o .cells)) in
-    yes-and (validId (o .id) && knownType S (o .type)) (count && every fitsWord (o .cells) && zero)
-    (yes-and (validId (o .id)) (knownType S (o .type)) (f .id-valid) (f .type-known))
+    let zero = every isZero (drop (cellsOf types (o .type)) (o .cells)) in
+    yes-and (validId (o .id) && knownType types (o .type)) (count && every fitsWord (o .cells) && zero)
+    (yes-and (validId (o .id)) (knownType types (o .type)) (f .id-valid) (f .type-known))
     (yes-and (count && every fitsWord (o .cells)) zero (yes-and count (every fitsWord (o .cells)) (yes-eqb (f .cells-count)) (f .cells-word)) (f .cells-zero))
 
 pub object-at : (g : Register) (x : ℕ) {o : Object} → objectAt g x ≡ some o → (o ∈ g .objects) × (o .id ≡ x)
@@ -81,9 +81,9 @@ ascending-found g a {o} m =
     first-only (λ y. eqb (y .id) (o .id)) (g .objects) m (eqb-refl (o .id)) (λ y n t. object-one (g .objects) a n m (eqb-yes t))
 
 -- an object under some type is there
-pub under-present : (S : Schema) (g : Register) (x t : ℕ) → T (isUnder S g x t) → T (present g x)
+pub under-present : (types : List ObjectType) (g : Register) (x t : ℕ) → T (isUnder types g x t) → T (present g x)
 unfolding isUnder present
-under-present S g x t u = rw (holds-some (λ o. under S (o .type) t) (objectAt g x) u .1) tt
+under-present types g x t u = rw (holds-some (λ o. under types (o .type) t) (objectAt g x) u .1) tt
 
 -- ---- links
 
@@ -102,26 +102,26 @@ link-has g l m = any-of (sameLink l) m (same-refl (linkKey l))
 
 -- ---- collections
 
-pub instance-in : (S : Schema) (g : Register) (x t : ℕ) → T (isUnder S g x t) → x ∈ instances S g t
+pub instance-in : (types : List ObjectType) (g : Register) (x t : ℕ) → T (isUnder types g x t) → x ∈ instances types g t
 unfolding isUnder instances
-instance-in S g x t u =
-    let o = holds-some (λ o. under S (o .type) t) (objectAt g x) u in
+instance-in types g x t u =
+    let o = holds-some (λ o. under types (o .type) t) (objectAt g x) u in
     let r = object-at g x (o .1) in
-    Memᴰ·cast (sym (r .1)) (map-in (λ (o : Object). o .id) (keep-in (λ o. under S (o .type) t) (r .0) (o .2)))
+    Memᴰ·cast (sym (r .1)) (map-in (λ (o : Object). o .id) (keep-in (λ o. under types (o .type) t) (r .0) (o .2)))
 
-pub instance-from : (S : Schema) (g : Register) → Ascending (Before objectKey) (g .objects) → (x t : ℕ) → x ∈ instances S g t → T (isUnder S g x t)
+pub instance-from : (types : List ObjectType) (g : Register) → Ascending (Before objectKey) (g .objects) → (x t : ℕ) → x ∈ instances types g t → T (isUnder types g x t)
 unfolding isUnder instances
-instance-from S g a x t m =
-    let o = map-from (λ (o : Object). o .id) (keep (λ o. under S (o .type) t) (g .objects)) m in
-    let k = keep-from (λ o. under S (o .type) t) (g .objects) (o .1) in
+instance-from types g a x t m =
+    let o = map-from (λ (o : Object). o .id) (keep (λ o. under types (o .type) t) (g .objects)) m in
+    let k = keep-from (λ o. under types (o .type) t) (g .objects) (o .1) in
     rw (o .2) (rw (ascending-found g a (k .0)) (k .1))
 
-pub instances-ascend : (S : Schema) (g : Register) → Ascending (Before objectKey) (g .objects) → (t : ℕ) → Ascending _<_ (instances S g t)
+pub instances-ascend : (types : List ObjectType) (g : Register) → Ascending (Before objectKey) (g .objects) → (t : ℕ) → Ascending _<_ (instances types g t)
 unfolding instances
-instances-ascend S g a t =
-    ascending-map (λ (o : Object). o .id) (Before objectKey) _<_ (keep (λ o. under S (o .type) t) (g .objects))
+instances-ascend types g a t =
+    ascending-map (λ (o : Object). o .id) (Before objectKey) _<_ (keep (λ o. under types (o .type) t) (g .objects))
     (λ x y m n b. before-one (x .id) (y .id) b)
-    (ascending-keep (Before objectKey) (λ o. under S (o .type) t) (g .objects) a)
+    (ascending-keep (Before objectKey) (λ o. under types (o .type) t) (g .objects) a)
 
 pub far-in : (g : Register) (r u : ℕ) (l : Link) → T (hasLink g l) → T (startsAt r u l) → farEnd r l ∈ farEnds g r u
 unfolding farEnds
@@ -156,28 +156,30 @@ far-ends-ascend S g f r u =
 
 -- the objects at the ends of a link are there and of the ends' types
 abbrev pub EndsUnder : Schema → Register → Link → Type 0
-EndsUnder S g l = T (isUnder S g (l .source) (sourceType S (l .relationship))) × T (isUnder S g (l .target) (targetType S (l .relationship)))
+EndsUnder S g l =
+    T (isUnder (S .types) g (l .source) (sourceType (S .relationships) (l .relationship)))
+    × T (isUnder (S .types) g (l .target) (targetType (S .relationships) (l .relationship)))
 
-pub link-parts : (S : Schema) (g : Register) (l : Link) → T (linkFits S g l) → T (knownRelationship S (l .relationship)) × EndsUnder S g l
+pub link-parts : (S : Schema) (g : Register) (l : Link) → T (linkFits S g l) → T (knownRelationship (S .relationships) (l .relationship)) × EndsUnder S g l
 unfolding linkFits
 link-parts S g l t =
-    let source = isUnder S g (l .source) (sourceType S (l .relationship)) in
-    let whole = and-yes (knownRelationship S (l .relationship) && source) (isUnder S g (l .target) (targetType S (l .relationship))) t in
-    let head = and-yes (knownRelationship S (l .relationship)) source (whole .0) in
+    let source = isUnder (S .types) g (l .source) (sourceType (S .relationships) (l .relationship)) in
+    let whole = and-yes (knownRelationship (S .relationships) (l .relationship) && source) (isUnder (S .types) g (l .target) (targetType (S .relationships) (l .relationship))) t in
+    let head = and-yes (knownRelationship (S .relationships) (l .relationship)) source (whole .0) in
     (head .0, (head .1, whole .1))
 
-pub link-whole : (S : Schema) (g : Register) (l : Link) → T (knownRelationship S (l .relationship)) → EndsUnder S g l → T (linkFits S g l)
+pub link-whole : (S : Schema) (g : Register) (l : Link) → T (knownRelationship (S .relationships) (l .relationship)) → EndsUnder S g l → T (linkFits S g l)
 unfolding linkFits
 link-whole S g l known e =
-    let source = isUnder S g (l .source) (sourceType S (l .relationship)) in
-    yes-and (knownRelationship S (l .relationship) && source) (isUnder S g (l .target) (targetType S (l .relationship)))
-    (yes-and (knownRelationship S (l .relationship)) source known (e .0)) (e .1)
+    let source = isUnder (S .types) g (l .source) (sourceType (S .relationships) (l .relationship)) in
+    yes-and (knownRelationship (S .relationships) (l .relationship) && source) (isUnder (S .types) g (l .target) (targetType (S .relationships) (l .relationship)))
+    (yes-and (knownRelationship (S .relationships) (l .relationship)) source known (e .0)) (e .1)
 
-pub far-under : (S : Schema) (g : Register) → RegisterFits S g → (r u : ℕ) (l : Link) → T (hasLink g l) → T (startsAt r u l) → T (isUnder S g (farEnd r l) (farType S r))
+pub far-under : (S : Schema) (g : Register) → RegisterFits S g → (r u : ℕ) (l : Link) → T (hasLink g l) → T (startsAt r u l) → T (isUnder (S .types) g (farEnd r l) (farType (S .relationships) r))
 unfolding farType
 far-under S g f r u l h s = rw (← starts r u l s .0) (step (forward r) (link-parts S g l (f .links-fit l (link-in g l h)) .1))
   where
-    step : (b : Bool) → EndsUnder S g l → T (isUnder S g (cond b (l .target) (l .source)) (cond b (targetType S (l .relationship)) (sourceType S (l .relationship))))
+    step : (b : Bool) → EndsUnder S g l → T (isUnder (S .types) g (cond b (l .target) (l .source)) (cond b (targetType (S .relationships) (l .relationship)) (sourceType (S .relationships) (l .relationship))))
     step true e = e .1
     step false e = e .0
 
@@ -185,5 +187,5 @@ pub near-present : (S : Schema) (g : Register) → RegisterFits S g → (r u : �
 near-present S g f r u l h s = subst (λ x. T (present g x)) (starts r u l s .1) (step (forward r) (link-parts S g l (f .links-fit l (link-in g l h)) .1))
   where
     step : (b : Bool) → EndsUnder S g l → T (present g (cond b (l .source) (l .target)))
-    step true e = under-present S g (l .source) (sourceType S (l .relationship)) (e .0)
-    step false e = under-present S g (l .target) (targetType S (l .relationship)) (e .1)
+    step true e = under-present (S .types) g (l .source) (sourceType (S .relationships) (l .relationship)) (e .0)
+    step false e = under-present (S .types) g (l .target) (targetType (S .relationships) (l .relationship)) (e .1)

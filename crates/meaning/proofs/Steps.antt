@@ -15,7 +15,7 @@ use Rattle.meaning.specs.Register.{Register}
 use Rattle.meaning.specs.Events.{Event, Lent, apply, after, eventRefusal, refusalFrom, batchRefusal}
 use Rattle.meaning.specs.Reach.{Step, Change, stepsOf, changeBy, someStep}
 use Rattle.meaning.proofs.Lists.{_∈_, no-or, first-of-none}
-use Rattle.meaning.proofs.Schemas.{SchemaFits}
+use Rattle.meaning.proofs.Schemas.{TypesFit}
 use Rattle.meaning.proofs.Registers.{RegisterFits}
 use Rattle.meaning.proofs.Effects.{EventFits, event-fits, apply-fits, objects-limit}
 
@@ -121,11 +121,11 @@ module _ (S : Schema) where
   unfolding someStep
   step-none did g es h = none-in did g es h
 
-  module _ (schema-fits : SchemaFits S) (lent : Lent) where
+  module _ (types-fit : TypesFit (S .types)) (lent : Lent) where
     -- Theorem 4: every register on the way of a batch that is not refused is one that refusal 5 does not meet.
     pub fits-throughout : (g : Register) (es : List Event) → RegisterFits S g → Unrefused S lent g es → Throughout (RegisterFits S) S g es
     fits-throughout g [] f u = f
-    fits-throughout g (e ∷ es) f u = (f, fits-throughout (apply S e g) es (apply-fits S schema-fits lent g f e (u .0)) (u .1))
+    fits-throughout g (e ∷ es) f u = (f, fits-throughout (apply S e g) es (apply-fits S types-fit lent g f e (u .0)) (u .1))
 
     pub end-fits : (g : Register) (es : List Event) → RegisterFits S g → Unrefused S lent g es → RegisterFits S (after S g es)
     end-fits g es f u = at-end (RegisterFits S) g es (fits-throughout g es f u)
@@ -133,14 +133,14 @@ module _ (S : Schema) where
     -- each step, with what a law of one event asks: a register that fits, and an event that is not refused
     pub each-fit : (g : Register) (es : List Event) → RegisterFits S g → Unrefused S lent g es → EachStep (λ g′ e. RegisterFits S g′ × (eventRefusal S lent g′ e ≡ none)) S g es
     each-fit g [] f u = tt
-    each-fit g (e ∷ es) f u = ((f, u .0), each-fit (apply S e g) es (apply-fits S schema-fits lent g f e (u .0)) (u .1))
+    each-fit g (e ∷ es) f u = ((f, u .0), each-fit (apply S e g) es (apply-fits S types-fit lent g f e (u .0)) (u .1))
 
     -- the limit on objects is kept
     pub limit-kept : (g : Register) (es : List Event) → RegisterFits S g → Unrefused S lent g es → length (g .objects) ≤ maxObjects → length ((after S g es) .objects) ≤ maxObjects
     unfolding after
     limit-kept g [] f u h = h
     limit-kept g (e ∷ es) f u h =
-        limit-kept (apply S e g) es (apply-fits S schema-fits lent g f e (u .0)) (u .1) (objects-limit S schema-fits lent g f e (u .0) h)
+        limit-kept (apply S e g) es (apply-fits S types-fit lent g f e (u .0)) (u .1) (objects-limit S types-fit lent g f e (u .0) h)
 
   -- what refusal 11 leaves of each step
   pub steps-fit : (lent : Lent) (g : Register) (es : List Event) → Unrefused S lent g es → StepsFit (changeBy S g es)

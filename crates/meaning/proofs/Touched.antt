@@ -8,7 +8,7 @@ use lib.Dec.{T, ltb, eqb}
 use lib.ListN.{length, getD}
 use mir.Facts.{and-yes, yes-and, or-yes, T-not, not-T, ltb-yes, eqb-yes}
 use Rattle.meaning.specs.Lists.{any, place}
-use Rattle.meaning.specs.Schema.{Schema, cellsOf, hasParent, under, relationshipOf}
+use Rattle.meaning.specs.Schema.{ObjectType, Relationship, Schema, cellsOf, hasParent, under, relationshipOf}
 use Rattle.meaning.specs.Register.{Link, Register, objectAt, isUnder, nearEnd, startsAt, hasLink}
 use Rattle.meaning.specs.Forms.{Sort, truth, collection, Form, compare, negate, connect, quantify, kind, num, cell, size, sum, combine, role, all, select, bind, variable, memberType, wellTyped, Rule}
 use Rattle.meaning.specs.Meaning.{meaning}
@@ -17,7 +17,7 @@ use Rattle.meaning.specs.Reach.{Step, Change, subject, linkNamed, joins,
 use Rattle.meaning.specs.EventList.{EventType, insertOf, deleteOf, setOf, joinOf, partOf, specialOf, generalOf, wordsOf, whereParent, roleLists, allLists, kindLists, lists, contextLists, eventList, occurs, touched}
 use Rattle.meaning.proofs.Lists.{_∈_, holds-some, or-left, or-right, decide, cond-yes, cond-no, any-of, any-cases, keep-from, Ascending}
 use Rattle.meaning.proofs.Order.{Before, place-other, place-has, place-ascending}
-use Rattle.meaning.proofs.Schemas.{SchemaFits, under-refl, under-linear, under-top}
+use Rattle.meaning.proofs.Schemas.{TypesFit, under-refl, under-linear, under-top}
 use Rattle.meaning.proofs.Variables.{Each, each-at, each-bind}
 use Rattle.meaning.proofs.Effects.{EventFits}
 use Rattle.meaning.proofs.Steps.{StepsFit}
@@ -25,61 +25,61 @@ use Rattle.meaning.proofs.Registers.{RegisterFits, instance-from, far-f
 
 -- ---- a special or a general does not enter or leave a type without a parent
 
-module _ (S : Schema) (fits : SchemaFits S) where
+module _ (types : List ObjectType) (fits : TypesFit types) where
   -- Above w there are a and t, and a is not under t: so t is under a, and not a itself.
-  has-parent : (w a t : ℕ) → T (under S w a) → T (under S w t) → T (not (under S a t)) → T (hasParent S t)
+  has-parent : (w a t : ℕ) → T (under types w a) → T (under types w t) → T (not (under types a t)) → T (hasParent types t)
   has-parent w a t p q n =
       ⊎-elim (λ h. h)
-      (λ top. absurd (T-not (under S a t) (below top (under-linear S fits w a t p q)) n))
-      (decide (hasParent S t))
+      (λ top. absurd (T-not (under types a t) (below top (under-linear types fits w a t p q)) n))
+      (decide (hasParent types t))
     where
-      below : T (not (hasParent S t)) → T (under S a t) ⊎ T (under S t a) → T (under S a t)
+      below : T (not (hasParent types t)) → T (under types a t) ⊎ T (under types t a) → T (under types a t)
       below top (inl h) = h
-      below top (inr h) = subst (λ x. T (under S x t)) (under-top S fits t a top h) (under-refl S t)
+      below top (inr h) = subst (λ x. T (under types x t)) (under-top types fits t a top h) (under-refl types t)
 
-  module _ (t : ℕ) (g : Register) where
-    special-parent : (e : Event) → EventFits S g e → T (specialisesInto S t g e) → T (hasParent S t)
-    unfolding strictlyAbove isUnder
-    special-parent (insert id u) f h = absurd h
-    special-parent (delete id) f h = absurd h
-    special-parent (set id k v) f h = absurd h
-    special-parent (join r a b) f h = absurd h
-    special-parent (part r a b) f h = absurd h
-    special-parent (special id u) f h =
-        let r = and-yes (under S u t) (not (isUnder S g id t)) h in
-        let o = holds-some (λ o. under S u (o .type) && not (eqb u (o .type))) (objectAt g id) f in
-        let w = o .0 .type in
-        has-parent u w t (and-yes (under S u w) (not (eqb u w)) (o .2) .0) (r .0) (rw (o .1) at (r .1))
-    special-parent (general id u) f h = absurd h
+module _ (S : Schema) (fits : TypesFit (S .types)) (t : ℕ) (g : Register) where
+  special-parent : (e : Event) → EventFits S g e → T (specialisesInto S t g e) → T (hasParent (S .types) t)
+  unfolding strictlyAbove isUnder
+  special-parent (insert id u) f h = absurd h
+  special-parent (delete id) f h = absurd h
+  special-parent (set id k v) f h = absurd h
+  special-parent (join r a b) f h = absurd h
+  special-parent (part r a b) f h = absurd h
+  special-parent (special id u) f h =
+      let r = and-yes (under (S .types) u t) (not (isUnder (S .types) g id t)) h in
+      let o = holds-some (λ o. under (S .types) u (o .type) && not (eqb u (o .type))) (objectAt g id) f in
+      let w = o .0 .type in
+      has-parent (S .types) fits u w t (and-yes (under (S .types) u w) (not (eqb u w)) (o .2) .0) (r .0) (rw (o .1) at (r .1))
+  special-parent (general id u) f h = absurd h
 
-    general-parent : (e : Event) → EventFits S g e → T (generalisesFrom S t g e) → T (hasParent S t)
-    unfolding strictlyUnder isUnder
-    general-parent (insert id u) f h = absurd h
-    general-parent (delete id) f h = absurd h
-    general-parent (set id k v) f h = absurd h
-    general-parent (join r a b) f h = absurd h
-    general-parent (part r a b) f h = absurd h
-    general-parent (special id u) f h = absurd h
-    general-parent (general id u) f h =
-        let r = and-yes (isUnder S g id t) (not (under S u t)) h in
-        let o = holds-some (λ o. under S (o .type) u && not (eqb u (o .type))) (objectAt g id) f in
-        let w = o .0 .type in
-        has-parent w u t (and-yes (under S w u) (not (eqb u w)) (o .2) .0) (rw (o .1) at (r .0)) (r .1)
+  general-parent : (e : Event) → EventFits S g e → T (generalisesFrom S t g e) → T (hasParent (S .types) t)
+  unfolding strictlyUnder isUnder
+  general-parent (insert id u) f h = absurd h
+  general-parent (delete id) f h = absurd h
+  general-parent (set id k v) f h = absurd h
+  general-parent (join r a b) f h = absurd h
+  general-parent (part r a b) f h = absurd h
+  general-parent (special id u) f h = absurd h
+  general-parent (general id u) f h =
+      let r = and-yes (isUnder (S .types) g id t) (not (under (S .types) u t)) h in
+      let o = holds-some (λ o. under (S .types) (o .type) u && not (eqb u (o .type))) (objectAt g id) f in
+      let w = o .0 .type in
+      has-parent (S .types) fits w u t (and-yes (under (S .types) w u) (not (eqb u w)) (o .2) .0) (rw (o .1) at (r .0)) (r .1)
 
 -- ---- the values of the variables, by their types
 
 -- each variable is under its type
-abbrev Typed : Schema → Register → List ℕ → List ℕ → Type 0
-Typed S g = Each (λ x t. T (isUnder S g x t))
+abbrev Typed : List ObjectType → Register → List ℕ → List ℕ → Type 0
+Typed types g = Each (λ x t. T (isUnder types g x t))
 
 module _ (S : Schema) (g : Register) where
-  pub member-under : RegisterFits S g → (k : Form collection) (vs ts : List ℕ) (x : ℕ) → x ∈ meaning S g k vs → T (isUnder S g x (memberType S ts k))
+  pub member-under : RegisterFits S g → (k : Form collection) (vs : List ℕ) (x : ℕ) → x ∈ meaning (S .types) g k vs → T (isUnder (S .types) g x (memberType (S .relationships) k))
   unfolding meaning memberType
-  member-under f (role v r) vs ts x m =
+  member-under f (role v r) vs x m =
       let l = far-from g r (variable vs v) x m in
       rw (l .3) (far-under S g f r (variable vs v) (l .0) (l .1) (l .2))
-  member-under f (all t) vs ts x m = instance-from S g (f .objects-ascend) x t m
-  member-under f (select k b) vs ts x m = member-under f k vs ts x (keep-from (λ y. meaning S g b (bind vs y)) (meaning S g k vs) m .0)
+  member-under f (all t) vs x m = instance-from (S .types) g (f .objects-ascend) x t m
+  member-under f (select k b) vs x m = member-under f k vs x (keep-from (λ y. meaning (S .types) g b (bind vs y)) (meaning (S .types) g k vs) m .0)
 
 -- ---- the event list
 
@@ -133,6 +133,12 @@ module _ (c : Change) where
   abbrev S : Schema
   S = c .schema
 
+  abbrev types : List ObjectType
+  types = S .types
+
+  abbrev relationships : List Relationship
+  relationships = S .relationships
+
   -- some event type of the list occurs
   abbrev occur : List EventType → Bool
   occur = any (occurs c)
@@ -147,9 +153,9 @@ module _ (c : Change) where
   one-listed : (e : EventType) → T (occurs c e) → T (occur (e ∷ []))
   one-listed e = or-left (occurs c e) false
 
-  where-parent : (t : ℕ) (e : EventType) → T (hasParent S t) → T (occurs c e) → T (occur (whereParent S t e))
+  where-parent : (t : ℕ) (e : EventType) → T (hasParent types t) → T (occurs c e) → T (occur (whereParent S t e))
   unfolding whereParent
-  where-parent t e h o = rw (cond-yes (hasParent S t) (e ∷ []) [] h) (one-listed e o)
+  where-parent t e h o = rw (cond-yes (hasParent types t) (e ∷ []) [] h) (one-listed e o)
 
   -- ---- steps
 
@@ -192,11 +198,11 @@ module _ (c : Change) where
       any-of (occurs c) {l = roleLists r down} (List·Memᴰ·head refl)
       (some-second parts (λ e. startsAt r u (linkNamed e)) _ (λ e. starts-relationship r u (linkNamed e)) h)
 
-  cell-listed : (u t k : ℕ) → T (isUnder S (c .end) u t) → T (cellMoves c u k) → T (occurs c (setOf t k))
+  cell-listed : (u t k : ℕ) → T (isUnder types (c .end) u t) → T (cellMoves c u k) → T (occurs c (setOf t k))
   unfolding cellMoves occurs
   cell-listed u t k h =
-      some-second (sets k) (λ e. eqb (subject e) u) (λ e. isUnder S (c .end) (subject e) t)
-      (λ e q. subst (λ x. T (isUnder S (c .end) x t)) (sym (eqb-yes q)) h)
+      some-second (sets k) (λ e. eqb (subject e) u) (λ e. isUnder types (c .end) (subject e) t)
+      (λ e q. subst (λ x. T (isUnder types (c .end) x t)) (sym (eqb-yes q)) h)
 
   -- ---- what moves a form is listed, by what moves its parts
 
@@ -210,7 +216,13 @@ module _ (c : Change) where
   through-listed either f vs ts h d = occur-either (moves c f vs up) (moves c f vs down) (lists S f ts up) (lists S f ts down) (h up) (h down)
 
   -- a form of two parts
-  parts-listed : {s u : Sort} (x y : Passing) (a : Form s) (b : Form u) (vs ts : List ℕ) → (T (wellTyped S ts a) → Listed a vs ts) → (T (wellTyped S ts b) → Listed b vs ts) → T (wellTyped S ts a && wellTyped S ts b) → (d : Direction) → T (through _||_ x (moves c a vs) d || through _||_ y (moves c b vs) d) → T (occur (through _++_ x (lists S a ts) d ++ through _++_ y (lists S b ts) d))
+  parts-listed : {s u : Sort} (x y : Passing) (a : Form s) (b : Form u) (vs ts : List ℕ)
+      → (T (wellTyped S ts a) → Listed a vs ts)
+      → (T (wellTyped S ts b) → Listed b vs ts)
+      → T (wellTyped S ts a && wellTyped S ts b)
+      → (d : Direction)
+      → T (through _||_ x (moves c a vs) d || through _||_ y (moves c b vs) d)
+      → T (occur (through _++_ x (lists S a ts) d ++ through _++_ y (lists S b ts) d))
   parts-listed x y a b vs ts f g w d =
       let typed = and-yes (wellTyped S ts a) (wellTyped S ts b) w in
       occur-either (through _||_ x (moves c a vs) d) (through _||_ y (moves c b vs) d) (through _++_ x (lists S a ts) d) (through _++_ y (lists S b ts) d)
@@ -218,22 +230,22 @@ module _ (c : Change) where
 
   -- ---- selection
 
-  pub selected-cases : (r : Rule) (s : ℕ) → T (selected c r s) → T (isUnder S (c .end) s (r .context)) × T (moves c (r .body) (s ∷ []) down || broughtIn c r s)
+  pub selected-cases : (r : Rule) (s : ℕ) → T (selected c r s) → T (isUnder types (c .end) s (r .context)) × T (moves c (r .body) (s ∷ []) down || broughtIn c r s)
   unfolding selected
-  selected-cases r s = and-yes (isUnder S (c .end) s (r .context)) (moves c (r .body) (s ∷ []) down || broughtIn c r s)
+  selected-cases r s = and-yes (isUnder types (c .end) s (r .context)) (moves c (r .body) (s ∷ []) down || broughtIn c r s)
 
-  module _ (schema-fits : SchemaFits S) (end-fits : RegisterFits S (c .end)) (steps-fit : StepsFit c) where
+  module _ (types-fit : TypesFit types) (end-fits : RegisterFits S (c .end)) (steps-fit : StepsFit c) where
     special-listed : (t : ℕ) → T (occurs c (specialOf t)) → T (occur (whereParent S t (specialOf t)))
     unfolding occurs
     special-listed t h =
         let s = step-of (specialisesInto S t) h in
-        where-parent t (specialOf t) (special-parent S schema-fits t (s .0 .met) (s .0 .event) (steps-fit (s .0) (s .1)) (s .2)) h
+        where-parent t (specialOf t) (special-parent S types-fit t (s .0 .met) (s .0 .event) (steps-fit (s .0) (s .1)) (s .2)) h
 
     general-listed : (t : ℕ) → T (occurs c (generalOf t)) → T (occur (whereParent S t (generalOf t)))
     unfolding occurs
     general-listed t h =
         let s = step-of (generalisesFrom S t) h in
-        where-parent t (generalOf t) (general-parent S schema-fits t (s .0 .met) (s .0 .event) (steps-fit (s .0) (s .1)) (s .2)) h
+        where-parent t (generalOf t) (general-parent S types-fit t (s .0 .met) (s .0 .event) (steps-fit (s .0) (s .1)) (s .2)) h
 
     all-listed : (t : ℕ) (d : Direction) → T (allMoves c t d) → T (occur (allLists S t d))
     unfolding allMoves bringsIn takesOut allLists occurs
@@ -241,7 +253,7 @@ module _ (c : Change) where
         occur-either (occurs c (insertOf t)) (occurs c (specialOf t)) (insertOf t ∷ []) (whereParent S t (specialOf t))
         (one-listed (insertOf t)) (special-listed t)
         (some-either (insertsInto S t) (specialisesInto S t)
-        (some-first (λ g e. insertsInto S t g e || specialisesInto S t g e) (λ e. isUnder S (c .end) (subject e) t) h))
+        (some-first (λ g e. insertsInto S t g e || specialisesInto S t g e) (λ e. isUnder types (c .end) (subject e) t) h))
     all-listed t down h =
         occur-either (occurs c (deleteOf t)) (occurs c (generalOf t)) (deleteOf t ∷ []) (whereParent S t (generalOf t))
         (one-listed (deleteOf t)) (general-listed t)
@@ -251,25 +263,37 @@ module _ (c : Change) where
     unfolding kindMoves kindLists occurs
     kind-listed u t up h =
         let entered = someStep c (λ g e. specialisesInto S t g e && eqb (subject e) u) in
-        special-listed t (some-first (specialisesInto S t) (λ e. eqb (subject e) u) (and-yes entered (isUnder S (c .end) u t) h .0))
+        special-listed t (some-first (specialisesInto S t) (λ e. eqb (subject e) u) (and-yes entered (isUnder types (c .end) u t) h .0))
     kind-listed u t down h = general-listed t (some-first (generalisesFrom S t) (λ e. eqb (subject e) u) h)
 
     -- a form over a collection: by the collection, or at one of its members
-    members-listed : (x : Passing) (k : Form collection) (vs ts : List ℕ) (m : ℕ → Bool) (l : List EventType) → Listed k vs ts → ((u : ℕ) → T (isUnder S (c .end) u (memberType S ts k)) → T (m u) → T (occur l)) → (d : Direction) → T (through _||_ x (moves c k vs) d || any m (meaning S (c .end) k vs)) → T (occur (through _++_ x (lists S k ts) d ++ l))
+    members-listed : (x : Passing) (k : Form collection) (vs ts : List ℕ) (m : ℕ → Bool) (l : List EventType)
+        → Listed k vs ts
+        → ((u : ℕ) → T (isUnder types (c .end) u (memberType relationships k)) → T (m u) → T (occur l))
+        → (d : Direction)
+        → T (through _||_ x (moves c k vs) d || any m (meaning types (c .end) k vs))
+        → T (occur (through _++_ x (lists S k ts) d ++ l))
     members-listed x k vs ts m l f g d =
-        occur-either (through _||_ x (moves c k vs) d) (any m (meaning S (c .end) k vs)) (through _++_ x (lists S k ts) d) l
+        occur-either (through _||_ x (moves c k vs) d) (any m (meaning types (c .end) k vs)) (through _++_ x (lists S k ts) d) l
         (through-listed x k vs ts f d)
-        (λ t. let u = any-cases m (meaning S (c .end) k vs) t in g (u .0) (member-under S (c .end) end-fits k vs ts (u .0) (u .1)) (u .2))
+        (λ t. let u = any-cases m (meaning types (c .end) k vs) t in g (u .0) (member-under S (c .end) end-fits k vs (u .0) (u .1)) (u .2))
 
     -- the same, with a body that has a variable for the member
-    body-listed : (x : Passing) (k : Form collection) (b : Form truth) (vs ts : List ℕ) → Typed S (c .end) vs ts → (T (wellTyped S ts k) → Listed k vs ts) → ((us ws : List ℕ) → Typed S (c .end) us ws → T (wellTyped S ws b) → Listed b us ws) → T (wellTyped S ts k && wellTyped S (bind ts (memberType S ts k)) b) → (d : Direction) → T (through _||_ x (moves c k vs) d || any (λ u. moves c b (bind vs u) d) (meaning S (c .end) k vs)) → T (occur (through _++_ x (lists S k ts) d ++ lists S b (bind ts (memberType S ts k)) d))
+    body-listed : (x : Passing) (k : Form collection) (b : Form truth) (vs ts : List ℕ)
+        → Typed types (c .end) vs ts
+        → (T (wellTyped S ts k) → Listed k vs ts)
+        → ((us ws : List ℕ) → Typed types (c .end) us ws → T (wellTyped S ws b) → Listed b us ws)
+        → T (wellTyped S ts k && wellTyped S (bind ts (memberType relationships k)) b)
+        → (d : Direction)
+        → T (through _||_ x (moves c k vs) d || any (λ u. moves c b (bind vs u) d) (meaning types (c .end) k vs))
+        → T (occur (through _++_ x (lists S k ts) d ++ lists S b (bind ts (memberType relationships k)) d))
     body-listed x k b vs ts v f g w d =
-        let member = memberType S ts k in
+        let member = memberType relationships k in
         let typed = and-yes (wellTyped S ts k) (wellTyped S (bind ts member) b) w in
         members-listed x k vs ts (λ u. moves c b (bind vs u) d) (lists S b (bind ts member) d) (f (typed .0))
         (λ u h. g (bind vs u) (bind ts member) (each-bind _ vs ts u member v h) (typed .1) d) d
 
-    moves-listed : {s : Sort} (f : Form s) (vs ts : List ℕ) → Typed S (c .end) vs ts → T (wellTyped S ts f) → Listed f vs ts
+    moves-listed : {s : Sort} (f : Form s) (vs ts : List ℕ) → Typed types (c .end) vs ts → T (wellTyped S ts f) → Listed f vs ts
     unfolding wellTyped moves lists
     moves-listed (compare o a b) vs ts v w = parts-listed (leftOf o) (rightOf o) a b vs ts (moves-listed a vs ts v) (moves-listed b vs ts v) w
     moves-listed (negate a) vs ts v w = through-listed reversed a vs ts (moves-listed a vs ts v w)
@@ -278,14 +302,14 @@ module _ (c : Change) where
     moves-listed (kind x u) vs ts v w = kind-listed (variable vs x) u
     moves-listed (num n) vs ts v w = λ d t. absurd t
     moves-listed (cell x k) vs ts v w =
-        let known = and-yes (ltb x (length ts)) (ltb k (cellsOf S (variable ts x))) w .0 in
+        let known = and-yes (ltb x (length ts)) (ltb k (cellsOf types (variable ts x))) w .0 in
         let within = each-at _ vs ts v x (ltb-yes known) in
         λ d t. one-listed (setOf (variable ts x) k) (cell-listed (variable vs x) (variable ts x) k within t)
     moves-listed (size k) vs ts v w = moves-listed k vs ts v w
     moves-listed (sum k n) vs ts v w =
-        let member = memberType S ts k in
+        let member = memberType relationships k in
         members-listed either k vs ts (λ u. cellMoves c u n) (setOf member n ∷ [])
-        (moves-listed k vs ts v (and-yes (wellTyped S ts k) (ltb n (cellsOf S member)) w .0))
+        (moves-listed k vs ts v (and-yes (wellTyped S ts k) (ltb n (cellsOf types member)) w .0))
         (λ u h t. one-listed (setOf member n) (cell-listed u member n h t))
     moves-listed (combine o a b) vs ts v w = parts-listed same (secondTerm o) a b vs ts (moves-listed a vs ts v) (moves-listed b vs ts v) w
     moves-listed (role x r) vs ts v w = role-listed r (variable vs x)

@@ -28,11 +28,11 @@ refusalAt number (some place) = some (record { number = number; place = place })
 -- Refusals 3, 4 and 5, "checked from the top": types before relationships, objects before links.
 unfoldable pub bookRefusal : Book → Option Refusal
 bookRefusal k =
-    firstOf (refusalAt 3 (firstOf (typeFault (k .schema)) (relationshipFault (k .schema))))
+    firstOf (refusalAt 3 (firstOf (typeFault (k .schema .types)) (relationshipFault (k .schema))))
     (refusalAt 4 (ruleFault k))
 
 unfoldable pub registerRefusal : Schema → Register → Option Refusal
-registerRefusal S g = refusalAt 5 (firstOf (objectFault S g) (linkFault S g))
+registerRefusal S g = refusalAt 5 (firstOf (objectFault (S .types) g) (linkFault S g))
 
 unfoldable pub refusal : Book → Register → Option Refusal
 refusal k g = firstOf (bookRefusal k) (registerRefusal (k .schema) g)
@@ -51,7 +51,7 @@ foundAnswer none = accepted
 foundAnswer (some p) = brokenAt (p .rule) (p .id)
 
 unfoldable pub firstBroken : Book → Register → List Pair → Answer
-firstBroken k g pairs = foundAnswer (first (λ p. ofRule k (λ r. broken (k .schema) g r (p .id)) (p .rule)) pairs)
+firstBroken k g pairs = foundAnswer (first (λ p. ofRule k (λ r. broken (k .schema .types) g r (p .id)) (p .rule)) pairs)
 
 unfoldable pub unlessRefused : Option Refusal → Answer → Answer
 unlessRefused none answer = answer

@@ -28,7 +28,7 @@ wordsOf (generalOf t) = 6 ∷ t ∷ 0 ∷ []
 
 -- "`special t` and `general t` are left out where t has no parent."
 unfoldable pub whereParent : Schema → ℕ → EventType → List EventType
-whereParent S t e = cond (hasParent S t) (e ∷ []) []
+whereParent S t e = cond (hasParent (S .types) t) (e ∷ []) []
 
 -- "role gain lists join, loss part"
 unfoldable pub roleLists : ℕ → Direction → List EventType
@@ -49,16 +49,16 @@ unfoldable pub lists : {s : Sort} → Schema → Form s → List ℕ → Directi
 lists S (compare o a b) ts d = through _++_ (leftOf o) (lists S a ts) d ++ through _++_ (rightOf o) (lists S b ts) d
 lists S (negate a) ts d = through _++_ reversed (lists S a ts) d
 lists S (connect o a b) ts d = through _++_ (firstPart o) (lists S a ts) d ++ through _++_ (secondPart o) (lists S b ts) d
-lists S (quantify q c b) ts d = through _++_ (sourceOf q) (lists S c ts) d ++ lists S b (bind ts (memberType S ts c)) d
+lists S (quantify q c b) ts d = through _++_ (sourceOf q) (lists S c ts) d ++ lists S b (bind ts (memberType (S .relationships) c)) d
 lists S (kind v t) ts d = kindLists S t d
 lists S (num n) ts d = []
 lists S (cell v k) ts d = setOf (variable ts v) k ∷ []
 lists S (size c) ts d = through _++_ same (lists S c ts) d
-lists S (sum c k) ts d = through _++_ either (lists S c ts) d ++ setOf (memberType S ts c) k ∷ []
+lists S (sum c k) ts d = through _++_ either (lists S c ts) d ++ setOf (memberType (S .relationships) c) k ∷ []
 lists S (combine o a b) ts d = through _++_ same (lists S a ts) d ++ through _++_ (secondTerm o) (lists S b ts) d
 lists S (role v r) ts d = roleLists r d
 lists S (all t) ts d = allLists S t d
-lists S (select c b) ts d = through _++_ same (lists S c ts) d ++ lists S b (bind ts (memberType S ts c)) d
+lists S (select c b) ts d = through _++_ same (lists S c ts) d ++ lists S b (bind ts (memberType (S .relationships) c)) d
 
 -- "kind and context as above": an insert into the context type unless the body is quiet, and a special into it
 unfoldable pub contextLists : Schema → Rule → List EventType
@@ -74,7 +74,7 @@ eventList S r = foldr (place wordsOf) [] (lists S (r .body) (r .context ∷ []) 
 unfoldable pub occurs : Change → EventType → Bool
 occurs c (insertOf t) = someStep c (insertsInto (c .schema) t)
 occurs c (deleteOf t) = someStep c (deletesFrom (c .schema) t)
-occurs c (setOf t k) = someStep c (λ g e. sets k e && isUnder (c .schema) (c .end) (subject e) t)
+occurs c (setOf t k) = someStep c (λ g e. sets k e && isUnder (c .schema .types) (c .end) (subject e) t)
 occurs c (joinOf r) = someStep c (λ g e. joins e && eqb ((linkNamed e) .relationship) r)
 occurs c (partOf r) = someStep c (λ g e. parts e && eqb ((linkNamed e) .relationship) r)
 occurs c (specialOf t) = someStep c (specialisesInto (c .schema) t)

@@ -8,7 +8,7 @@ use lib.ListN.{length, take, replicate, set as replaceAt}
 use lib.IntN.{ℤ, pos}
 use Rattle.meaning.specs.Lists.{any, keep, holds, firstOf, place}
 use Rattle.meaning.specs.Limits.{maxObjects, maxLinks, cellCount, validId, fitsWord}
-use Rattle.meaning.specs.Schema.{Schema, knownType, knownRelationship, cellsOf, under, sourceType, targetType}
+use Rattle.meaning.specs.Schema.{ObjectType, Schema, knownType, knownRelationship, cellsOf, under, sourceType, targetType}
 use Rattle.meaning.specs.Register.{Object, Link, Register, objectKey, linkKey, objectAt, present, isUnder, sameLink, hasLink}
 
 -- "Events: `insert id t` .., `delete id`, `set id k v`, `join r a b`, `part r a b`, `special id t` .., `general id t` .."
@@ -46,8 +46,8 @@ withCell k v o = record { id = o .id; type = o .type; cells = replaceAt (o .cell
 abbrev pub withType : ℕ → Object → Object
 withType t o = record { id = o .id; type = t; cells = o .cells }
 
-abbrev pub withHigherType : Schema → ℕ → Object → Object
-withHigherType S t o = record { id = o .id; type = t; cells = clearedFrom (cellsOf S t) (o .cells) }
+abbrev pub withHigherType : List ObjectType → ℕ → Object → Object
+withHigherType types t o = record { id = o .id; type = t; cells = clearedFrom (cellsOf types t) (o .cells) }
 
 -- the object of that id changed, every other as it was
 abbrev pub amended : ℕ → (Object → Object) → Register → Register
@@ -63,7 +63,7 @@ apply S (set id k v) g = amended id (withCell k v) g
 apply S (join r a b) g = record { objects = g .objects; links = place linkKey (linkOf r a b) (g .links) }
 apply S (part r a b) g = record { objects = g .objects; links = keep (λ l. not (sameLink (linkOf r a b) l)) (g .links) }
 apply S (special id t) g = amended id (withType t) g
-apply S (general id t) g = amended id (withHigherType S t) g
+apply S (general id t) g = amended id (withHigherType (S .types) t) g
 
 -- "The first event works on the register as lent, each other on what the one before it left. .. What the last one leaves is
 -- the register after the batch, *the end* ..; without events it is the lent one."
@@ -90,32 +90,32 @@ linked g id = any (λ l. eqb (l .source) id || eqb (l .target) id) (g .links)
 -- 12: "general out of a type a link needs"; a link of an object to itself counts at both ends
 unfoldable pub needsType : Schema → ℕ → ℕ → Link → Bool
 needsType S id t l =
-    (eqb (l .source) id && not (under S t (sourceType S (l .relationship))))
-    || (eqb (l .target) id && not (under S t (targetType S (l .relationship))))
+    (eqb (l .source) id && not (under (S .types) t (sourceType (S .relationships) (l .relationship))))
+    || (eqb (l .target) id && not (under (S .types) t (targetType (S .relationships) (l .relationship))))
 
 unfoldable pub typeNeeded : Schema → Register → ℕ → ℕ → Bool
 typeNeeded S g id t = any (needsType S id t) (g .links)
 
 -- the object's type is strictly above t, or strictly under it
-unfoldable pub strictlyAbove : Schema → Register → ℕ → ℕ → Bool
-strictlyAbove S g id t = holds (λ o. under S t (o .type) && not (eqb t (o .type))) (objectAt g id)
+unfoldable pub strictlyAbove : List ObjectType → Register → ℕ → ℕ → Bool
+strictlyAbove types g id t = holds (λ o. under types t (o .type) && not (eqb t (o .type))) (objectAt g id)
 
-unfoldable pub strictlyUnder : Schema → Register → ℕ → ℕ → Bool
-strictlyUnder S g id t = holds (λ o. under S (o .type) t && not (eqb t (o .type))) (objectAt g id)
+unfoldable pub strictlyUnder : List ObjectType → Register → ℕ → ℕ → Bool
+strictlyUnder types g id t = holds (λ o. under types (o .type) t && not (eqb t (o .type))) (objectAt g id)
 
 -- 11: the object's type has cell k
-unfoldable pub hasCell : Schema → Register → ℕ → ℕ → Bool
-hasCell S g id k = holds (λ o. ltb k (cellsOf S (o .type))) (objectAt g id)
+unfoldable pub hasCell : List ObjectType → Register → ℕ → ℕ → Bool
+hasCell types g id k = holds (λ o. ltb k (cellsOf types (o .type))) (objectAt g id)
 
 -- 7: "kind, type, relationship unknown; cell not 0 to 7; id not 1 to 65,535": what the event says by itself is known
 unfoldable pub knownEvent : Schema → Event → Bool
-knownEvent S (insert id t) = validId id && knownType S t
+knownEvent S (insert id t) = validId id && knownType (S .types) t
 knownEvent S (delete id) = validId id
 knownEvent S (set id k v) = validId id && ltb k cellCount && fitsWord v
-knownEvent S (join r a b) = knownRelationship S r && validId a && validId b
-knownEvent S (part r a b) = knownRelationship S r && validId a && validId b
-knownEvent S (special id t) = validId id && knownType S t
-knownEvent S (general id t) = validId id && knownType S t
+knownEvent S (join r a b) = knownRelationship (S .relationships) r && validId a && validId b
+knownEvent S (part r a b) = knownRelationship (S .relationships) r && validId a && validId b
+knownEvent S (special id t) = validId id && knownType (S .types) t
+knownEvent S (general id t) = validId id && knownType (S .types) t
 
 -- The refusals that an event can meet, in the table's order.
 unfoldable pub checks : Schema → Lent → Register → Event → List Check
@@ -132,13 +132,13 @@ checks S lent g (delete id) =
 checks S lent g (set id k v) =
     (7 when not (knownEvent S (set id k v)))
     ∷ (8 when not (present g id))
-    ∷ (11 when not (hasCell S g id k))
+    ∷ (11 when not (hasCell (S .types) g id k))
     ∷ []
 checks S lent g (join r a b) =
     (7 when not (knownEvent S (join r a b)))
     ∷ (8 when not (present g a && present g b))
     ∷ (9 when hasLink g (linkOf r a b))
-    ∷ (11 when not (isUnder S g a (sourceType S r) && isUnder S g b (targetType S r)))
+    ∷ (11 when not (isUnder (S .types) g a (sourceType (S .relationships) r) && isUnder (S .types) g b (targetType (S .relationships) r)))
     ∷ (13 when leb (min maxLinks (lent .links)) (length (g .links)))
     ∷ []
 checks S lent g (part r a b) =
@@ -149,12 +149,12 @@ checks S lent g (part r a b) =
 checks S lent g (special id t) =
     (7 when not (knownEvent S (special id t)))
     ∷ (8 when not (present g id))
-    ∷ (11 when not (strictlyAbove S g id t))
+    ∷ (11 when not (strictlyAbove (S .types) g id t))
     ∷ []
 checks S lent g (general id t) =
     (7 when not (knownEvent S (general id t)))
     ∷ (8 when not (present g id))
-    ∷ (11 when not (strictlyUnder S g id t))
+    ∷ (11 when not (strictlyUnder (S .types) g id t))
     ∷ (12 when typeNeeded S g id t)
     ∷ []
 

@@ -8,7 +8,7 @@ use lib.ListN.{length, getD}
 use lib.IntN.{ℤ}
 use Rattle.meaning.specs.Lists.{firstFault}
 use Rattle.meaning.specs.Limits.{maxForms, fitsWord}
-use Rattle.meaning.specs.Schema.{Schema, knownType, knownRole, cellsOf, under, nearType, farType}
+use Rattle.meaning.specs.Schema.{Relationship, Schema, knownType, knownRole, cellsOf, under, nearType, farType}
 
 -- "a truth may hold a number, a number a collection, and a collection a truth"
 pub data Sort : Type 0 where
@@ -70,27 +70,27 @@ formCount (role v r) = 1
 formCount (all t) = 1
 formCount (select c b) = suc (formCount c + formCount b)
 
--- the type of a collection's members, by the types of the variables
-unfoldable pub memberType : Schema → List ℕ → Form collection → ℕ
-memberType S types (role v r) = farType S r
-memberType S types (all t) = t
-memberType S types (select c b) = memberType S types c
+-- the type of a collection's members
+unfoldable pub memberType : List Relationship → Form collection → ℕ
+memberType relationships (role v r) = farType relationships r
+memberType relationships (all t) = t
+memberType relationships (select c b) = memberType relationships c
 
 -- "unknown type, variable, cell or role for the variable's or member's type", by the types of the variables
 unfoldable pub wellTyped : {s : Sort} → Schema → List ℕ → Form s → Bool
 wellTyped S types (compare o a b) = wellTyped S types a && wellTyped S types b
 wellTyped S types (negate a) = wellTyped S types a
 wellTyped S types (connect o a b) = wellTyped S types a && wellTyped S types b
-wellTyped S types (quantify q c b) = wellTyped S types c && wellTyped S (bind types (memberType S types c)) b
-wellTyped S types (kind v t) = ltb v (length types) && knownType S t
+wellTyped S types (quantify q c b) = wellTyped S types c && wellTyped S (bind types (memberType (S .relationships) c)) b
+wellTyped S types (kind v t) = ltb v (length types) && knownType (S .types) t
 wellTyped S types (num n) = fitsWord n
-wellTyped S types (cell v k) = ltb v (length types) && ltb k (cellsOf S (variable types v))
+wellTyped S types (cell v k) = ltb v (length types) && ltb k (cellsOf (S .types) (variable types v))
 wellTyped S types (size c) = wellTyped S types c
-wellTyped S types (sum c k) = wellTyped S types c && ltb k (cellsOf S (memberType S types c))
+wellTyped S types (sum c k) = wellTyped S types c && ltb k (cellsOf (S .types) (memberType (S .relationships) c))
 wellTyped S types (combine o a b) = wellTyped S types a && wellTyped S types b
-wellTyped S types (role v r) = ltb v (length types) && knownRole S r && under S (variable types v) (nearType S r)
-wellTyped S types (all t) = knownType S t
-wellTyped S types (select c b) = wellTyped S types c && wellTyped S (bind types (memberType S types c)) b
+wellTyped S types (role v r) = ltb v (length types) && knownRole (S .relationships) r && under (S .types) (variable types v) (nearType (S .relationships) r)
+wellTyped S types (all t) = knownType (S .types) t
+wellTyped S types (select c b) = wellTyped S types c && wellTyped S (bind types (memberType (S .relationships) c)) b
 
 -- "Rules: .. each with a context type and a body of at most 64 forms." A rule's number is its place in the book.
 pub record Rule : Type 0 where
@@ -104,7 +104,7 @@ pub record Book : Type 0 where
 -- Refusal 4 and its place, the rule.
 unfoldable pub faultyRule : Schema → ℕ → Option Rule → Rule → Bool
 faultyRule S n previous r =
-    not (knownType S (r .context) && wellTyped S (r .context ∷ []) (r .body) && leb (formCount (r .body)) maxForms)
+    not (knownType (S .types) (r .context) && wellTyped S (r .context ∷ []) (r .body) && leb (formCount (r .body)) maxForms)
 
 unfoldable pub ruleFault : Book → Option ℕ
 ruleFault k = firstFault (faultyRule (k .schema)) (k .rules)

@@ -6,7 +6,7 @@ use lib.ListN.{length}
 use lib.IntN.{ℤ, pos, _+ℤ_, _-ℤ_}
 use lib.Signed.{leZ, ltZ}
 use Rattle.meaning.specs.Lists.{any, every, keep}
-use Rattle.meaning.specs.Schema.{Schema}
+use Rattle.meaning.specs.Schema.{ObjectType}
 use Rattle.meaning.specs.Register.{Register, isUnder, cellAt, instances, farEnds}
 use Rattle.meaning.specs.Forms.{Sort, truth, number, collection, Comparison, le, lt, eq, ne, ge, gt, Connective, and, or, xor, implies, Quantifier, forall, exists, Arithmetic, add, sub, Form, compare, negate, connect, quantify, kind, num, cell, size, sum, combine, role, all, select, bind, variable, Rule, Book}
 
@@ -45,28 +45,28 @@ total [] = pos 0
 total (n ∷ ns) = n +ℤ total ns
 
 -- The value of a form in a register, by the ids that the variables stand for.
-unfoldable pub meaning : {s : Sort} → Schema → Register → Form s → List ℕ → Value s
-meaning S g (compare o a b) vs = compared o (meaning S g a vs) (meaning S g b vs)
-meaning S g (negate a) vs = not (meaning S g a vs)
-meaning S g (connect o a b) vs = connected o (meaning S g a vs) (meaning S g b vs)
-meaning S g (quantify q c b) vs = quantified q (λ x. meaning S g b (bind vs x)) (meaning S g c vs)
-meaning S g (kind v t) vs = isUnder S g (variable vs v) t
-meaning S g (num n) vs = n
-meaning S g (cell v k) vs = cellAt g (variable vs v) k
-meaning S g (size c) vs = pos (length (meaning S g c vs))
-meaning S g (sum c k) vs = total (map (λ x. cellAt g x k) (meaning S g c vs))
-meaning S g (combine o a b) vs = combined o (meaning S g a vs) (meaning S g b vs)
-meaning S g (role v r) vs = farEnds g r (variable vs v)
-meaning S g (all t) vs = instances S g t
-meaning S g (select c b) vs = keep (λ x. meaning S g b (bind vs x)) (meaning S g c vs)
+unfoldable pub meaning : {s : Sort} → List ObjectType → Register → Form s → List ℕ → Value s
+meaning types g (compare o a b) vs = compared o (meaning types g a vs) (meaning types g b vs)
+meaning types g (negate a) vs = not (meaning types g a vs)
+meaning types g (connect o a b) vs = connected o (meaning types g a vs) (meaning types g b vs)
+meaning types g (quantify q c b) vs = quantified q (λ x. meaning types g b (bind vs x)) (meaning types g c vs)
+meaning types g (kind v t) vs = isUnder types g (variable vs v) t
+meaning types g (num n) vs = n
+meaning types g (cell v k) vs = cellAt g (variable vs v) k
+meaning types g (size c) vs = pos (length (meaning types g c vs))
+meaning types g (sum c k) vs = total (map (λ x. cellAt g x k) (meaning types g c vs))
+meaning types g (combine o a b) vs = combined o (meaning types g a vs) (meaning types g b vs)
+meaning types g (role v r) vs = farEnds g r (variable vs v)
+meaning types g (all t) vs = instances types g t
+meaning types g (select c b) vs = keep (λ x. meaning types g b (bind vs x)) (meaning types g c vs)
 
 -- "A rule is *broken* at an object under its context type where its body, self that object, is not true"
-unfoldable pub broken : Schema → Register → Rule → ℕ → Bool
-broken S g r s = isUnder S g s (r .context) && not (meaning S g (r .body) (s ∷ []))
+unfoldable pub broken : List ObjectType → Register → Rule → ℕ → Bool
+broken types g r s = isUnder types g s (r .context) && not (meaning types g (r .body) (s ∷ []))
 
 -- "it *holds* when broken at none"
-unfoldable pub ruleHolds : Schema → Register → Rule → Bool
-ruleHolds S g r = every (λ s. not (broken S g r s)) (instances S g (r .context))
+unfoldable pub ruleHolds : List ObjectType → Register → Rule → Bool
+ruleHolds types g r = every (λ s. not (broken types g r s)) (instances types g (r .context))
 
 unfoldable pub bookHolds : Book → Register → Bool
-bookHolds k g = every (ruleHolds (k .schema) g) (k .rules)
+bookHolds k g = every (ruleHolds (k .schema .types) g) (k .rules)

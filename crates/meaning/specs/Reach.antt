@@ -5,7 +5,7 @@ use mathlib.Core.List.{List, [], _∷_, _++_, map}
 use lib.Dec.{eqb}
 use lib.ListN.{getElem?}
 use Rattle.meaning.specs.Lists.{any, keep, holds}
-use Rattle.meaning.specs.Schema.{Schema, under}
+use Rattle.meaning.specs.Schema.{ObjectType, Schema, under}
 use Rattle.meaning.specs.Register.{Link, Register, isUnder, instances, hasLink, startsAt}
 use Rattle.meaning.specs.Forms.{Sort, truth, collection, Comparison, le, lt, eq, ne, ge, gt, Connective, and, or, xor, implies, Quantifier, forall, exists, Arithmetic, add, sub, Form, compare, negate, connect, quantify, kind, num, cell, size, sum, combine, role, all, select, bind, variable, Rule, Book}
 use Rattle.meaning.specs.Meaning.{meaning}
@@ -82,7 +82,7 @@ sets k (general id t) = false
 
 -- An insert brings its object into every type that it is now under.
 abbrev pub insertsInto : Schema → ℕ → Register → Event → Bool
-insertsInto S t g (insert id u) = under S u t
+insertsInto S t g (insert id u) = under (S .types) u t
 insertsInto S t g (delete id) = false
 insertsInto S t g (set id j v) = false
 insertsInto S t g (join r a b) = false
@@ -97,13 +97,13 @@ specialisesInto S t g (delete id) = false
 specialisesInto S t g (set id j v) = false
 specialisesInto S t g (join r a b) = false
 specialisesInto S t g (part r a b) = false
-specialisesInto S t g (special id u) = under S u t && not (isUnder S g id t)
+specialisesInto S t g (special id u) = under (S .types) u t && not (isUnder (S .types) g id t)
 specialisesInto S t g (general id u) = false
 
 -- A delete takes its object out of every type that it was under.
 abbrev pub deletesFrom : Schema → ℕ → Register → Event → Bool
 deletesFrom S t g (insert id u) = false
-deletesFrom S t g (delete id) = isUnder S g id t
+deletesFrom S t g (delete id) = isUnder (S .types) g id t
 deletesFrom S t g (set id j v) = false
 deletesFrom S t g (join r a b) = false
 deletesFrom S t g (part r a b) = false
@@ -118,7 +118,7 @@ generalisesFrom S t g (set id j v) = false
 generalisesFrom S t g (join r a b) = false
 generalisesFrom S t g (part r a b) = false
 generalisesFrom S t g (special id u) = false
-generalisesFrom S t g (general id u) = isUnder S g id t && not (under S u t)
+generalisesFrom S t g (general id u) = isUnder (S .types) g id t && not (under (S .types) u t)
 
 -- Some step of the batch did so. An object is known by its id, whatever came before a delete of it.
 unfoldable pub someStep : Change → (Register → Event → Bool) → Bool
@@ -203,7 +203,7 @@ takesOut S t g e = deletesFrom S t g e || generalisesFrom S t g e
 -- "`all t`: gain if an insert or special brought in an object that is under t at the end; loss if a delete or general took one
 -- out."
 unfoldable pub allMoves : Change → ℕ → Direction → Bool
-allMoves c t up = someStep c (λ g e. bringsIn (c .schema) t g e && isUnder (c .schema) (c .end) (subject e) t)
+allMoves c t up = someStep c (λ g e. bringsIn (c .schema) t g e && isUnder (c .schema .types) (c .end) (subject e) t)
 allMoves c t down = someStep c (takesOut (c .schema) t)
 
 -- "`cell`: may rise or fall if a set named that object and cell."
@@ -213,7 +213,7 @@ cellMoves c u k = someStep c (λ g e. sets k e && eqb (subject e) u)
 -- "`kind v t`: false if a general took that object out of t, true if a special brought it in and it is there at the end."
 unfoldable pub kindMoves : Change → ℕ → ℕ → Direction → Bool
 kindMoves c u t up =
-    someStep c (λ g e. specialisesInto (c .schema) t g e && eqb (subject e) u) && isUnder (c .schema) (c .end) u t
+    someStep c (λ g e. specialisesInto (c .schema) t g e && eqb (subject e) u) && isUnder (c .schema .types) (c .end) u t
 kindMoves c u t down = someStep c (λ g e. generalisesFrom (c .schema) t g e && eqb (subject e) u)
 
 -- ---- the forms
@@ -227,18 +227,18 @@ moves c (compare o a b) vs d = through _||_ (leftOf o) (moves c a vs) d || throu
 moves c (negate a) vs d = through _||_ reversed (moves c a vs) d
 moves c (connect o a b) vs d = through _||_ (firstPart o) (moves c a vs) d || through _||_ (secondPart o) (moves c b vs) d
 moves c (quantify q k b) vs d =
-    through _||_ (sourceOf q) (moves c k vs) d || any (λ x. moves c b (bind vs x) d) (meaning (c .schema) (c .end) k vs)
+    through _||_ (sourceOf q) (moves c k vs) d || any (λ x. moves c b (bind vs x) d) (meaning (c .schema .types) (c .end) k vs)
 moves c (kind v t) vs d = kindMoves c (variable vs v) t d
 moves c (num n) vs d = false
 moves c (cell v k) vs d = cellMoves c (variable vs v) k
 moves c (size k) vs d = through _||_ same (moves c k vs) d
 moves c (sum k n) vs d =
-    through _||_ either (moves c k vs) d || any (λ x. cellMoves c x n) (meaning (c .schema) (c .end) k vs)
+    through _||_ either (moves c k vs) d || any (λ x. cellMoves c x n) (meaning (c .schema .types) (c .end) k vs)
 moves c (combine o a b) vs d = through _||_ same (moves c a vs) d || through _||_ (secondTerm o) (moves c b vs) d
 moves c (role v r) vs d = roleMoves c r (variable vs v) d
 moves c (all t) vs d = allMoves c t d
 moves c (select k b) vs d =
-    through _||_ same (moves c k vs) d || any (λ x. moves c b (bind vs x) d) (meaning (c .schema) (c .end) k vs)
+    through _||_ same (moves c k vs) d || any (λ x. moves c b (bind vs x) d) (meaning (c .schema .types) (c .end) k vs)
 
 -- ---- quiet bodies
 
@@ -290,7 +290,7 @@ broughtIn c r s = (inserted c s (r .context) && not (quiet (r .body))) || specia
 -- "Pair (rule, s) is selected when s is under the context type at the end and: the body may turn false at s; or" it was brought in
 -- so.
 unfoldable pub selected : Change → Rule → ℕ → Bool
-selected c r s = isUnder (c .schema) (c .end) s (r .context) && (moves c (r .body) (s ∷ []) down || broughtIn c r s)
+selected c r s = isUnder (c .schema .types) (c .end) s (r .context) && (moves c (r .body) (s ∷ []) down || broughtIn c r s)
 
 -- a rule's number and an object's id
 pub record Pair : Type 0 where
@@ -301,12 +301,12 @@ abbrev pub pairOf : ℕ → ℕ → Pair
 pairOf n id = record { rule = n; id = id }
 
 -- Every pair of a rule and an object under its context type, ascending. n is the first rule's number.
-unfoldable pub pairsFrom : Schema → Register → ℕ → List Rule → List Pair
-pairsFrom S g n [] = []
-pairsFrom S g n (r ∷ rs) = map (pairOf n) (instances S g (r .context)) ++ pairsFrom S g (suc n) rs
+unfoldable pub pairsFrom : List ObjectType → Register → ℕ → List Rule → List Pair
+pairsFrom types g n [] = []
+pairsFrom types g n (r ∷ rs) = map (pairOf n) (instances types g (r .context)) ++ pairsFrom types g (suc n) rs
 
 unfoldable pub contextPairs : Book → Register → List Pair
-contextPairs k g = pairsFrom (k .schema) g 0 (k .rules)
+contextPairs k g = pairsFrom (k .schema .types) g 0 (k .rules)
 
 -- a fact about the rule that a pair names
 unfoldable pub ofRule : Book → (Rule → Bool) → ℕ → Bool

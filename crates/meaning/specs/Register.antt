@@ -9,7 +9,7 @@ use lib.IntN.{ℤ, pos}
 use lib.Signed.{leZ}
 use Rattle.meaning.specs.Lists.{any, every, keep, first, holds, ascends, same, firstFault}
 use Rattle.meaning.specs.Limits.{cellCount, validId, fitsWord}
-use Rattle.meaning.specs.Schema.{Schema, knownType, knownRelationship, cellsOf, under, relationshipOf, forward, sourceType, targetType}
+use Rattle.meaning.specs.Schema.{ObjectType, Schema, knownType, knownRelationship, cellsOf, under, relationshipOf, forward, sourceType, targetType}
 
 -- "Object: id 1 to 65,535, type, eight signed 32-bit cells"
 pub record Object : Type 0 where
@@ -43,16 +43,16 @@ unfoldable pub present : Register → ℕ → Bool
 present g id = holds (λ o. true) (objectAt g id)
 
 -- the object is there, and its type is under t
-unfoldable pub isUnder : Schema → Register → ℕ → ℕ → Bool
-isUnder S g id t = holds (λ o. under S (o .type) t) (objectAt g id)
+unfoldable pub isUnder : List ObjectType → Register → ℕ → ℕ → Bool
+isUnder types g id t = holds (λ o. under types (o .type) t) (objectAt g id)
 
 -- the value of cell k of an object; 0 where there is none
 unfoldable pub cellAt : Register → ℕ → ℕ → ℤ
 cellAt g id k = elim (objectAt g id) [ none ↦ pos 0 | some o ↦ getD (o .cells) k (pos 0) ]
 
 -- the ids of the objects under t, ascending
-unfoldable pub instances : Schema → Register → ℕ → List ℕ
-instances S g t = map (λ (o : Object). o .id) (keep (λ o. under S (o .type) t) (g .objects))
+unfoldable pub instances : List ObjectType → Register → ℕ → List ℕ
+instances types g t = map (λ (o : Object). o .id) (keep (λ o. under types (o .type) t) (g .objects))
 
 -- ---- links
 
@@ -83,29 +83,29 @@ farEnds g role u = map (farEnd role) (keep (startsAt role u) (g .links))
 abbrev pub isZero : ℤ → Bool
 isZero z = leZ z (pos 0) && leZ (pos 0) z
 
-unfoldable pub cellsFit : Schema → Object → Bool
-cellsFit S o = eqb (length (o .cells)) cellCount && every fitsWord (o .cells) && every isZero (drop (cellsOf S (o .type)) (o .cells))
+unfoldable pub cellsFit : List ObjectType → Object → Bool
+cellsFit types o = eqb (length (o .cells)) cellCount && every fitsWord (o .cells) && every isZero (drop (cellsOf types (o .type)) (o .cells))
 
-unfoldable pub objectFits : Schema → Object → Bool
-objectFits S o = validId (o .id) && knownType S (o .type) && cellsFit S o
+unfoldable pub objectFits : List ObjectType → Object → Bool
+objectFits types o = validId (o .id) && knownType types (o .type) && cellsFit types o
 
-unfoldable pub faultyObject : Schema → ℕ → Option Object → Object → Bool
-faultyObject S n previous o = not (ascends objectKey previous o && objectFits S o)
+unfoldable pub faultyObject : List ObjectType → ℕ → Option Object → Object → Bool
+faultyObject types n previous o = not (ascends objectKey previous o && objectFits types o)
 
 -- "both objects present and under the end types"
 unfoldable pub linkFits : Schema → Register → Link → Bool
 linkFits S g l =
-    knownRelationship S (l .relationship)
-    && isUnder S g (l .source) (sourceType S (l .relationship))
-    && isUnder S g (l .target) (targetType S (l .relationship))
+    knownRelationship (S .relationships) (l .relationship)
+    && isUnder (S .types) g (l .source) (sourceType (S .relationships) (l .relationship))
+    && isUnder (S .types) g (l .target) (targetType (S .relationships) (l .relationship))
 
 unfoldable pub faultyLink : Schema → Register → ℕ → Option Link → Link → Bool
 faultyLink S g n previous l = not (ascends linkKey previous l && linkFits S g l)
 
 -- The row of the first faulty object, and that of the first faulty link: "any faulty object [comes] before a link". Of two
 -- neighbours out of order the later is faulty.
-unfoldable pub objectFault : Schema → Register → Option ℕ
-objectFault S g = firstFault (faultyObject S) (g .objects)
+unfoldable pub objectFault : List ObjectType → Register → Option ℕ
+objectFault types g = firstFault (faultyObject types) (g .objects)
 
 unfoldable pub linkFault : Schema → Register → Option ℕ
 linkFault S g = firstFault (faultyLink S g) (g .links)

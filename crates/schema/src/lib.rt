@@ -9,9 +9,8 @@ ghost use lib.Dec.{ltb};
 ghost use Rattle.meaning.specs.Lists.{firstOf};
 ghost use Rattle.meaning.specs.Schema.{ObjectType, Relationship, parentOf, cellsOf, under, sourceType, targetType, nearType, farType, faultyType, faultyRelationship, typeFault, relationshipFault};
 ghost use Rattle.rows.specs.Rows.{wordAt};
-ghost use Rattle.tables.specs.Columns.{typeRow, relationshipRow, schemaOf};
+ghost use Rattle.tables.specs.Columns.{typeRow, relationshipRow, typesOf, relationshipsOf, schemaOf};
 ghost use Rattle.tables.specs.Refusals.{foundOf};
-ghost use Rattle.schema.specs.Tables.{typesWith, relationshipsWith};
 ghost use Rattle.schema.specs.Founds.{firstFound};
 
 // The word that stands for no parent.
@@ -30,7 +29,7 @@ fn used_word(count: u32, table: &[u32], row: u32, column: u32) -> u32
 
 // The type's parent, if it has one.
 fn parent_of(type_count: u32, types: &[u32], t: u32) -> Found
-    ensures { λ r. ⌜ ((rs : List Relationship) → r ≡ foundOf (parentOf (typesWith «type_count» (now (types .entry)) rs) t)) ⌝ }
+    ensures { λ r. ⌜ r ≡ foundOf (parentOf (typesOf «type_count» (now (types .entry))) t) ⌝ }
 {
     if t < type_count {
         let p = rows::word(types, 2, t, 0);
@@ -46,14 +45,14 @@ fn parent_of(type_count: u32, types: &[u32], t: u32) -> Found
 
 // The number of cells of a type.
 pub fn cells_of(type_count: u32, types: &[u32], t: u32) -> u32
-    ensures { λ r. ⌜ ((rs : List Relationship) → r ≡ cellsOf (typesWith «type_count» (now (types .entry)) rs) t) ⌝ }
+    ensures { λ r. ⌜ r ≡ cellsOf (typesOf «type_count» (now (types .entry))) t ⌝ }
 {
     used_word(type_count, types, t, 1)
 }
 
 // Whether type t is u, or under it.
 pub fn under(type_count: u32, types: &[u32], t: u32, u: u32) -> bool
-    ensures { λ r. ⌜ ((rs : List Relationship) → r ≡ under (typesWith «type_count» (now (types .entry)) rs) t u) ⌝ }
+    ensures { λ r. ⌜ r ≡ under (typesOf «type_count» (now (types .entry))) t u ⌝ }
 {
     let mut at = t;
     let mut left = t;
@@ -72,21 +71,21 @@ pub fn under(type_count: u32, types: &[u32], t: u32, u: u32) -> bool
 
 // The type at the source of a relationship.
 pub fn source_type(relationship_count: u32, relationships: &[u32], relationship: u32) -> u32
-    ensures { λ r. ⌜ ((ts : List ObjectType) → r ≡ sourceType (relationshipsWith ts «relationship_count» (now (relationships .entry))) relationship) ⌝ }
+    ensures { λ r. ⌜ r ≡ sourceType (relationshipsOf «relationship_count» (now (relationships .entry))) relationship ⌝ }
 {
     used_word(relationship_count, relationships, relationship, 0)
 }
 
 // The type at the target of a relationship.
 pub fn target_type(relationship_count: u32, relationships: &[u32], relationship: u32) -> u32
-    ensures { λ r. ⌜ ((ts : List ObjectType) → r ≡ targetType (relationshipsWith ts «relationship_count» (now (relationships .entry))) relationship) ⌝ }
+    ensures { λ r. ⌜ r ≡ targetType (relationshipsOf «relationship_count» (now (relationships .entry))) relationship ⌝ }
 {
     used_word(relationship_count, relationships, relationship, 1)
 }
 
 // The type at which a role starts.
 pub fn near_type(relationship_count: u32, relationships: &[u32], role: u32) -> u32
-    ensures { λ r. ⌜ ((ts : List ObjectType) → r ≡ nearType (relationshipsWith ts «relationship_count» (now (relationships .entry))) role) ⌝ }
+    ensures { λ r. ⌜ r ≡ nearType (relationshipsOf «relationship_count» (now (relationships .entry))) role ⌝ }
 {
     if role % 2 == 0 {
         source_type(relationship_count, relationships, role / 2)
@@ -97,7 +96,7 @@ pub fn near_type(relationship_count: u32, relationships: &[u32], role: u32) -> u
 
 // The type to which a role leads.
 pub fn far_type(relationship_count: u32, relationships: &[u32], role: u32) -> u32
-    ensures { λ r. ⌜ ((ts : List ObjectType) → r ≡ farType (relationshipsWith ts «relationship_count» (now (relationships .entry))) role) ⌝ }
+    ensures { λ r. ⌜ r ≡ farType (relationshipsOf «relationship_count» (now (relationships .entry))) role ⌝ }
 {
     if role % 2 == 0 {
         target_type(relationship_count, relationships, role / 2)
@@ -108,7 +107,8 @@ pub fn far_type(relationship_count: u32, relationships: &[u32], role: u32) -> u3
 
 // Whether the row of a type breaks refusal 3: too many cells, or a parent that is not lower or has more cells.
 fn faulty_type(type_count: u32, types: &[u32], t: u32) -> bool
-    ensures { λ r. ⌜ ((rs : List Relationship) (previous : Option ObjectType) → r ≡ faultyType (typesWith «type_count» (now (types .entry)) rs) t previous (typeRow (now (types .entry)) t)) ⌝ }
+    ensures { λ r. ⌜ ((previous : Option ObjectType) →
+        r ≡ faultyType (typesOf «type_count» (now (types .entry))) t previous (typeRow (now (types .entry)) t)) ⌝ }
 {
     let cells = rows::word(types, 2, t, 1);
     if cells > meaning::CELLS {
@@ -127,7 +127,7 @@ fn faulty_type(type_count: u32, types: &[u32], t: u32) -> bool
 
 // The first faulty type, if there is one.
 fn type_fault(type_count: u32, types: &[u32]) -> Found
-    ensures { λ r. ⌜ ((rs : List Relationship) → r ≡ foundOf (typeFault (typesWith «type_count» (now (types .entry)) rs))) ⌝ }
+    ensures { λ r. ⌜ r ≡ foundOf (typeFault (typesOf «type_count» (now (types .entry)))) ⌝ }
 {
     let mut t: u32 = 0;
     while t < type_count {
@@ -141,7 +141,8 @@ fn type_fault(type_count: u32, types: &[u32]) -> Found
 
 // Whether the row of a relationship breaks refusal 3: an end of no known type.
 fn faulty_relationship(type_count: u32, relationships: &[u32], relationship: u32) -> bool
-    ensures { λ r. ⌜ ((types : List ℕ) (rs : List Relationship) (previous : Option Relationship) → r ≡ faultyRelationship (typesWith «type_count» types rs) relationship previous (relationshipRow (now (relationships .entry)) relationship)) ⌝ }
+    ensures { λ r. ⌜ ((types : List ℕ) (previous : Option Relationship) →
+        r ≡ faultyRelationship (typesOf «type_count» types) relationship previous (relationshipRow (now (relationships .entry)) relationship)) ⌝ }
 {
     let source = rows::word(relationships, 2, relationship, 0);
     if source >= type_count {
@@ -181,7 +182,9 @@ pub fn check(
     relationship_count: u32,
     relationships: &[u32],
 ) -> Found
-    ensures { λ r. ⌜ r ≡ foundOf (firstOf (typeFault (schemaOf «type_count» (now (types .entry)) «relationship_count» (now (relationships .entry)))) (relationshipFault (schemaOf «type_count» (now (types .entry)) «relationship_count» (now (relationships .entry))))) ⌝ }
+    ensures { λ r. ⌜ r ≡ foundOf (firstOf
+        (typeFault (typesOf «type_count» (now (types .entry))))
+        (relationshipFault (schemaOf «type_count» (now (types .entry)) «relationship_count» (now (relationships .entry))))) ⌝ }
 {
     let t = type_fault(type_count, types);
     let r = relationship_fault(type_count, relationship_count, relationships);

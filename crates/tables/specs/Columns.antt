@@ -71,10 +71,16 @@ eventOf kind x y z =
 unfoldable pub eventRow : List ℕ → ℕ → Event
 eventRow t i = eventOf (wordAt t 4 i 0) (wordAt t 4 i 1) (wordAt t 4 i 2) (wordAt t 4 i 3)
 
--- The schema, the book, the register and the batch of tables with so many used rows.
+-- The types, the relationships, the schema, the rules, the register and the batch of tables with so many used rows.
+abbrev pub typesOf : ℕ → List ℕ → List ObjectType
+typesOf typeCount types = readRows (typeRow types) typeCount
+
+abbrev pub relationshipsOf : ℕ → List ℕ → List Relationship
+relationshipsOf relationshipCount relationships = readRows (relationshipRow relationships) relationshipCount
+
 abbrev pub schemaOf : ℕ → List ℕ → ℕ → List ℕ → Schema
 schemaOf typeCount types relationshipCount relationships =
-    record { types = readRows (typeRow types) typeCount; relationships = readRows (relationshipRow relationships) relationshipCount }
+    record { types = typesOf typeCount types; relationships = relationshipsOf relationshipCount relationships }
 
 abbrev pub rulesOf : ℕ → List ℕ → List ℕ → List Rule
 rulesOf ruleCount rules bodies = readRows (ruleRow rules bodies) ruleCount

@@ -8,7 +8,7 @@ used-word-requires : tie.Need-used-word-requires
 used-word-requires c κs = search needs
 
 returns : tie.Need-returns
-returns c = λ rs. rw (cells-used _ _ rs _) (c .used-word .ensures)
+returns c = rw (cells-used _ _ _) (c .used-word .ensures)
 
 pub cells-of-spec : {M : Type 1} → statement M
 cells-of-spec = tie.close (tie.spec used-word-requires returns)

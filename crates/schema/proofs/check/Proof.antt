@@ -25,7 +25,8 @@ S c =
 returns : tie.Need-returns
 returns c =
     c .first-of .ensures
-    ∙ first-found (typeFault (S c)) (relationshipFault (S c)) (c .before .before .type-fault .ensures (S c .relationships)) (c .before .relationship-fault .ensures (now (c .before .before .before .before .before .args .types)))
+    ∙ first-found (typeFault (S c .types)) (relationshipFault (S c)) (c .before .before .type-fault .ensures)
+    (c .before .relationship-fault .ensures (now (c .before .before .before .before .before .args .types)))
 
 pub check-spec : {M : Type 1} → statement M
 check-spec =

@@ -13,11 +13,11 @@ source-type-requires c κs = search needs
 
 returns : tie.Need-returns
 unfolding farType
-returns c = λ ts. rw (eq-eqb _ _ (c .before .if1 .taken)) (c .target-type .ensures ts)
+returns c = rw (eq-eqb _ _ (c .before .if1 .taken)) (c .target-type .ensures)
 
 returns-2 : tie.Need-returns-2
 unfolding farType
-returns-2 c = λ ts. rw (ne-eqb _ _ (c .before .if1 .left)) (c .source-type .ensures ts)
+returns-2 c = rw (ne-eqb _ _ (c .before .if1 .left)) (c .source-type .ensures)
 
 pub far-type-spec : {M : Type 1} → statement M
 far-type-spec = tie.close (tie.spec target-type-requires source-type-requires returns returns-2)

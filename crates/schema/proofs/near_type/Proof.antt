@@ -13,11 +13,11 @@ target-type-requires c κs = search needs
 
 returns : tie.Need-returns
 unfolding nearType
-returns c = λ ts. rw (eq-eqb _ _ (c .before .if1 .taken)) (c .source-type .ensures ts)
+returns c = rw (eq-eqb _ _ (c .before .if1 .taken)) (c .source-type .ensures)
 
 returns-2 : tie.Need-returns-2
 unfolding nearType
-returns-2 c = λ ts. rw (ne-eqb _ _ (c .before .if1 .left)) (c .target-type .ensures ts)
+returns-2 c = rw (ne-eqb _ _ (c .before .if1 .left)) (c .target-type .ensures)
 
 pub near-type-spec : {M : Type 1} → statement M
 near-type-spec = tie.close (tie.spec source-type-requires target-type-requires returns returns-2)

@@ -11,14 +11,14 @@ word-requires c κs = search needs
 
 returns : tie.Need-returns
 unfolding typeRow
-returns c = λ rs. rw (parent-used _ _ rs _, lt-ltb _ _ (c .before .before .if1 .taken), ← c .before .word .ensures, eq-eqb _ _ (c .if2 .taken))
+returns c = rw (parent-used _ _ _, lt-ltb _ _ (c .before .before .if1 .taken), ← c .before .word .ensures, eq-eqb _ _ (c .if2 .taken))
 
 returns-2 : tie.Need-returns-2
 unfolding typeRow
-returns-2 c = λ rs. rw (parent-used _ _ rs _, lt-ltb _ _ (c .before .before .if1 .taken), ← c .before .word .ensures, ne-eqb _ _ (c .if2 .left))
+returns-2 c = rw (parent-used _ _ _, lt-ltb _ _ (c .before .before .if1 .taken), ← c .before .word .ensures, ne-eqb _ _ (c .if2 .left))
 
 returns-3 : tie.Need-returns-3
-returns-3 c = λ rs. rw (parent-used _ _ rs _, le-ltb _ _ (c .if1 .left))
+returns-3 c = rw (parent-used _ _ _, le-ltb _ _ (c .if1 .left))
 
 pub parent-of-spec : {M : Type 1} → statement M
 parent-of-spec = tie.close (tie.spec word-requires returns returns-2 returns-3)

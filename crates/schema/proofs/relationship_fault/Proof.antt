@@ -4,14 +4,14 @@ use mathlib.Core.Path.{sym, _∙_}
 use mathlib.Core.List.{List}
 use native.Mathlib.Omega.{arith}
 use Rattle.meaning.specs.Schema.{faultyRelationship, relationshipFault}
-use Rattle.tables.specs.Columns.{relationshipRow, schemaOf}
+use Rattle.tables.specs.Columns.{relationshipRow, typesOf}
 use Rattle.schema.proofs.Scan.{Passed, passed-none, passed-more, passed-found, passed-all}
 use Rattle.schema.proofs.relationship_fault.Statement.{statement}
 use Rattle.schema.proofs.relationship_fault.Tie as tie
 
 abbrev Inv-loop : tie.InvT-loop
 Inv-loop type-count relationship-count relationships relationship₀ relationship =
-    (types : List ℕ) → Passed (faultyRelationship (schemaOf type-count types relationship-count relationships)) (relationshipRow relationships) relationship-count relationship
+    (types : List ℕ) → Passed (faultyRelationship (typesOf type-count types)) (relationshipRow relationships) relationship-count relationship
 
 abbrev μ-loop : tie.MeasureT-loop
 μ-loop type-count relationship-count relationships relationship₀ relationship = relationship-count - relationship
@@ -24,7 +24,7 @@ faulty-relationship-requires c κs = tt
 
 returns : tie.Need-returns Inv-loop μ-loop
 unfolding relationshipFault
-returns c = λ types. rw (passed-found _ _ _ (c .before .before .before .loop .inv types) (c .before .before .loop-test .taken) (sym (c .before .faulty-relationship .ensures types _ _) ∙ c .if1 .taken))
+returns c = λ types. rw (passed-found _ _ _ (c .before .before .before .loop .inv types) (c .before .before .loop-test .taken) (sym (c .before .faulty-relationship .ensures types _) ∙ c .if1 .taken))
 
 add-relationship : tie.Need-add-relationship Inv-loop μ-loop
 add-relationship c = omega arith
@@ -33,7 +33,7 @@ loop-less : tie.Need-loop-less Inv-loop μ-loop
 loop-less c = omega arith
 
 loop-again : tie.Need-loop-again Inv-loop μ-loop
-loop-again c = λ types. passed-more _ _ _ (c .before .before .before .loop .inv types) (c .before .before .loop-test .taken) (sym (c .before .faulty-relationship .ensures types _ _) ∙ c .if1 .left)
+loop-again c = λ types. passed-more _ _ _ (c .before .before .before .loop .inv types) (c .before .before .loop-test .taken) (sym (c .before .faulty-relationship .ensures types _) ∙ c .if1 .left)
 
 returns-2 : tie.Need-returns-2 Inv-loop μ-loop
 unfolding relationshipFault

@@ -8,7 +8,7 @@ used-word-requires : tie.Need-used-word-requires
 used-word-requires c κs = search needs
 
 returns : tie.Need-returns
-returns c = λ ts. rw (source-used ts _ _ _) (c .used-word .ensures)
+returns c = rw (source-used _ _ _) (c .used-word .ensures)
 
 pub source-type-spec : {M : Type 1} → statement M
 source-type-spec = tie.close (tie.spec used-word-requires returns)

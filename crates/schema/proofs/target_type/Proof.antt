@@ -8,7 +8,7 @@ used-word-requires : tie.Need-used-word-requires
 used-word-requires c κs = search needs
 
 returns : tie.Need-returns
-returns c = λ ts. rw (target-used ts _ _ _) (c .used-word .ensures)
+returns c = rw (target-used _ _ _) (c .used-word .ensures)
 
 pub target-type-spec : {M : Type 1} → statement M
 target-type-spec = tie.close (tie.spec used-word-requires returns)

@@ -1,30 +1,28 @@
 -- `schema::type_fault` meets its contract. The invariant: the types before t are passed. The measure is what is left of them.
 use Prim.Native.Nat.{_-_}
 use mathlib.Core.Path.{sym, _∙_}
-use mathlib.Core.List.{List}
 use native.Mathlib.Omega.{arith}
-use Rattle.meaning.specs.Schema.{Relationship, faultyType, typeFault}
-use Rattle.tables.specs.Columns.{typeRow}
-use Rattle.schema.specs.Tables.{typesWith}
+use Rattle.meaning.specs.Schema.{faultyType, typeFault}
+use Rattle.tables.specs.Columns.{typeRow, typesOf}
 use Rattle.schema.proofs.Scan.{Passed, passed-none, passed-more, passed-found, passed-all}
 use Rattle.schema.proofs.type_fault.Statement.{statement}
 use Rattle.schema.proofs.type_fault.Tie as tie
 
 abbrev Inv-loop : tie.InvT-loop
-Inv-loop type-count types t₀ t = (rs : List Relationship) → Passed (faultyType (typesWith type-count types rs)) (typeRow types) type-count t
+Inv-loop type-count types t₀ t = Passed (faultyType (typesOf type-count types)) (typeRow types) type-count t
 
 abbrev μ-loop : tie.MeasureT-loop
 μ-loop type-count types t₀ t = type-count - t
 
 loop-holds : tie.Need-loop-holds Inv-loop μ-loop
-loop-holds c = λ rs. passed-none _ _ _
+loop-holds c = passed-none _ _ _
 
 faulty-type-requires : tie.Need-faulty-type-requires Inv-loop μ-loop
 faulty-type-requires c κs = tt
 
 returns : tie.Need-returns Inv-loop μ-loop
 unfolding typeFault
-returns c = λ rs. rw (passed-found _ _ _ (c .before .before .before .loop .inv rs) (c .before .before .loop-test .taken) (sym (c .before .faulty-type .ensures rs _) ∙ c .if1 .taken))
+returns c = rw (passed-found _ _ _ (c .before .before .before .loop .inv) (c .before .before .loop-test .taken) (sym (c .before .faulty-type .ensures _) ∙ c .if1 .taken))
 
 add-t : tie.Need-add-t Inv-loop μ-loop
 add-t c = omega arith
@@ -33,11 +31,11 @@ loop-less : tie.Need-loop-less Inv-loop μ-loop
 loop-less c = omega arith
 
 loop-again : tie.Need-loop-again Inv-loop μ-loop
-loop-again c = λ rs. passed-more _ _ _ (c .before .before .before .loop .inv rs) (c .before .before .loop-test .taken) (sym (c .before .faulty-type .ensures rs _) ∙ c .if1 .left)
+loop-again c = passed-more _ _ _ (c .before .before .before .loop .inv) (c .before .before .loop-test .taken) (sym (c .before .faulty-type .ensures _) ∙ c .if1 .left)
 
 returns-2 : tie.Need-returns-2 Inv-loop μ-loop
 unfolding typeFault
-returns-2 c = λ rs. rw (passed-all _ _ _ (c .before .loop .inv rs) (c .loop-test .left))
+returns-2 c = rw (passed-all _ _ _ (c .before .loop .inv) (c .loop-test .left))
 
 pub type-fault-spec : {M : Type 1} → statement M
 type-fault-spec =

@@ -1,26 +1,25 @@
 -- `schema::under` meets its contract. The invariant: what is left of the way up decides. The measure is the number of steps left.
 use mathlib.Core.Path.{_≡_, refl, sym, _∙_}
-use mathlib.Core.List.{List}
 use native.Mathlib.Omega.{arith}
 use borrow.Author.Needs.{needs}
-use Rattle.meaning.specs.Schema.{Relationship, climbs, under}
+use Rattle.meaning.specs.Schema.{climbs, under}
+use Rattle.tables.specs.Columns.{typesOf}
 use Rattle.schema.proofs.Climb.{climb-there, climb-end, climb-top, climb-up}
-use Rattle.schema.specs.Tables.{typesWith}
 use Rattle.schema.proofs.under.Statement.{statement}
 use Rattle.schema.proofs.under.Tie as tie
 
 abbrev Inv-loop : tie.InvT-loop
-Inv-loop type-count types t u at₀ left₀ at left = (rs : List Relationship) → under (typesWith type-count types rs) t u ≡ climbs (typesWith type-count types rs) left at u
+Inv-loop type-count types t u at₀ left₀ at left = under (typesOf type-count types) t u ≡ climbs (typesOf type-count types) left at u
 
 abbrev μ-loop : tie.MeasureT-loop
 μ-loop type-count types t u at₀ left₀ at left = left
 
 loop-holds : tie.Need-loop-holds Inv-loop μ-loop
 unfolding under
-loop-holds c = λ rs. refl
+loop-holds c = refl
 
 returns : tie.Need-returns Inv-loop μ-loop
-returns c = λ rs. rw (c .before .before .loop .inv rs) (sym (climb-there _ _ (c .if1 .taken)))
+returns c = rw (c .before .before .loop .inv) (sym (climb-there _ _ (c .if1 .taken)))
 
 parent-of-requires : tie.Need-parent-of-requires Inv-loop μ-loop
 parent-of-requires c κs = tt
@@ -34,9 +33,8 @@ enum-told c = search needs
 returns-2 : tie.Need-returns-2 Inv-loop μ-loop
 returns-2 c =
     let turn = c .before .before .before in
-    λ rs.
-    rw (turn .before .before .loop .inv rs)
-    (sym (climb-top _ _ (turn .before .loop-test .taken) (turn .if1 .left) (sym (c .enum-told .given .1) ∙ c .before .before .parent-of .ensures rs)))
+    rw (turn .before .before .loop .inv)
+    (sym (climb-top _ _ (turn .before .loop-test .taken) (turn .if1 .left) (sym (c .enum-told .given .1) ∙ c .before .before .parent-of .ensures)))
 
 sub-left : tie.Need-sub-left Inv-loop μ-loop
 sub-left c = omega arith
@@ -47,12 +45,11 @@ loop-less c = omega arith
 loop-again : tie.Need-loop-again Inv-loop μ-loop
 loop-again c =
     let turn = c .before .before .before .before in
-    λ rs.
-    turn .before .before .loop .inv rs
-    ∙ climb-up _ _ (turn .before .loop-test .taken) (turn .if1 .left) (sym (c .before .p .given .1) ∙ c .before .before .before .parent-of .ensures rs)
+    turn .before .before .loop .inv
+    ∙ climb-up _ _ (turn .before .loop-test .taken) (turn .if1 .left) (sym (c .before .p .given .1) ∙ c .before .before .before .parent-of .ensures)
 
 returns-3 : tie.Need-returns-3 Inv-loop μ-loop
-returns-3 c = λ rs. rw (c .before .loop .inv rs) (sym (climb-end _ _ _ _ (c .loop-test .left)))
+returns-3 c = rw (c .before .loop .inv) (sym (climb-end _ _ _ _ (c .loop-test .left)))
 
 pub under-spec : {M : Type 1} → statement M
 under-spec =
