@@ -2,7 +2,7 @@
 use Prim.Native.Nat.{ℕ, zero, suc, _+_, _-_, _^_, _≤_, _<_}
 use mathlib.Core.Path.{_≡_, refl, sym, ap, subst, _∙_}
 use mathlib.Core.Logic.{⊎-elim}
-use mathlib.Core.Bool.{true, false, _&&_, not}
+use mathlib.Core.Bool.{Bool, true, false, _&&_, not, cond}
 use mathlib.Core.List.{List}
 use native.Mathlib.Numerals.{add-one}
 use native.Mathlib.Omega.{arith}
@@ -15,13 +15,14 @@ use mir.Facts.{ltb-yes, ltb-no, yes-ltb}
 use borrow.Author.Tests.{lt-ltb, le-ltb, lt-leb, eq-eqb, ne-eqb}
 use Rattle.meaning.specs.Lists.{every}
 use Rattle.meaning.specs.Limits.{fitsWord, cellCount}
-use Rattle.meaning.specs.Schema.{Schema, cellsOf}
+use Rattle.meaning.specs.Schema.{ObjectType, cellsOf}
 use Rattle.meaning.specs.Register.{isZero, cellsFit}
 use Rattle.meaning.proofs.Lists.{decide, cond-yes}
 use Rattle.rows.specs.Rows.{wordAt, rowsFrom, readRows, signed}
 use Rattle.rows.proofs.Words.{signed-fits}
 use Rattle.tables.specs.Columns.{objectRow}
 use Rattle.schema.proofs.Rows.{length-rows, row-used}
+use Rattle.register.specs.Tables.{cellWord}
 
 positive : (w : ℕ) → w < 2 ^ 31 → signed w ≡ pos w
 positive w h = rw (lt-ltb w (2 ^ 31) h)
@@ -67,20 +68,31 @@ module _ (read : ℕ → ℕ) where
 
 module _ (objects : List ℕ) (i : ℕ) where
   -- the cells of a row are eight, each of 32 bits
-  pub row-cells : (S : Schema) → cellsFit S (objectRow objects i) ≡ every isZero (drop (cellsOf S ((objectRow objects i) .type)) ((objectRow objects i) .cells))
+  pub row-cells : (types : List ObjectType) → cellsFit types (objectRow objects i) ≡ every isZero (drop (cellsOf types ((objectRow objects i) .type)) ((objectRow objects i) .cells))
   unfolding cellsFit objectRow
-  row-cells S = rw (from-fit (λ k. wordAt objects 10 i (2 + k)) 0 cellCount)
+  row-cells types = rw (from-fit (λ k. wordAt objects 10 i (2 + k)) 0 cellCount)
 
   pub cells-end : {k : ℕ} → cellCount ≤ k → every isZero (drop k ((objectRow objects i) .cells)) ≡ true
   unfolding objectRow
   cells-end h = zero-end (λ k. wordAt objects 10 i (2 + k)) cellCount h
 
-  cells-step : {k : ℕ} → k < cellCount → every isZero (drop k ((objectRow objects i) .cells)) ≡ (eqb (wordAt objects 10 i (2 + k)) 0 && every isZero (drop (k + 1) ((objectRow objects i) .cells)))
-  unfolding objectRow
-  cells-step h = zero-step (λ k. wordAt objects 10 i (2 + k)) cellCount h
+  cells-step : {k : ℕ} → k < cellCount → every isZero (drop k ((objectRow objects i) .cells)) ≡ (eqb (cellWord objects i k) 0 && every isZero (drop (k + 1) ((objectRow objects i) .cells)))
+  unfolding objectRow cellWord
+  cells-step {k} h = rw (lt-ltb k cellCount h) (zero-step (λ k. wordAt objects 10 i (2 + k)) cellCount h)
 
-  pub cells-used : {k : ℕ} → k < cellCount → (wordAt objects 10 i (2 + k) ≡ 0 → ⊥) → every isZero (drop k ((objectRow objects i) .cells)) ≡ false
-  cells-used h d = cells-step h ∙ rw (ne-eqb _ _ d)
+  -- w is the word in the cell
+  module _ {k w : ℕ} (e : w ≡ cellWord objects i k) (h : k < cellCount) where
+    pub cells-used : (w ≡ 0 → ⊥) → every isZero (drop k ((objectRow objects i) .cells)) ≡ false
+    cells-used d = cells-step h ∙ rw (← e, ne-eqb _ _ d)
 
-  pub cells-on : {k : ℕ} → k < cellCount → wordAt objects 10 i (2 + k) ≡ 0 → every isZero (drop k ((objectRow objects i) .cells)) ≡ every isZero (drop (k + 1) ((objectRow objects i) .cells))
-  cells-on h e = cells-step h ∙ rw (eq-eqb _ _ e)
+    pub cells-on : w ≡ 0 → every isZero (drop k ((objectRow objects i) .cells)) ≡ every isZero (drop (k + 1) ((objectRow objects i) .cells))
+    cells-on q = cells-step h ∙ rw (← e, eq-eqb _ _ q)
+
+  -- the value of a cell is its word's, and 0 where there is none
+  pub cell-value : (k : ℕ) → signed (cellWord objects i k) ≡ getD ((objectRow objects i) .cells) k (pos 0)
+  unfolding objectRow cellWord
+  cell-value k = step (ltb k cellCount) ∙ sym (row-used (λ k. signed (wordAt objects 10 i (2 + k))) (λ z. z) cellCount k (pos 0))
+    where
+      step : (b : Bool) → signed (cond b (wordAt objects 10 i (2 + k)) 0) ≡ cond b (signed (wordAt objects 10 i (2 + k))) (pos 0)
+      step true = refl
+      step false = refl

@@ -60,6 +60,10 @@ module _ (m : ℕ) (objects : List ℕ) where
         not-T (own (objectRow objects j)) (λ t. absurd (omega (arith, eqb-yes {a = (objectRow objects j) .id} t)))))
         h (yes-eqb {a = (objectRow objects row) .id} refl)
 
+    -- so a row that has the id is the object's, however it was come by
+    pub guessed-place : {id : ℕ} → (objectRow objects row) .id ≡ id → objectPlace m objects id ≡ some row
+    guessed-place e = subst (λ x. objectPlace m objects x ≡ some row) e own-place
+
     pub own-row : rowAt m objects ((objectRow objects row) .id) ≡ row
     unfolding rowAt
     own-row = ap orZero own-place

@@ -25,7 +25,7 @@ use Rattle.register.proofs.Places.{ordered, row-there}
 use Rattle.register.proofs.Far.{reaches, reach, missed, far-found, far-none}
 use Rattle.register.proofs.Chains.{Lead, lead-some, lead-none}
 use Rattle.register.proofs.Rows.{row-is}
-use Rattle.register.proofs.Slots.{near-same, far-same, near-present, far-present}
+use Rattle.register.proofs.Ends.{near-same, far-same, near-present, far-present}
 pub use Rattle.register.proofs.Rows.{own-place, own-row}
 
 -- links of one relationship and near end stand by their far ends
@@ -133,7 +133,7 @@ module _ {m : ℕ} {objects : List ℕ} {n : ℕ} {links index : List ℕ} (x : 
       word-far : (w : ℕ) → w ≡ lead key (2 * n) own from → farId objects index (slotWord slotAt w) ≡ first (leb least) (farEnds g role u)
       word-far zero e =
           sym
-          (far-none role u least (g .objects) n links
+          (far-none role u least m objects n links
           (hit-none hit L n (passed-none _ _ n) (λ i k l. unreached i l (λ b q. lead-none key own (2 * n) from e (placeOf i) b (omega arith) q))))
       word-far (suc p) e =
           let l = lead-some key own (2 * n) from e in
@@ -144,7 +144,7 @@ module _ {m : ℕ} {objects : List ℕ} {n : ℕ} {links index : List ℕ} (x : 
           let reached = reach role u least (L (p / 2))
           (record { relationship-is = o .relationship-is; near-is = o .near-is; far-from = ahead (p / 2) o (omega (arith, t .place-is, l .from)) }) in
           ap some (far-row p (l .within) .1 ∙ far-same p role (t .parity) (L (p / 2)))
-          ∙ sym (far-found role u least (g .objects) n links (hit-at hit L n first-one (o .link) reached))
+          ∙ sym (far-found role u least m objects n links (hit-at hit L n first-one (o .link) reached))
 
   -- ---- the first slot
 

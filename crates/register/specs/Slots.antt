@@ -9,7 +9,7 @@ use Prim.Native.Nat.{ℕ, zero, suc, _+_, _*_, _/_, _%_, _≤_, _<_}
 use mathlib.Core.Path.{_≡_}
 use mathlib.Core.List.{List}
 use mathlib.Core.Option.{Option, none, some}
-use lib.ListN.{getD}
+use lib.ListN.{getD, set}
 use Rattle.meaning.specs.Limits.{maxRelationships, maxObjects, maxLinks}
 use Rattle.meaning.specs.Register.{nearEnd, farEnd}
 use Rattle.tables.specs.Columns.{objectRow, linkRow}
@@ -54,6 +54,15 @@ nextWord index s = getD index (8192 + s) 0
 
 abbrev pub headWord : List ℕ → ℕ → ℕ
 headWord index k = getD index (16384 + k) 0
+
+-- the table with one slot more: its far row, and its place at the head of its key's chain, before what was the head
+abbrev pub laid : List ℕ → ℕ → ℕ → ℕ → List ℕ
+laid index slot key far = set (set (set index slot far) (8192 + slot) (headWord index key)) (16384 + key) (suc slot)
+
+-- the same with both slots of a link: backward from its target, and forward from its source
+abbrev pub laidLink : List ℕ → ℕ → ℕ → ℕ → ℕ → List ℕ
+laidLink index link relationship source target =
+    laid (laid index (4096 + link) ((relationship * 2 + 1) * 1024 + target) source) link (relationship * 2 * 1024 + source) target
 
 -- The links can be indexed: they and the objects keep their limits, and of each link the relationship is known and "both objects present".
 pub record Indexable (m : ℕ) (objects : List ℕ) (n : ℕ) (links : List ℕ) : Type 0 where

@@ -1,13 +1,15 @@
--- A register of which only one of its two tables is at hand, and its rows.
-use Prim.Native.Nat.{ℕ}
+-- A register of which only one of its two tables is at hand, its rows, and its cells.
+use Prim.Native.Nat.{ℕ, _+_}
+use mathlib.Core.Bool.{cond}
 use mathlib.Core.List.{List}
 use mathlib.Core.Option.{Option}
-use lib.Dec.{eqb}
+use lib.Dec.{ltb, eqb}
 use Rattle.meaning.specs.Lists.{firstFault}
+use Rattle.meaning.specs.Limits.{cellCount}
 use Rattle.meaning.specs.Register.{Object, Link, Register, objectKey, linkKey, sameLink}
 use Rattle.meaning.proofs.Lists.{Ascending}
 use Rattle.meaning.proofs.Order.{Before}
-use Rattle.rows.specs.Rows.{readRows}
+use Rattle.rows.specs.Rows.{wordAt, readRows}
 use Rattle.tables.specs.Columns.{objectRow, linkRow}
 
 -- what is said of such a register holds whatever the other table is
@@ -30,3 +32,7 @@ objectPlace objectCount objects id = firstFault (λ n previous o. eqb (o .id) id
 
 abbrev pub linkPlace : ℕ → List ℕ → Link → Option ℕ
 linkPlace linkCount links l = firstFault (λ n previous k. sameLink l k) (readRows (linkRow links) linkCount)
+
+-- the word in a cell of an object's row; "eight signed 32-bit cells", and 0 where there is none
+unfoldable pub cellWord : List ℕ → ℕ → ℕ → ℕ
+cellWord objects row cell = cond (ltb cell cellCount) (wordAt objects 10 row (2 + cell)) 0

@@ -12,6 +12,13 @@ pub fn word(t: &[u32], width: u32, row: u32, column: u32) -> u32
     if at < t.len() { t[at] } else { 0 }
 }
 
+// A 16-bit word as one of 32 bits.
+pub fn wide(half: u16) -> u32
+    ensures { λ r. ⌜ r ≡ half ⌝ }
+{
+    half as u32
+}
+
 // Whether the slice is whole rows; of width 0, whether it is empty.
 pub fn whole(t: &[u32], width: u32) -> bool
     ensures { λ r. ⌜ r ≡ wholeRows (now (t .entry)) width ⌝ }

@@ -1,20 +1,28 @@
 -- `register::check` meets its contract. Objects of which none is faulty ascend, so the links can be checked by search.
 use mathlib.Core.Path.{sym, _∙_}
+use mathlib.Core.List.{List}
 use denote.Ref.{now}
 use borrow.Author.Needs.{needs}
-use Rattle.meaning.specs.Schema.{Schema}
+use Rattle.meaning.specs.Schema.{ObjectType, Schema}
 use Rattle.meaning.specs.Register.{Register, objectFault, linkFault}
-use Rattle.tables.specs.Columns.{schemaOf, registerOf}
+use Rattle.tables.specs.Columns.{typesOf, schemaOf, registerOf}
 use Rattle.schema.proofs.Founds.{found-none, found-first, found-second}
 use Rattle.register.proofs.Searches.{objects-ascend}
 use Rattle.register.proofs.check.Statement.{statement}
 use Rattle.register.proofs.check.Tie as tie
 
-abbrev S : tie.Start → Schema
-S c = schemaOf (c .args .type-count) (now (c .args .types)) (c .args .relationship-count) (now (c .args .relationships))
+abbrev types : tie.Start → List ObjectType
+types c = typesOf (c .args .type-count) (now (c .args .types))
 
-abbrev g : tie.Start → Register
-g c = registerOf (c .args .object-count) (now (c .args .objects)) (c .args .link-count) (now (c .args .links))
+abbrev schema : tie.Start → Schema
+schema c = schemaOf (c .args .type-count) (now (c .args .types)) (c .args .relationship-count) (now (c .args .relationships))
+
+abbrev register : tie.Start → Register
+register c = registerOf (c .args .object-count) (now (c .args .objects)) (c .args .link-count) (now (c .args .links))
+
+-- where the check of the objects left
+abbrev at-start : tie.After-object-fault → tie.Start
+at-start c = c .before .before .before .before .before
 
 object-fault-requires : tie.Need-object-fault-requires
 object-fault-requires c κs = search needs
@@ -25,22 +33,33 @@ enum-known-row c = search needs
 enum-told : tie.Need-enum-told
 enum-told c = search needs
 
+guesses-requires : tie.Need-guesses-requires
+guesses-requires c κs = search needs
+
 link-fault-requires : tie.Need-link-fault-requires
 link-fault-requires c κs =
-    let start = c .before .before .before .before .before .before .before in
-    objects-ascend (S start) (start .args .object-count) (now (start .args .objects)) (g start .links) (found-none _ (sym (c .enum-told .given .1) ∙ c .before .before .object-fault .ensures (S start .relationships) (g start .links)))
+    let told = c .before .before in
+    let objects = told .before .before in
+    let start = at-start objects in
+    objects-ascend (types start) (start .args .object-count) (now (start .args .objects)) (register start .links)
+    (found-none _ (sym (told .enum-told .given .1) ∙ objects .object-fault .ensures (register start .links)))
 
 returns : tie.Need-returns
 returns c =
-    let start = c .before .before .before .before .before .before .before .before in
-    found-first (objectFault (S start) (g start)) (linkFault (S start) (g start)) (sym (c .before .row .given .1) ∙ c .before .before .before .object-fault .ensures (S start .relationships) (g start .links))
+    let objects = c .before .before .before in
+    let start = at-start objects in
+    found-first (objectFault (types start) (register start)) (linkFault (schema start) (register start))
+    (sym (c .before .row .given .1) ∙ objects .object-fault .ensures (register start .links))
 
 returns-2 : tie.Need-returns-2
 returns-2 c =
-    let start = c .before .before .before .before .before .before .before .before in
-    found-second (objectFault (S start) (g start)) (linkFault (S start) (g start)) (sym (c .before .enum-told .given .1) ∙ c .before .before .before .object-fault .ensures (S start .relationships) (g start .links)) (c .link-fault .ensures)
+    let told = c .before .before .before in
+    let objects = told .before .before in
+    let start = at-start objects in
+    found-second (objectFault (types start) (register start)) (linkFault (schema start) (register start))
+    (sym (told .enum-told .given .1) ∙ objects .object-fault .ensures (register start .links)) (c .link-fault .ensures)
 
 pub check-spec : {M : Type 1} → statement M
 check-spec =
     tie.close
-    (tie.spec object-fault-requires enum-known-row enum-told link-fault-requires returns returns-2)
+    (tie.spec object-fault-requires enum-known-row enum-told guesses-requires link-fault-requires returns returns-2)

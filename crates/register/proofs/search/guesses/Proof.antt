@@ -1,0 +1,61 @@
+-- `register::search::guesses` meets its contract, which promises nothing.
+use Prim.Native.Nat.{_-_}
+use mathlib.Core.Path.{_≡_}
+use native.Mathlib.Omega.{arith}
+use lib.ListN.{length}
+use borrow.Author.Needs.{needs}
+use Rattle.register.proofs.search.guesses.Statement.{statement}
+use Rattle.register.proofs.search.guesses.Tie as tie
+
+abbrev Inv-loop : tie.InvT-loop
+Inv-loop object-count objects table₀ row₀ table row = length table ≡ 4096
+
+abbrev μ-loop : tie.MeasureT-loop
+μ-loop object-count objects table₀ row₀ table row = object-count - row
+
+loop-holds : tie.Need-loop-holds Inv-loop μ-loop
+loop-holds c = search needs
+
+id-of-requires : tie.Need-id-of-requires Inv-loop μ-loop
+id-of-requires c κs = search needs
+
+cast-at : tie.Need-cast-at Inv-loop μ-loop
+cast-at c = search needs
+
+cast-table : tie.Need-cast-table Inv-loop μ-loop
+cast-table c = search needs
+
+mul-table : tie.Need-mul-table Inv-loop μ-loop
+mul-table c = search needs
+
+array-write-table : tie.Need-array-write-table Inv-loop μ-loop
+array-write-table c = search needs
+
+add-row : tie.Need-add-row Inv-loop μ-loop
+add-row c = omega arith
+
+loop-less : tie.Need-loop-less Inv-loop μ-loop
+loop-less c = omega arith
+
+loop-again : tie.Need-loop-again Inv-loop μ-loop
+loop-again c = search needs
+
+returns : tie.Need-returns Inv-loop μ-loop
+returns c = search needs
+
+pub guesses-spec : {M : Type 1} → statement M
+guesses-spec =
+    tie.close
+    (tie.spec
+    Inv-loop
+    μ-loop
+    loop-holds
+    id-of-requires
+    cast-at
+    cast-table
+    mul-table
+    array-write-table
+    add-row
+    loop-less
+    loop-again
+    returns)

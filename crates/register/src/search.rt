@@ -1,0 +1,89 @@
+// The rows of ids and of links: by binary search, and for ids by a guess that is tested before it is used.
+use crate::columns;
+use tables::Found;
+ghost use mathlib.Core.Path.{_≡_};
+ghost use Rattle.meaning.specs.Register.{sameLink};
+ghost use Rattle.meaning.specs.Events.{linkOf};
+ghost use Rattle.tables.specs.Columns.{linkRow};
+ghost use Rattle.tables.specs.Refusals.{foundOf};
+ghost use Rattle.register.specs.Tables.{ObjectsAscend, LinksAscend, objectPlace, linkPlace};
+
+// The row of the object of an id.
+pub fn object_row(object_count: u32, objects: &[u32], id: u32) -> Found
+    requires { ⌜ ObjectsAscend «object_count» (now objects) ⌝ }
+    ensures { λ r. ⌜ r ≡ foundOf (objectPlace «object_count» (now (objects .entry)) id) ⌝ }
+{
+    let key = [id];
+    let row = rows::place(objects, 10, object_count, 1, &key);
+    if row >= object_count {
+        return Found::Nothing;
+    }
+    if columns::id_of(objects, row) == id {
+        Found::At(row)
+    } else {
+        Found::Nothing
+    }
+}
+
+// Whether a link's row is a link.
+fn is_link(links: &[u32], row: u32, relationship: u32, source: u32, target: u32) -> bool
+    ensures { λ r. ⌜ r ≡ sameLink (linkOf relationship source target) (linkRow (now (links .entry)) row) ⌝ }
+{
+    if relationship != columns::relationship_of(links, row) {
+        return false;
+    }
+    if source != columns::source_of(links, row) {
+        return false;
+    }
+    target == columns::target_of(links, row)
+}
+
+// The row of a link.
+pub fn link_row(
+    link_count: u32,
+    links: &[u32],
+    relationship: u32,
+    source: u32,
+    target: u32,
+) -> Found
+    requires { ⌜ LinksAscend «link_count» (now links) ⌝ }
+    ensures { λ r. ⌜ r ≡ foundOf (linkPlace «link_count» (now (links .entry)) (linkOf relationship source target)) ⌝ }
+{
+    let key = [relationship, source, target];
+    let row = rows::place(links, 3, link_count, 3, &key);
+    if row >= link_count {
+        return Found::Nothing;
+    }
+    if is_link(links, row, relationship, source, target) {
+        Found::At(row)
+    } else {
+        Found::Nothing
+    }
+}
+
+// For each value of an id's last 12 bits a row that may have such an id. Nothing is promised of it: a guess is tested before it is used.
+pub fn guesses(object_count: u32, objects: &[u32]) -> [u16; 4096] {
+    let mut table = [0u16; 4096];
+    let mut row: u32 = 0;
+    while row < object_count {
+        let at = (columns::id_of(objects, row) % 4096) as usize;
+        table[at] = (row % 65536) as u16;
+        row += 1;
+    }
+    table
+}
+
+// The row of the object of an id, whatever the guesses are: most often the guessed one, else it is searched for.
+pub fn quick_row(object_count: u32, objects: &[u32], table: &[u16; 4096], id: u32) -> Found
+    requires { ⌜ ObjectsAscend «object_count» (now objects) ⌝ }
+    ensures { λ r. ⌜ r ≡ foundOf (objectPlace «object_count» (now (objects .entry)) id) ⌝ }
+{
+    let at = (id % 4096) as usize;
+    let guess = rows::wide(table[at]);
+    if guess < object_count {
+        if columns::id_of(objects, guess) == id {
+            return Found::At(guess);
+        }
+    }
+    object_row(object_count, objects, id)
+}
