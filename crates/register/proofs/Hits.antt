@@ -70,7 +70,13 @@ module _ {A : Type 0} (hit : A → Bool) where
   first-from read j zero previous = refl
   first-from read j (suc n) previous = step (hit (read j)) (first-from read (suc j) n (some (read j)))
     where
-      step : (b : Bool) → first hit (rowsFrom read (suc j) n) ≡ Option·map read (faultFrom (alone hit) (suc j) (some (read j)) (rowsFrom read (suc j) n)) → cond b (some (read j)) (first hit (rowsFrom read (suc j) n)) ≡ Option·map read (cond b (some j) (faultFrom (alone hit) (suc j) (some (read j)) (rowsFrom read (suc j) n)))
+      after : Option A
+      after = first hit (rowsFrom read (suc j) n)
+
+      place : Option ℕ
+      place = faultFrom (alone hit) (suc j) (some (read j)) (rowsFrom read (suc j) n)
+
+      step : (b : Bool) → after ≡ Option·map read place → cond b (some (read j)) after ≡ Option·map read (cond b (some j) place)
       step true below = refl
       step false below = below
 

@@ -26,17 +26,24 @@ enum-told c = search needs
 
 returns : tie.Need-returns
 returns c =
-    let start = c .before .before .before .before .before .before .before .before .args in
+    let matched = c .before .before .before in
+    let found = matched .before .before in
+    let start = found .before .before .before .args in
     λ ls.
     c .under .ensures
     ∙ ap (λ x. under (typesOf (start .type-count) (now (start .types))) x (start .t)) (c .before .type-of .ensures)
-    ∙ sym (under-found _ (start .object-count) (now (start .objects)) ls (start .id) (start .t) (found-some _ (sym (c .before .before .before .row .given .1) ∙ c .before .before .before .before .before .quick-row .ensures)))
+    ∙ sym
+    (under-found _ (start .object-count) (now (start .objects)) ls (start .id) (start .t)
+    (found-some _ (sym (matched .row .given .1) ∙ found .quick-row .ensures)))
 
 returns-2 : tie.Need-returns-2
 returns-2 c =
-    let start = c .before .before .before .before .before .args in
+    let found = c .before .before in
+    let start = found .before .before .before .args in
     λ ls.
-    sym (under-missing _ (start .object-count) (now (start .objects)) ls (start .id) (start .t) (found-none _ (sym (c .enum-told .given .1) ∙ c .before .before .quick-row .ensures)))
+    sym
+    (under-missing _ (start .object-count) (now (start .objects)) ls (start .id) (start .t)
+    (found-none _ (sym (c .enum-told .given .1) ∙ found .quick-row .ensures)))
 
 pub is-under-spec : {M : Type 1} → statement M
 is-under-spec =

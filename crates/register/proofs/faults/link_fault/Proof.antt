@@ -19,7 +19,7 @@ loop-holds : tie.Need-loop-holds Inv-loop μ-loop
 loop-holds c = passed-none _ _ _
 
 faulty-link-requires : tie.Need-faulty-link-requires Inv-loop μ-loop
-faulty-link-requires c κs = c .before .before .before .before .before .before .pre
+faulty-link-requires c κs = let loop = c .before in loop .before .before .before .before .before .pre
 
 returns : tie.Need-returns Inv-loop μ-loop
 unfolding linkFault

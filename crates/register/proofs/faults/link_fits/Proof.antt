@@ -1,18 +1,10 @@
 -- `register::faults::link_fits` meets its contract. Each return has met the tests that decide `linkFits`.
-use denote.Ref.{now}
 use borrow.Author.Tests.{lt-ltb, le-ltb}
 use borrow.Author.Needs.{needs}
-use Rattle.meaning.specs.Schema.{Schema}
 use Rattle.meaning.specs.Register.{linkFits}
-use Rattle.tables.specs.Columns.{schemaOf}
 use Rattle.schema.proofs.Types.{relationship-known}
 use Rattle.register.proofs.faults.link_fits.Statement.{statement}
 use Rattle.register.proofs.faults.link_fits.Tie as tie
-
-abbrev S : tie.After-shared-slice-known4 → Schema
-S c =
-    let start = c .before .before .before .before .args in
-    schemaOf (start .type-count) (now (start .types)) (start .relationship-count) (now (start .relationships))
 
 relationship-of-requires : tie.Need-relationship-of-requires
 relationship-of-requires c κs = search needs
@@ -42,21 +34,37 @@ is-under-requires-2 c κs = search needs
 returns-2 : tie.Need-returns-2
 unfolding linkFits
 returns-2 c =
-    let known = c .before .before .before .before .before .before .before in
-    let g = S (c .before .before .before .before .before .before .before .before .before) in
+    let target = c .before in
+    let under = target .before .before .before in
+    let source = under .before in
+    let known = source .before .before in
     λ ls.
-    simp
-    (← known .before .relationship-of .ensures, relationship-known, lt-ltb _ _ (known .if1 .left), ← c .before .before .before .before .before .before .source-type .ensures, ← c .before .before .before .before .before .source-of .ensures, ← c .before .before .before .before .is-under .ensures ls, c .before .before .before .if2 .taken)
-    (rw (← c .before .before .target-type .ensures, ← c .before .target-of .ensures) (c .is-under2 .ensures ls))
+    simp (
+      ← known .before .relationship-of .ensures,
+      relationship-known,
+      lt-ltb _ _ (known .if1 .left),
+      ← source .before .source-type .ensures,
+      ← source .source-of .ensures,
+      ← under .is-under .ensures ls,
+      target .before .before .if2 .taken,
+    )
+    (rw (← target .before .target-type .ensures, ← target .target-of .ensures) (c .is-under2 .ensures ls))
 
 returns-3 : tie.Need-returns-3
 unfolding linkFits
 returns-3 c =
-    let known = c .before .before .before .before in
-    let g = S (c .before .before .before .before .before .before) in
+    let source = c .before .before in
+    let known = source .before .before in
     λ ls.
-    simp
-    (← known .before .relationship-of .ensures, relationship-known, lt-ltb _ _ (known .if1 .left), ← c .before .before .before .source-type .ensures, ← c .before .before .source-of .ensures, ← c .before .is-under .ensures ls, c .if2 .left)
+    simp (
+      ← known .before .relationship-of .ensures,
+      relationship-known,
+      lt-ltb _ _ (known .if1 .left),
+      ← source .before .source-type .ensures,
+      ← source .source-of .ensures,
+      ← c .before .is-under .ensures ls,
+      c .if2 .left,
+    )
 
 pub link-fits-spec : {M : Type 1} → statement M
 link-fits-spec =
