@@ -1,6 +1,5 @@
 // The proved library's entries, over the tables of a park.
 use crate::park::Tables;
-use std::time::Instant;
 
 // The entries over lent books and registers take the five counts, then each table by its address and length.
 macro_rules! entries {
@@ -77,11 +76,46 @@ pub fn read(text: &[u8], t: &mut Tables, events: &mut [u32]) -> [u32; 7] {
     answer
 }
 
-// Microseconds a round.
-pub fn time<T, F: FnMut() -> T>(rounds: u32, mut f: F) -> f64 {
-    let start = Instant::now();
-    for _ in 0..rounds {
+pub type Call<'a> = Box<dyn FnMut() + 'a>;
+
+// What is timed, with its answer kept from the compiler's sight.
+pub fn call<'a, T>(mut f: impl FnMut() -> T + 'a) -> Call<'a> {
+    Box::new(move || {
         std::hint::black_box(f());
+    })
+}
+
+// Microseconds of each call in each round. A round times them one after the other, so that what slows the machine down for a while slows
+// all of a round, and the ratio of two calls within a round stands.
+pub fn rounds(count: usize, calls: &mut [Call]) -> Vec<Vec<f64>> {
+    // so many repeats that each call is timed over half a millisecond or more
+    let repeats: Vec<u32> = calls.iter_mut().map(|f| 1 + (500.0 / micros(5, f)) as u32).collect();
+    (0..count).map(|_| calls.iter_mut().zip(&repeats).map(|(f, n)| micros(*n, f)).collect()).collect()
+}
+
+fn micros(repeats: u32, f: &mut Call) -> f64 {
+    let start = processor_time();
+    for _ in 0..repeats {
+        f();
     }
-    start.elapsed().as_secs_f64() * 1e6 / rounds as f64
+    (processor_time() - start) / repeats as f64
+}
+
+extern "C" {
+    fn clock_gettime(clock: i32, seconds_and_nanoseconds: *mut [i64; 2]) -> i32;
+}
+
+// Microseconds that this thread ran, without those in which others had the processor.
+fn processor_time() -> f64 {
+    const THREAD: i32 = 3; // Linux's CLOCK_THREAD_CPUTIME_ID
+    let mut t = [0; 2];
+    assert_eq!(unsafe { clock_gettime(THREAD, &mut t) }, 0);
+    t[0] as f64 * 1e6 + t[1] as f64 / 1e3
+}
+
+// The median over the rounds of a figure of each.
+pub fn median(rounds: &[Vec<f64>], figure: impl Fn(&[f64]) -> f64) -> f64 {
+    let mut figures: Vec<f64> = rounds.iter().map(|r| figure(r)).collect();
+    figures.sort_by(f64::total_cmp);
+    figures[figures.len() / 2]
 }

@@ -85,7 +85,8 @@ fn main() {
         let answer = library::read(t.as_bytes(), &mut lent, &mut events);
         assert_eq!(answer[0], 0);
         assert!(same(&p, &lent) && events.iter().all(|w| *w == 0));
-        let us = library::time(200, || library::read(t.as_bytes(), &mut lent, &mut events));
+        let mut calls = [library::call(|| library::read(t.as_bytes(), &mut lent, &mut events))];
+        let us = library::median(&library::rounds(101, &mut calls), |r| r[0]);
         println!("{:7}  {:5}  {us:9.1}  {:10.2}", t.len(), t.lines().count(), us * 1024.0 / t.len() as f64);
     }
 }
