@@ -60,7 +60,14 @@ extern "C" {
     );
 }
 
-// Reads a text; the events' table stands beside the others.
+// The largest tables for a text, not cleared; the events' table stands beside the others.
+pub fn largest() -> (Tables, Vec<u32>) {
+    let words = |n| vec![7; n];
+    let t = Tables { types: words(64), relationships: words(64), rules: words(64), bodies: words(8192), objects: words(10240), links: words(12288) };
+    (t, words(1024))
+}
+
+// Reads a text.
 pub fn read(text: &[u8], t: &mut Tables, events: &mut [u32]) -> [u32; 7] {
     let mut answer = [0; 7];
     unsafe {

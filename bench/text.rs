@@ -3,58 +3,10 @@
 mod library;
 #[allow(dead_code)]
 mod park;
+mod spelling;
 
-use park::{Form, Park, Tables};
-
-fn spell(f: &Form) -> String {
-    let two = |name: &str, a: &Form, b: &Form| format!("({name} {} {})", spell(a), spell(b));
-    match f {
-        Form::Compare(o, a, b) => two(["le", "lt", "eq", "ne", "ge", "gt"][*o as usize], a, b),
-        Form::Not(a) => format!("(not {})", spell(a)),
-        Form::Connect(o, a, b) => two(["and", "or", "xor", "implies"][*o as usize], a, b),
-        Form::Quantify(q, c, b) => two(["forall", "exists"][*q as usize], c, b),
-        Form::Kind(v, t) => format!("(kind {v} {t})"),
-        Form::Num(n) => format!("(num {n})"),
-        Form::Cell(v, k) => format!("(cell {v} {k})"),
-        Form::Size(c) => format!("(size {})", spell(c)),
-        Form::Sum(c, k) => format!("(sum {} {k})", spell(c)),
-        Form::Combine(o, a, b) => two(["add", "sub"][*o as usize], a, b),
-        Form::Role(v, r) => format!("(role {v} {r})"),
-        Form::All(t) => format!("(all {t})"),
-        Form::Select(c, b) => two("select", c, b),
-    }
-}
-
-fn text(p: &Park) -> String {
-    let mut out = String::new();
-    for (i, (parent, cells)) in p.types.iter().enumerate() {
-        let parent = parent.map_or("-".to_string(), |x| x.to_string());
-        out += &format!("(type {i} {parent} {cells})\n");
-    }
-    for (i, (s, d)) in p.relationships.iter().enumerate() {
-        out += &format!("(rel {i} {s} {d})\n");
-    }
-    for (i, (context, body)) in p.rules.iter().enumerate() {
-        out += &format!("(rule {i} {context} {})\n", spell(body));
-    }
-    for (id, kind, cells) in &p.objects {
-        let values: String = cells[..p.types[*kind as usize].1 as usize].iter().map(|v| format!(" {v}")).collect();
-        out += &format!("(ent {id} {kind}{values})\n");
-    }
-    for (r, a, b) in &p.links {
-        out += &format!("(link {r} {a} {b})\n");
-    }
-    out
-}
-
-// The largest park, three links an object, whose text is no longer than so many bytes.
-fn park_of(bytes: usize) -> Park {
-    let mut n = 8;
-    while text(&park::park(n + 8, 3 * (n + 8), 7)).len() <= bytes {
-        n += 8;
-    }
-    park::park(n, 3 * n, 7)
-}
+use park::{Park, Tables};
+use spelling::{park_of, text};
 
 fn same(p: &Park, read: &Tables) -> bool {
     let t = park::tables(p);
@@ -72,16 +24,7 @@ fn main() {
     for size in [8, 32, 64] {
         let p = park_of(size * 1024);
         let t = text(&p);
-        let words = |n| vec![7u32; n];
-        let mut lent = Tables {
-            types: words(64),
-            relationships: words(64),
-            rules: words(64),
-            bodies: words(8192),
-            objects: words(10240),
-            links: words(12288),
-        };
-        let mut events = words(1024);
+        let (mut lent, mut events) = library::largest();
         let answer = library::read(t.as_bytes(), &mut lent, &mut events);
         assert_eq!(answer[0], 0);
         assert!(same(&p, &lent) && events.iter().all(|w| *w == 0));
