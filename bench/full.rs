@@ -5,31 +5,16 @@ mod library;
 mod park;
 mod plain;
 
-use library::{call, full_check, median, rounds};
-use park::{Ids, Park};
+use library::{call, full_check, median, rounds, Call};
+use park::{Ids, Park, Tables};
 use plain::Plain;
 
-const ROUNDS: usize = 101;
+const SIZES: [(u32, u32); 3] = [(250, 1000), (500, 2000), (1000, 4000)];
 
 fn words(found: Option<(u32, u32)>) -> [u32; 3] {
     match found {
         None => [0, 0, 0],
         Some((rule, id)) => [1, rule, id],
-    }
-}
-
-fn times(ids: Ids) {
-    println!("objects  links  proved (us)  plain with its lists (us)  plain, lists at hand (us)  proved / plain with its lists");
-    for (objects, links) in [(250, 1000), (500, 2000), (1000, 4000)] {
-        let p = park::numbered(park::park(objects, links, 7), ids);
-        let t = park::tables(&p);
-        let lists = Plain::new(&p);
-        assert_eq!(full_check(&t), words(lists.full_check(&p)));
-        let mut calls = [call(|| full_check(&t)), call(|| Plain::new(&p).full_check(&p)), call(|| lists.full_check(&p))];
-        let figures = rounds(ROUNDS, &mut calls);
-        let [proved, whole, bare] = [0, 1, 2].map(|i| median(&figures, |r| r[i]));
-        let ratio = median(&figures, |r| r[0] / r[1]);
-        println!("{objects:7}  {links:5}  {proved:11.0}  {whole:25.0}  {bare:25.0}  {ratio:29.2}");
     }
 }
 
@@ -57,10 +42,34 @@ fn answers(ids: Ids) {
     println!("200 damaged parks: the same answers, {broken} of them broken");
 }
 
+struct Case {
+    park: Park,
+    tables: Tables,
+    lists: Plain,
+}
+
+fn case(objects: u32, links: u32, ids: Ids) -> Case {
+    let park = park::numbered(park::park(objects, links, 7), ids);
+    let c = Case { tables: park::tables(&park), lists: Plain::new(&park), park };
+    assert_eq!(full_check(&c.tables), words(c.lists.full_check(&c.park)));
+    c
+}
+
+fn calls(c: &Case) -> Vec<Call<'_>> {
+    vec![call(|| full_check(&c.tables)), call(|| Plain::new(&c.park).full_check(&c.park)), call(|| c.lists.full_check(&c.park))]
+}
+
 fn main() {
-    for (name, ids) in park::KINDS {
+    let cases = park::KINDS.map(|(_, ids)| SIZES.map(|(objects, links)| case(objects, links, ids)));
+    let figures = rounds(&mut cases.iter().flatten().map(calls).collect::<Vec<_>>());
+    for ((name, ids), lines) in park::KINDS.iter().zip(figures.chunks(SIZES.len())) {
         println!("{name}");
-        times(ids);
-        answers(ids);
+        println!("objects  links  proved (us)  plain with its lists (us)  plain, lists at hand (us)  proved / plain with its lists");
+        for ((objects, links), figures) in SIZES.iter().zip(lines) {
+            let [proved, whole, bare] = [0, 1, 2].map(|i| median(figures, |r| r[i]));
+            let ratio = median(figures, |r| r[0] / r[1]);
+            println!("{objects:7}  {links:5}  {proved:11.0}  {whole:25.0}  {bare:25.0}  {ratio:29.2}");
+        }
+        answers(*ids);
     }
 }

@@ -92,15 +92,30 @@ pub fn call<'a, T>(mut f: impl FnMut() -> T + 'a) -> Call<'a> {
     })
 }
 
-// Microseconds of each call in each round. A round times them one after the other, so that what slows the machine down for a while slows
-// all of a round, and the ratio of two calls within a round stands.
-pub fn rounds(count: usize, calls: &mut [Call]) -> Vec<Vec<f64>> {
+const ROUNDS: usize = 120;
+
+// Microseconds of calls that are compared, round after round. A round times them one after the other, so that what slows the machine down
+// for a while slows all of them, and their ratio within a round stands. Groups of such calls take turns, so that each meets the whole run.
+// Of each group the quarter of the rounds is kept that took least: those in which nothing else used the processor's caches.
+pub fn rounds(groups: &mut [Vec<Call>]) -> Vec<Vec<Vec<f64>>> {
     // so many repeats that each call is timed over half a millisecond or more
-    let repeats: Vec<u32> = calls.iter_mut().map(|f| 1 + (500.0 / micros(5, f)) as u32).collect();
-    (0..count).map(|_| calls.iter_mut().zip(&repeats).map(|(f, n)| micros(*n, f)).collect()).collect()
+    let repeats: Vec<Vec<u32>> = groups.iter_mut().map(|g| g.iter_mut().map(|f| 1 + (500.0 / micros(5, f)) as u32).collect()).collect();
+    let mut figures = vec![vec![]; groups.len()];
+    for _ in 0..ROUNDS {
+        for (i, group) in groups.iter_mut().enumerate() {
+            figures[i].push(group.iter_mut().zip(&repeats[i]).map(|(f, n)| micros(*n, f)).collect::<Vec<f64>>());
+        }
+    }
+    for group in &mut figures {
+        group.sort_by(|a, b| a.iter().sum::<f64>().total_cmp(&b.iter().sum()));
+        group.truncate(ROUNDS / 4);
+    }
+    figures
 }
 
+// The first call is not timed: it brings the caches to where the call's own repeats find them.
 fn micros(repeats: u32, f: &mut Call) -> f64 {
+    f();
     let start = processor_time();
     for _ in 0..repeats {
         f();
@@ -120,7 +135,7 @@ fn processor_time() -> f64 {
     t[0] as f64 * 1e6 + t[1] as f64 / 1e3
 }
 
-// The median over the rounds of a figure of each.
+// The median of a figure over some rounds.
 pub fn median(rounds: &[Vec<f64>], figure: impl Fn(&[f64]) -> f64) -> f64 {
     let mut figures: Vec<f64> = rounds.iter().map(|r| figure(r)).collect();
     figures.sort_by(f64::total_cmp);

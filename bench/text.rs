@@ -5,6 +5,7 @@ mod library;
 mod park;
 mod spelling;
 
+use library::{call, median, read, rounds};
 use park::{Park, Tables};
 use spelling::{park_of, text};
 
@@ -20,16 +21,22 @@ fn same(p: &Park, read: &Tables) -> bool {
 }
 
 fn main() {
-    println!("  bytes  lines  time (us)  us per KiB");
-    for size in [8, 32, 64] {
+    let texts = [8, 32, 64].map(|size| {
         let p = park_of(size * 1024);
         let t = text(&p);
         let (mut lent, mut events) = library::largest();
-        let answer = library::read(t.as_bytes(), &mut lent, &mut events);
-        assert_eq!(answer[0], 0);
+        assert_eq!(read(t.as_bytes(), &mut lent, &mut events)[0], 0);
         assert!(same(&p, &lent) && events.iter().all(|w| *w == 0));
-        let mut calls = [library::call(|| library::read(t.as_bytes(), &mut lent, &mut events))];
-        let us = library::median(&library::rounds(101, &mut calls), |r| r[0]);
+        t
+    });
+    let calls = texts.iter().map(|t| {
+        let (mut lent, mut events) = library::largest();
+        call(move || read(t.as_bytes(), &mut lent, &mut events))
+    });
+    let figures = &rounds(&mut [calls.collect()])[0];
+    println!("  bytes  lines  time (us)  us per KiB");
+    for (i, t) in texts.iter().enumerate() {
+        let us = median(figures, |r| r[i]);
         println!("{:7}  {:5}  {us:9.1}  {:10.2}", t.len(), t.lines().count(), us * 1024.0 / t.len() as f64);
     }
 }
