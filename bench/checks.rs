@@ -1,21 +1,25 @@
-// The checks of a lent book and register, timed at three sizes in one run.
+// The checks of a lent book and register, timed at three sizes and with three kinds of ids in one run.
 #[allow(dead_code)]
 mod library;
 #[allow(dead_code)]
 mod park;
 
+use library::{call, check, median, rounds};
+
+const SIZES: [(u32, u32); 3] = [(128, 512), (512, 2048), (1024, 4096)];
+
 fn main() {
-    let mut before = 0.0;
-    println!("objects  links  time (us)  times the line before");
-    for (objects, links) in [(128, 512), (512, 2048), (1024, 4096)] {
-        let t = park::tables(&park::park(objects, links, 7));
-        assert_eq!(library::check(&t), 0);
-        let us = library::time(400, || library::check(&t));
-        if before > 0.0 {
-            println!("{objects:7}  {links:5}  {us:9.1}  {:.2}", us / before);
-        } else {
-            println!("{objects:7}  {links:5}  {us:9.1}");
+    let parks = park::KINDS.map(|(_, ids)| SIZES.map(|(objects, links)| park::tables(&park::numbered(park::park(objects, links, 7), ids))));
+    assert!(parks.iter().flatten().all(|t| check(t) == 0));
+    let mut calls = parks.each_ref().map(|sizes| sizes.iter().map(|t| call(|| check(t))).collect());
+    for ((name, _), figures) in park::KINDS.iter().zip(rounds(&mut calls)) {
+        println!("{name}\nobjects  links  time (us)  times the line before");
+        for (i, (objects, links)) in SIZES.iter().enumerate() {
+            print!("{objects:7}  {links:5}  {:9.1}", median(&figures, |r| r[i]));
+            if i > 0 {
+                print!("  {:21.2}", median(&figures, |r| r[i] / r[i - 1]));
+            }
+            println!();
         }
-        before = us;
     }
 }

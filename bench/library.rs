@@ -1,6 +1,5 @@
 // The proved library's entries, over the tables of a park.
 use crate::park::Tables;
-use std::time::Instant;
 
 // The entries over lent books and registers take the five counts, then each table by its address and length.
 macro_rules! entries {
@@ -61,7 +60,14 @@ extern "C" {
     );
 }
 
-// Reads a text; the events' table stands beside the others.
+// The largest tables for a text, not cleared; the events' table stands beside the others.
+pub fn largest() -> (Tables, Vec<u32>) {
+    let words = |n| vec![7; n];
+    let t = Tables { types: words(64), relationships: words(64), rules: words(64), bodies: words(8192), objects: words(10240), links: words(12288) };
+    (t, words(1024))
+}
+
+// Reads a text.
 pub fn read(text: &[u8], t: &mut Tables, events: &mut [u32]) -> [u32; 7] {
     let mut answer = [0; 7];
     unsafe {
@@ -77,11 +83,61 @@ pub fn read(text: &[u8], t: &mut Tables, events: &mut [u32]) -> [u32; 7] {
     answer
 }
 
-// Microseconds a round.
-pub fn time<T, F: FnMut() -> T>(rounds: u32, mut f: F) -> f64 {
-    let start = Instant::now();
-    for _ in 0..rounds {
+pub type Call<'a> = Box<dyn FnMut() + 'a>;
+
+// What is timed, with its answer kept from the compiler's sight.
+pub fn call<'a, T>(mut f: impl FnMut() -> T + 'a) -> Call<'a> {
+    Box::new(move || {
         std::hint::black_box(f());
+    })
+}
+
+const ROUNDS: usize = 120;
+
+// Microseconds of calls that are compared, round after round. A round times them one after the other, so that what slows the machine down
+// for a while slows all of them, and their ratio within a round stands. Groups of such calls take turns, so that each meets the whole run.
+// Of each group the quarter of the rounds is kept that took least: those in which nothing else used the processor's caches.
+pub fn rounds(groups: &mut [Vec<Call>]) -> Vec<Vec<Vec<f64>>> {
+    // so many repeats that each call is timed over half a millisecond or more
+    let repeats: Vec<Vec<u32>> = groups.iter_mut().map(|g| g.iter_mut().map(|f| 1 + (500.0 / micros(5, f)) as u32).collect()).collect();
+    let mut figures = vec![vec![]; groups.len()];
+    for _ in 0..ROUNDS {
+        for (i, group) in groups.iter_mut().enumerate() {
+            figures[i].push(group.iter_mut().zip(&repeats[i]).map(|(f, n)| micros(*n, f)).collect::<Vec<f64>>());
+        }
     }
-    start.elapsed().as_secs_f64() * 1e6 / rounds as f64
+    for group in &mut figures {
+        group.sort_by(|a, b| a.iter().sum::<f64>().total_cmp(&b.iter().sum()));
+        group.truncate(ROUNDS / 4);
+    }
+    figures
+}
+
+// The first call is not timed: it brings the caches to where the call's own repeats find them.
+fn micros(repeats: u32, f: &mut Call) -> f64 {
+    f();
+    let start = processor_time();
+    for _ in 0..repeats {
+        f();
+    }
+    (processor_time() - start) / repeats as f64
+}
+
+extern "C" {
+    fn clock_gettime(clock: i32, seconds_and_nanoseconds: *mut [i64; 2]) -> i32;
+}
+
+// Microseconds that this thread ran, without those in which others had the processor.
+fn processor_time() -> f64 {
+    const THREAD: i32 = 3; // Linux's CLOCK_THREAD_CPUTIME_ID
+    let mut t = [0; 2];
+    assert_eq!(unsafe { clock_gettime(THREAD, &mut t) }, 0);
+    t[0] as f64 * 1e6 + t[1] as f64 / 1e3
+}
+
+// The median of a figure over some rounds.
+pub fn median(rounds: &[Vec<f64>], figure: impl Fn(&[f64]) -> f64) -> f64 {
+    let mut figures: Vec<f64> = rounds.iter().map(|r| figure(r)).collect();
+    figures.sort_by(f64::total_cmp);
+    figures[figures.len() / 2]
 }

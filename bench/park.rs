@@ -185,3 +185,54 @@ pub fn park(objects: u32, links: u32, seed: u32) -> Park {
     }
     Park { types, relationships, rules: rules(), objects: objs, links: set.into_iter().collect() }
 }
+
+// How the objects of a park are numbered. The types, cells and links stay the same; ids ascend with the rows.
+#[derive(Clone, Copy)]
+pub enum Ids {
+    /// 1, 4, 7, ..: as `park` gives them
+    Stepped,
+    /// drawn over all ids, by a seed
+    Drawn(u32),
+    /// as many as there can be with the same remainder by 4,096: sixteen in each class
+    Clashing,
+}
+
+pub const LARGEST_ID: u32 = 65_535;
+
+fn numbers(ids: Ids, count: usize) -> Vec<u32> {
+    let mut set = std::collections::BTreeSet::new();
+    match ids {
+        Ids::Stepped => set.extend((0..count as u32).map(|i| 1 + i * 3)),
+        Ids::Drawn(seed) => {
+            let mut d = Draw(seed);
+            while set.len() < count {
+                set.insert(1 + d.below(LARGEST_ID));
+            }
+        }
+        Ids::Clashing => {
+            let classes = count.div_ceil(16) as u32;
+            set.extend((0..16).flat_map(|k| (1..=classes).map(move |class| class + 4096 * k)));
+        }
+    }
+    set.into_iter().take(count).collect()
+}
+
+// The park with its objects numbered anew.
+pub fn numbered(mut p: Park, ids: Ids) -> Park {
+    let new = numbers(ids, p.objects.len());
+    let row: std::collections::HashMap<u32, usize> = p.objects.iter().enumerate().map(|(i, o)| (o.0, i)).collect();
+    for l in &mut p.links {
+        *l = (l.0, new[row[&l.1]], new[row[&l.2]]);
+    }
+    for (o, id) in p.objects.iter_mut().zip(new) {
+        o.0 = id;
+    }
+    p
+}
+
+// The kinds of ids that the measurements go through, with what they print for each.
+pub const KINDS: [(&str, Ids); 3] = [
+    ("ids 1, 4, 7, ..", Ids::Stepped),
+    ("ids drawn over 1 to 65,535", Ids::Drawn(11)),
+    ("ids that clash: sixteen with each remainder by 4,096", Ids::Clashing),
+];

@@ -3,58 +3,11 @@
 mod library;
 #[allow(dead_code)]
 mod park;
+mod spelling;
 
-use park::{Form, Park, Tables};
-
-fn spell(f: &Form) -> String {
-    let two = |name: &str, a: &Form, b: &Form| format!("({name} {} {})", spell(a), spell(b));
-    match f {
-        Form::Compare(o, a, b) => two(["le", "lt", "eq", "ne", "ge", "gt"][*o as usize], a, b),
-        Form::Not(a) => format!("(not {})", spell(a)),
-        Form::Connect(o, a, b) => two(["and", "or", "xor", "implies"][*o as usize], a, b),
-        Form::Quantify(q, c, b) => two(["forall", "exists"][*q as usize], c, b),
-        Form::Kind(v, t) => format!("(kind {v} {t})"),
-        Form::Num(n) => format!("(num {n})"),
-        Form::Cell(v, k) => format!("(cell {v} {k})"),
-        Form::Size(c) => format!("(size {})", spell(c)),
-        Form::Sum(c, k) => format!("(sum {} {k})", spell(c)),
-        Form::Combine(o, a, b) => two(["add", "sub"][*o as usize], a, b),
-        Form::Role(v, r) => format!("(role {v} {r})"),
-        Form::All(t) => format!("(all {t})"),
-        Form::Select(c, b) => two("select", c, b),
-    }
-}
-
-fn text(p: &Park) -> String {
-    let mut out = String::new();
-    for (i, (parent, cells)) in p.types.iter().enumerate() {
-        let parent = parent.map_or("-".to_string(), |x| x.to_string());
-        out += &format!("(type {i} {parent} {cells})\n");
-    }
-    for (i, (s, d)) in p.relationships.iter().enumerate() {
-        out += &format!("(rel {i} {s} {d})\n");
-    }
-    for (i, (context, body)) in p.rules.iter().enumerate() {
-        out += &format!("(rule {i} {context} {})\n", spell(body));
-    }
-    for (id, kind, cells) in &p.objects {
-        let values: String = cells[..p.types[*kind as usize].1 as usize].iter().map(|v| format!(" {v}")).collect();
-        out += &format!("(ent {id} {kind}{values})\n");
-    }
-    for (r, a, b) in &p.links {
-        out += &format!("(link {r} {a} {b})\n");
-    }
-    out
-}
-
-// The largest park, three links an object, whose text is no longer than so many bytes.
-fn park_of(bytes: usize) -> Park {
-    let mut n = 8;
-    while text(&park::park(n + 8, 3 * (n + 8), 7)).len() <= bytes {
-        n += 8;
-    }
-    park::park(n, 3 * n, 7)
-}
+use library::{call, median, read, rounds};
+use park::{Park, Tables};
+use spelling::{park_of, text};
 
 fn same(p: &Park, read: &Tables) -> bool {
     let t = park::tables(p);
@@ -68,24 +21,22 @@ fn same(p: &Park, read: &Tables) -> bool {
 }
 
 fn main() {
-    println!("  bytes  lines  time (us)  us per KiB");
-    for size in [8, 32, 64] {
+    let texts = [8, 32, 64].map(|size| {
         let p = park_of(size * 1024);
         let t = text(&p);
-        let words = |n| vec![7u32; n];
-        let mut lent = Tables {
-            types: words(64),
-            relationships: words(64),
-            rules: words(64),
-            bodies: words(8192),
-            objects: words(10240),
-            links: words(12288),
-        };
-        let mut events = words(1024);
-        let answer = library::read(t.as_bytes(), &mut lent, &mut events);
-        assert_eq!(answer[0], 0);
+        let (mut lent, mut events) = library::largest();
+        assert_eq!(read(t.as_bytes(), &mut lent, &mut events)[0], 0);
         assert!(same(&p, &lent) && events.iter().all(|w| *w == 0));
-        let us = library::time(200, || library::read(t.as_bytes(), &mut lent, &mut events));
+        t
+    });
+    let calls = texts.iter().map(|t| {
+        let (mut lent, mut events) = library::largest();
+        call(move || read(t.as_bytes(), &mut lent, &mut events))
+    });
+    let figures = &rounds(&mut [calls.collect()])[0];
+    println!("  bytes  lines  time (us)  us per KiB");
+    for (i, t) in texts.iter().enumerate() {
+        let us = median(figures, |r| r[i]);
         println!("{:7}  {:5}  {us:9.1}  {:10.2}", t.len(), t.lines().count(), us * 1024.0 / t.len() as f64);
     }
 }
