@@ -6,7 +6,7 @@ use lib.Dec.{eqb}
 use borrow.Author.Tests.{eq-eqb, ne-eqb}
 use Rattle.meaning.specs.Forms.{and, or, xor, implies}
 use Rattle.meaning.specs.Meaning.{connected}
-use Rattle.ocl.specs.Values.{connectiveOf}
+use Rattle.ocl.specs.Operators.{connectiveOf}
 
 module _ (k : ℕ) where
   pub code-and : k ≡ 7 → connectiveOf k ≡ and

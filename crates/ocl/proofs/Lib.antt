@@ -1,12 +1,26 @@
+-- Laws behind the evaluators.
+--   Members       what is left of an ascending list from an id on
+--   Steps         steps of a walk
+--   Variables     the ids of bound variables
+--   Objects       objects by their rows
+--   Connectives   connectives by their codes
+--   Nodes         the form that ends before a row, by its code
+--   Steady        what a register that fits its schema gives
+--   Scopes        well-typed forms are in scope
+--   Nums          the numbers of a form are small
+--   Parts         the parts of a form are ready where the form is
+--   Walks         walks over the three collections
+--   Answers       what each evaluator answers
 pub mod Members
+pub mod Steps
+pub mod Variables
 pub mod Objects
 pub mod Connectives
-pub mod Variables
 pub mod Nodes
 pub mod Steady
-pub mod Parts
+pub mod Scopes
 pub mod Nums
 pub mod Loops
+pub mod Parts
+pub mod Walks
 pub mod Answers
-pub mod Search
-pub mod Indexes

@@ -1,86 +1,82 @@
--- Members of an ascending collection, visited one after the other: the next after an id, and those that are left after it.
-use Prim.Native.Nat.{ℕ, _<_}
+-- What a walk over an ascending list has left: all from the first that passes a test on, and all from a member on.
+use Prim.Native.Nat.{ℕ, _≤_, _<_}
 use mathlib.Core.Path.{_≡_, refl, sym, ap, subst, _∙_}
-use mathlib.Core.Bool.{Bool, true, false, cond}
-use mathlib.Core.List.{List, [], _∷_, cons≢nil, cons-eq-cons, List·Memᴰ·head, List·Memᴰ·tail}
-use mathlib.Core.Option.{Option, none, some, Option·none-ne-some, Option·some-injective}
-use native.Mathlib.Nat.{lt-trans, lt-irrefl}
+use mathlib.Core.Logic.{⊎-elim}
+use mathlib.Core.Bool.{Bool, true, false, not, cond}
+use mathlib.Core.List.{List, [], _∷_, List·Memᴰ·head, List·Memᴰ·tail, List·Memᴰ·not-nil, List·Memᴰ·cases-cons}
+use mathlib.Core.Option.{Option, none, some}
+use native.Mathlib.Nat.{le-of-lt, le-refl}
 use native.Mathlib.Omega.{arith}
-use lib.Dec.{ltb}
-use borrow.Author.Tests.{ltb-true, ltb-false}
-use mir.Facts.{not-T, ltb-yes, yes-ltb}
+use lib.Dec.{T, leb, ltb}
+use mir.Facts.{not-T, leb-yes, yes-leb, ltb-yes, yes-ltb, no-leb, no-ltb}
 use Rattle.meaning.specs.Lists.{keep, first}
-use Rattle.meaning.proofs.Lists.{_∈_, Ascending, cond-yes, cond-no, first-some}
+use Rattle.meaning.proofs.Lists.{_∈_, Ascending, cond-yes, cond-no, first-some, decide}
+use Rattle.ocl.specs.Walks.{isFrom}
 
--- the members that come after an id
-abbrev pub later : ℕ → List ℕ → List ℕ
-later a l = keep (λ y. ltb a y) l
+-- ---- keep
 
--- the next member after an id
-abbrev pub nextAfter : ℕ → List ℕ → Option ℕ
-nextAfter a l = first (λ y. ltb a y) l
+pub keep-all : (p : ℕ → Bool) (l : List ℕ) → ((y : ℕ) → y ∈ l → T (p y)) → keep p l ≡ l
+keep-all p [] h = refl
+keep-all p (x ∷ xs) h =
+    cond-yes (p x) (x ∷ keep p xs) (keep p xs) (h x (List·Memᴰ·head refl))
+    ∙ ap {B = List ℕ} (λ k. x ∷ k) (keep-all p xs (λ y m. h y (List·Memᴰ·tail m)))
 
--- all of a list whose members all come after the id
-pub later-all : (a : ℕ) (l : List ℕ) → ((y : ℕ) → y ∈ l → a < y) → later a l ≡ l
-later-all a [] h = refl
-later-all a (x ∷ xs) h =
-    cond-yes (ltb a x) (x ∷ later a xs) (later a xs) (yes-ltb (h x (List·Memᴰ·head refl)))
-    ∙ ap {B = List ℕ} (λ k. x ∷ k) (later-all a xs (λ y m. h y (List·Memᴰ·tail m)))
+pub keep-none : (p : ℕ → Bool) (l : List ℕ) → ((y : ℕ) → y ∈ l → T (not (p y))) → keep p l ≡ []
+keep-none p [] h = refl
+keep-none p (x ∷ xs) h =
+    cond-no (p x) (x ∷ keep p xs) (keep p xs) (h x (List·Memᴰ·head refl)) ∙ keep-none p xs (λ y m. h y (List·Memᴰ·tail m))
 
-pub later-none : (a : ℕ) (l : List ℕ) → nextAfter a l ≡ none → later a l ≡ []
-later-none a [] e = refl
-later-none a (x ∷ xs) e = step (ltb a x) (later-none a xs) e
+-- two tests in either order
+pub keep-swap : (p q : ℕ → Bool) (l : List ℕ) → keep p (keep q l) ≡ keep q (keep p l)
+keep-swap p q [] = refl
+keep-swap p q (x ∷ xs) = step (p x) (q x) refl refl (keep-swap p q xs)
   where
-    step : (b : Bool) → (nextAfter a xs ≡ none → later a xs ≡ []) → cond b (some x) (nextAfter a xs) ≡ none → cond b (x ∷ later a xs) (later a xs) ≡ []
-    step true below q = absurd (Option·none-ne-some x (sym q))
-    step false below q = below q
-
-next-after : (a : ℕ) (l : List ℕ) (x : ℕ) → nextAfter a l ≡ some x → a < x
-next-after a l x e = ltb-yes (first-some (λ y. ltb a y) l e .1)
-
--- the next member, and what is left after it
-pub later-next : (a : ℕ) (l : List ℕ) → Ascending _<_ l → (x : ℕ) → nextAfter a l ≡ some x → later a l ≡ x ∷ later x l
-later-next a [] s x e = absurd (Option·none-ne-some x e)
-later-next a (y ∷ ys) s x e = step (ltb a y) refl (later-next a ys (s .1)) e
-  where
-    skips : x ≡ y → later x (y ∷ ys) ≡ ys
-    skips q =
-        cond-no (ltb x y) (y ∷ later x ys) (later x ys) (not-T (ltb x y) (λ t. lt-irrefl x (subst (λ z. x < z) (sym q) (ltb-yes t))))
-        ∙ later-all x ys (λ z m. subst (λ w. w < z) (sym q) (s .0 z m))
-
-    step : (b : Bool) → ltb a y ≡ b → ((z : ℕ) → nextAfter a ys ≡ some z → later a ys ≡ z ∷ later z ys) → cond b (some y) (nextAfter a ys) ≡ some x → cond b (y ∷ later a ys) (later a ys) ≡ x ∷ later x (y ∷ ys)
-    step true t below q =
-        let e′ : x ≡ y = sym (Option·some-injective y x q) in
-        λ i. sym e′ i ∷ (later-all a ys (λ z m. lt-trans (ltb-true a y t) (s .0 z m)) ∙ sym (skips e′)) i
-    step false t below q =
-        below x q
-        ∙ ap {B = List ℕ} (λ k. x ∷ k)
-        (sym (cond-no (ltb x y) (y ∷ later x ys) (later x ys) (not-T (ltb x y) (λ u. let h : x < y = ltb-yes u in lt-irrefl x (omega (arith, ltb-false a y t, next-after a ys x q))))))
-
--- a test of the members that are left
-pub next-keep : (p : ℕ → Bool) (a : ℕ) (l : List ℕ) → keep p (later a l) ≡ later a (keep p l)
-next-keep p a [] = refl
-next-keep p a (x ∷ xs) = step (ltb a x) (p x) refl refl (next-keep p a xs)
-  where
-    step : (b d : Bool) → ltb a x ≡ b → p x ≡ d → keep p (later a xs) ≡ later a (keep p xs) → keep p (cond b (x ∷ later a xs) (later a xs)) ≡ later a (cond d (x ∷ keep p xs) (keep p xs))
-    step true true e f below = rw (f, e) (ap {B = List ℕ} (λ k. x ∷ k) below)
+    step : (a b : Bool) → p x ≡ a → q x ≡ b → keep p (keep q xs) ≡ keep q (keep p xs) → keep p (cond b (x ∷ keep q xs) (keep q xs)) ≡ keep q (cond a (x ∷ keep p xs) (keep p xs))
+    step true true e f below = rw (e, f) (ap {B = List ℕ} (λ k. x ∷ k) below)
     step true false e f below = rw f below
     step false true e f below = rw e below
     step false false e f below = below
 
--- the first of what is left is the next
-pub head-later : (a : ℕ) (l : List ℕ) (x : ℕ) (k : List ℕ) → later a l ≡ x ∷ k → nextAfter a l ≡ some x
-head-later a [] x k e = absurd (cons≢nil (sym e))
-head-later a (y ∷ ys) x k e = step (ltb a y) (head-later a ys x k) e
-  where
-    step : (b : Bool) → (later a ys ≡ x ∷ k → nextAfter a ys ≡ some x) → cond b (y ∷ later a ys) (later a ys) ≡ x ∷ k → cond b (some y) (nextAfter a ys) ≡ some x
-    step true below q = ap {B = Option ℕ} some (cons-eq-cons .0 q .0)
-    step false below q = below q
+-- ---- what is left from an id on
 
-pub nil-later : (a : ℕ) (l : List ℕ) → later a l ≡ [] → nextAfter a l ≡ none
-nil-later a [] e = refl
-nil-later a (y ∷ ys) e = step (ltb a y) (nil-later a ys) e
+-- a test that passes from some member on passes for what is left from the first that passes it
+pub from-first : (p : ℕ → Bool) → ((x y : ℕ) → x < y → T (p x) → T (p y)) → (l : List ℕ) → Ascending _<_ l → keep (isFrom (first p l)) l ≡ keep p l
+from-first p up [] s = refl
+from-first p up (x ∷ xs) s = ⊎-elim found (passed (from-first p up xs (s .1))) (decide (p x))
   where
-    step : (b : Bool) → (later a ys ≡ [] → nextAfter a ys ≡ none) → cond b (y ∷ later a ys) (later a ys) ≡ [] → cond b (some y) (nextAfter a ys) ≡ none
-    step true below q = absurd (cons≢nil q)
-    step false below q = below q
+    found : T (p x) → keep (isFrom (first p (x ∷ xs))) (x ∷ xs) ≡ keep p (x ∷ xs)
+    found t =
+        ap (λ o. keep (isFrom o) (x ∷ xs)) (cond-yes (p x) (some x) (first p xs) t)
+        ∙ keep-all (isFrom (some x)) (x ∷ xs) (λ y m. ⊎-elim (λ (e : y ≡ x). let h : x ≤ y = omega arith in yes-leb h) (λ (n : y ∈ xs). yes-leb (le-of-lt (s .0 y n))) (List·Memᴰ·cases-cons m))
+        ∙ sym (keep-all p (x ∷ xs) (λ y m. ⊎-elim (λ (e : y ≡ x). subst (λ z. T (p z)) (sym e) t) (λ (n : y ∈ xs). up x y (s .0 y n) t) (List·Memᴰ·cases-cons m)))
+
+    before : (o : Option ℕ) → first p xs ≡ o → T (not (isFrom o x))
+    before none e = tt
+    before (some y) e = no-leb (s .0 y (first-some p xs e .0))
+
+    passed : keep (isFrom (first p xs)) xs ≡ keep p xs → T (not (p x)) → keep (isFrom (first p (x ∷ xs))) (x ∷ xs) ≡ keep p (x ∷ xs)
+    passed below t =
+        ap (λ o. keep (isFrom o) (x ∷ xs)) (cond-no (p x) (some x) (first p xs) t)
+        ∙ cond-no (isFrom (first p xs) x) (x ∷ keep (isFrom (first p xs)) xs) (keep (isFrom (first p xs)) xs) (before (first p xs) refl)
+        ∙ below
+        ∙ sym (cond-no (p x) (x ∷ keep p xs) (keep p xs) t)
+
+-- from a member on: that member, and what comes after it
+pub from-member : (l : List ℕ) → Ascending _<_ l → (x : ℕ) → x ∈ l → keep (isFrom (some x)) l ≡ x ∷ keep (λ y. ltb x y) l
+from-member [] s x m = absurd (List·Memᴰ·not-nil m)
+from-member (z ∷ zs) s x m = ⊎-elim here (λ n. later n (from-member zs (s .1) x n)) (List·Memᴰ·cases-cons m)
+  where
+    here : x ≡ z → keep (isFrom (some x)) (z ∷ zs) ≡ x ∷ keep (λ y. ltb x y) (z ∷ zs)
+    here e =
+        cond-yes (leb x z) (z ∷ keep (isFrom (some x)) zs) (keep (isFrom (some x)) zs) (let h : x ≤ z = omega arith in yes-leb h)
+        ∙ ap (λ k. z ∷ k) (keep-all (isFrom (some x)) zs (λ y n. let h = s .0 y n in let k : x ≤ y = omega arith in yes-leb k))
+        ∙ ap (λ y. y ∷ zs) (sym e)
+        ∙ ap {B = List ℕ} (λ k. x ∷ k)
+        (sym (cond-no (ltb x z) (z ∷ keep (λ y. ltb x y) zs) (keep (λ y. ltb x y) zs) (let h : z ≤ x = omega arith in no-ltb h) ∙ keep-all (λ y. ltb x y) zs (λ y n. let h = s .0 y n in let k : x < y = omega arith in yes-ltb k)))
+
+    later : x ∈ zs → keep (isFrom (some x)) zs ≡ x ∷ keep (λ y. ltb x y) zs → keep (isFrom (some x)) (z ∷ zs) ≡ x ∷ keep (λ y. ltb x y) (z ∷ zs)
+    later n below =
+        let h = s .0 x n in
+        cond-no (leb x z) (z ∷ keep (isFrom (some x)) zs) (keep (isFrom (some x)) zs) (no-leb h)
+        ∙ below
+        ∙ ap {B = List ℕ} (λ k. x ∷ k) (sym (cond-no (ltb x z) (z ∷ keep (λ y. ltb x y) zs) (keep (λ y. ltb x y) zs) (no-ltb (le-of-lt h))))

@@ -13,7 +13,7 @@ use Rattle.tables.specs.Bodies.{BodyRow, sortOf, sameSort, formOf, reads, parts
 use Rattle.tables.proofs.Readings.{ending-start, sound-pos, node, only-fits, both-fit, code-of}
 use Rattle.book.proofs.Marks.{result-sort}
 use Rattle.number.specs.Comparing.{comparisonOf}
-use Rattle.ocl.specs.Values.{connectiveOf, quantifierOf, arithmeticOf}
+use Rattle.ocl.specs.Operators.{connectiveOf, quantifierOf, arithmeticOf}
 
 -- ---- codes of the operators of each sort
 
@@ -69,48 +69,42 @@ comparing-at (suc (suc (suc (suc zero)))) h = refl
 comparing-at (suc (suc (suc (suc (suc zero))))) h = refl
 comparing-at (suc (suc (suc (suc (suc (suc k)))))) h = absurd (omega arith)
 
-connecting-from : (d : ℕ) → d < 4 → operatorOf (7 + d) ≡ some (connecting (connectiveOf (7 + d)))
-unfolding operatorOf operators connectiveOf
-connecting-from zero h = refl
-connecting-from (suc zero) h = refl
-connecting-from (suc (suc zero)) h = refl
-connecting-from (suc (suc (suc zero))) h = refl
-connecting-from (suc (suc (suc (suc d)))) h = absurd (omega arith)
+-- n codes from a first one on
+from-first : (base n : ℕ) (f : ℕ → Operator) → ((d : ℕ) → d < n → operatorOf (base + d) ≡ some (f (base + d))) → (k : ℕ) → base ≤ k → k < base + n → operatorOf k ≡ some (f k)
+from-first base n f each k h l =
+    let e : base + (k - base) ≡ k = omega arith in
+    subst (λ j. operatorOf j ≡ some (f j)) e (each (k - base) (omega arith))
 
 pub connecting-at : (k : ℕ) → 7 ≤ k → k < 11 → operatorOf k ≡ some (connecting (connectiveOf k))
-connecting-at k h l = let e : 7 + (k - 7) ≡ k = omega arith in subst (λ j. operatorOf j ≡ some (connecting (connectiveOf j))) e (connecting-from (k - 7) (omega arith))
+unfolding operatorOf operators connectiveOf
+connecting-at = from-first 7 4 (λ k. connecting (connectiveOf k)) each
+  where
+    each : (d : ℕ) → d < 4 → operatorOf (7 + d) ≡ some (connecting (connectiveOf (7 + d)))
+    each zero h = refl
+    each (suc zero) h = refl
+    each (suc (suc zero)) h = refl
+    each (suc (suc (suc zero))) h = refl
+    each (suc (suc (suc (suc d)))) h = absurd (omega arith)
 
-quantifying-from : (d : ℕ) → d < 2 → operatorOf (11 + d) ≡ some (quantifying (quantifierOf (11 + d)))
-unfolding operatorOf operators quantifierOf
-quantifying-from zero h = refl
-quantifying-from (suc zero) h = refl
-quantifying-from (suc (suc d)) h = absurd (omega arith)
+two-codes : (base : ℕ) (f : ℕ → Operator) → operatorOf (base + 0) ≡ some (f (base + 0)) → operatorOf (base + 1) ≡ some (f (base + 1)) → (k : ℕ) → base ≤ k → k < base + 2 → operatorOf k ≡ some (f k)
+two-codes base f a b = from-first base 2 f each
+  where
+    each : (d : ℕ) → d < 2 → operatorOf (base + d) ≡ some (f (base + d))
+    each zero h = a
+    each (suc zero) h = b
+    each (suc (suc d)) h = absurd (omega arith)
 
 pub quantifying-at : (k : ℕ) → 11 ≤ k → k < 13 → operatorOf k ≡ some (quantifying (quantifierOf k))
-quantifying-at k h l = let e : 11 + (k - 11) ≡ k = omega arith in subst (λ j. operatorOf j ≡ some (quantifying (quantifierOf j))) e (quantifying-from (k - 11) (omega arith))
-
-combining-from : (d : ℕ) → d < 2 → operatorOf (18 + d) ≡ some (combining (arithmeticOf (18 + d)))
-unfolding operatorOf operators arithmeticOf
-combining-from zero h = refl
-combining-from (suc zero) h = refl
-combining-from (suc (suc d)) h = absurd (omega arith)
+unfolding operatorOf operators quantifierOf
+quantifying-at = two-codes 11 (λ k. quantifying (quantifierOf k)) refl refl
 
 pub combining-at : (k : ℕ) → 18 ≤ k → k < 20 → operatorOf k ≡ some (combining (arithmeticOf k))
-combining-at k h l = let e : 18 + (k - 18) ≡ k = omega arith in subst (λ j. operatorOf j ≡ some (combining (arithmeticOf j))) e (combining-from (k - 18) (omega arith))
+unfolding operatorOf operators arithmeticOf
+combining-at = two-codes 18 (λ k. combining (arithmeticOf k)) refl refl
 
 -- codes that are left by tests
 pub above-cell : (k : ℕ) → 14 ≤ k → (k ≡ 14 → ⊥) → (k ≡ 15 → ⊥) → 16 ≤ k
 above-cell k h a b = omega arith
-
-pub above-all : (k j : ℕ) → j ≡ k → 20 ≤ k → (j ≡ 20 → ⊥) → (j ≡ 21 → ⊥) → 22 ≤ k
-above-all k j q h a b = omega arith
-
-pub only-select : (k : ℕ) → 22 ≤ k → k < 23 → k ≡ 22
-only-select k h l = omega arith
-
--- an operator by its code
-pub code-is : (k m : ℕ) (o : Operator) → operatorOf m ≡ some o → k ≡ m → operatorOf k ≡ some o
-code-is k m o h e = ap operatorOf e ∙ h
 
 -- ---- the form that ends before row e
 

@@ -1,111 +1,141 @@
--- Objects by their rows: the next one under a type, and the value of a cell.
-use Prim.Native.Nat.{ℕ, _+_, _≤_, _<_}
-use mathlib.Core.Path.{_≡_, refl, sym, ap, subst, _∙_}
-use mathlib.Core.Bool.{Bool, true, false, _&&_, not, cond}
-use mathlib.Core.List.{List, [], _∷_}
-use mathlib.Core.Option.{Option, none, some, Option·map}
-use lib.Dec.{T, ltb}
+-- Objects by their rows: what is asked of an object by its id is read in its row, and the objects under a type from a row on.
+use Prim.Native.Nat.{ℕ, zero, suc, _+_, _-_, _≤_, _<_}
+use mathlib.Core.Path.{_≡_, refl, sym, ap, ap₂, subst, _∙_}
+use mathlib.Core.Logic.{⊎-elim}
+use mathlib.Core.Bool.{Bool, true, false, not, cond}
+use mathlib.Core.List.{List, [], _∷_, map}
+use mathlib.Core.Option.{Option, none, some}
+use native.Mathlib.Nat.{sub-zero, eq-or-lt-of-le}
+use native.Mathlib.Numerals.{add-one}
+use native.Mathlib.Omega.{arith}
+use lib.Dec.{T, leb, ltb}
 use lib.ListN.{getD}
 use lib.IntN.{ℤ, pos}
-use mir.Facts.{yes-and, yes-ltb, no-ltb}
-use borrow.Author.Tests.{lt-ltb, le-ltb}
-use Rattle.meaning.specs.Lists.{first}
+use mir.Facts.{ltb-yes, ltb-no, yes-leb, no-leb}
+use Rattle.meaning.specs.Lists.{keep, holds}
 use Rattle.meaning.specs.Limits.{cellCount}
-use Rattle.meaning.specs.Schema.{Schema, under}
-use Rattle.meaning.specs.Register.{Object, Link, objectKey, cellAt, instances}
-use Rattle.meaning.proofs.Lists.{not-and-left, not-and-right}
+use Rattle.meaning.specs.Schema.{ObjectType, under}
+use Rattle.meaning.specs.Register.{Object, Register, objectKey, objectAt, isUnder, cellAt, instances}
+use Rattle.meaning.proofs.Lists.{cond-yes, cond-no, decide}
 use Rattle.meaning.proofs.Order.{before-one}
-use native.Mathlib.Nat.{le-of-lt}
-use Rattle.rows.specs.Rows.{wordAt, readRows, signed}
-use Rattle.tables.specs.Columns.{objectRow}
-use Rattle.tables.specs.Refusals.{foundOf}
-use Rattle.tables.specs.declared.Found.the-variants.{At, Nothing}
+use Rattle.meaning.proofs.Registers.{ascending-found}
+use Rattle.rows.specs.Rows.{wordAt, rowsFrom, signed}
+use Rattle.tables.specs.Columns.{objectRow, registerOf}
 use Rattle.schema.proofs.Rows.{row-used}
-use Rattle.schema.proofs.Scan.{Passed, passed-all}
-use Rattle.schema.proofs.Founds.{found-none, found-some}
-use Rattle.register.specs.Tables.{objectsWith, objectPlace}
-use Rattle.register.specs.Places.{LowerBound}
-use Rattle.register.proofs.Hits.{alone, firstHit, missed-one, missed-to, hit-at, first-row, first-kept}
-use Rattle.register.proofs.Searches.{object-row}
+use Rattle.register.specs.Tables.{ObjectsAscend}
+use Rattle.register.proofs.Places.{row-there, ordered}
+use Rattle.ocl.specs.Site.{idIn}
+use Rattle.ocl.specs.Values.{cellIn}
+use Rattle.ocl.specs.Walks.{isFrom, instancesFrom}
+use Rattle.ocl.proofs.Members.{keep-none}
 
-T-from : (b : Bool) → b ≡ true → T b
-T-from b e = subst T (sym e) tt
+-- ---- an object by its row
 
-T-not : (b : Bool) → b ≡ false → T (not b)
-T-not b e = subst (λ x. T (not x)) (sym e) tt
+cell-by : ℕ → Option Object → ℤ
+cell-by k o = elim o [ none ↦ pos 0 | some o ↦ getD (o .cells) k (pos 0) ]
 
--- ---- the next object under a type
+module _ (m : ℕ) (objects : List ℕ) (n : ℕ) (links : List ℕ) (a : ObjectsAscend m objects) (row : ℕ) (h : row < m) where
+  abbrev g : Register
+  g = registerOf m objects n links
 
--- an object under t that comes after an id
-abbrev pub wanted : Schema → ℕ → ℕ → Object → Bool
-wanted S t after o = under S (o .type) t && ltb after (o .id)
+  found : objectAt g (idIn objects row) ≡ some (objectRow objects row)
+  found = ascending-found g a (row-there (objectRow objects) m row h)
 
--- the rows before a row are passed over
-abbrev pub Walked : Schema → ℕ → List ℕ → ℕ → ℕ → ℕ → Type 0
-Walked S n objects t after row = Passed (alone (wanted S t after)) (objectRow objects) n row
+  pub under-in : (types : List ObjectType) (t : ℕ) → isUnder types g (idIn objects row) t ≡ under types ((objectRow objects row) .type) t
+  unfolding isUnder
+  under-in types t = ap (holds (λ o. under types (o .type) t)) found
 
-module _ (S : Schema) (n : ℕ) (objects : List ℕ) (t after : ℕ) where
-  pub walk-starts : {row : ℕ} → LowerBound objectKey (objectRow objects) n (after ∷ []) row → Walked S n objects t after row
-  walk-starts {row} b =
-      missed-to (wanted S t after) (objectRow objects) n row (b .within)
-      (λ j h. not-and-right (under S ((objectRow objects j) .type) t) (ltb after ((objectRow objects j) .id)) (no-ltb (le-of-lt (before-one ((objectRow objects j) .id) after (b .below j h)))))
+  pub cell-in : (k : ℕ) → cellAt g (idIn objects row) k ≡ cellIn objects row k
+  unfolding cellAt cellIn objectRow cell-by
+  cell-in k = ap (cell-by k) found ∙ row-used (λ j. signed (wordAt objects 10 row (2 + j))) (λ z. z) cellCount k (pos 0)
 
-  module _ {row : ℕ} (walked : Walked S n objects t after row) (h : row < n) where
-    pub walk-early : {id : ℕ} → id ≡ (objectRow objects row) .id → id ≤ after → Walked S n objects t after (row + 1)
-    walk-early {id} q l =
-        missed-one (wanted S t after) (objectRow objects) n walked h
-        (not-and-right (under S ((objectRow objects row) .type) t) (ltb after ((objectRow objects row) .id)) (no-ltb (subst (λ k. k ≤ after) q l)))
+-- ---- objects under a type from a row on
 
-    pub walk-other : {type : ℕ} {u : Bool} → type ≡ (objectRow objects row) .type → u ≡ under S type t → u ≡ false → Walked S n objects t after (row + 1)
-    walk-other {type} {u} q e f =
-        missed-one (wanted S t after) (objectRow objects) n walked h
-        (not-and-left (under S ((objectRow objects row) .type) t) (ltb after ((objectRow objects row) .id)) (T-not (under S ((objectRow objects row) .type) t) (sym (ap (λ k. under S k t) q) ∙ sym e ∙ f)))
+module _ (types : List ObjectType) (objects : List ℕ) (m t : ℕ) where
+  abbrev wanted : Object → Bool
+  wanted o = under types (o .type) t
 
-  module _ (ls : List Link) where
-    instance-first : first (λ y. ltb after y) (instances S (objectsWith n objects ls) t) ≡ Option·map (λ (o : Object). o .id) (Option·map (objectRow objects) (firstHit (wanted S t after) (objectRow objects) n))
-    unfolding instances
-    instance-first =
-        first-kept (λ o. under S (o .type) t) (λ (o : Object). o .id) (λ y. ltb after y) (readRows (objectRow objects) n)
-        ∙ ap (Option·map (λ (o : Object). o .id)) (first-row (wanted S t after) (objectRow objects) n)
+  abbrev from : ℕ → ℕ → List ℕ
+  from j k = map (λ (o : Object). o .id) (keep wanted (rowsFrom (objectRow objects) j k))
 
-    pub walk-ends : {row : ℕ} → Walked S n objects t after row → n ≤ row → Nothing ≡ foundOf (first (λ y. ltb after y) (instances S (objectsWith n objects ls) t))
-    walk-ends {row} walked h =
-        sym (ap foundOf (instance-first ∙ ap (λ o. Option·map (λ (o : Object). o .id) (Option·map (objectRow objects) o)) (passed-all (alone (wanted S t after)) (objectRow objects) n walked h)))
+  one : (b : Bool) (j k : ℕ) → map (λ (o : Object). o .id) (cond b (objectRow objects j ∷ keep wanted (rowsFrom (objectRow objects) (suc j) k)) (keep wanted (rowsFrom (objectRow objects) (suc j) k))) ≡ cond b (idIn objects j ∷ from (suc j) k) (from (suc j) k)
+  one true j k = refl
+  one false j k = refl
 
-    pub walk-finds : {row id type : ℕ} {u : Bool} → Walked S n objects t after row → row < n → id ≡ (objectRow objects row) .id → after < id → type ≡ (objectRow objects row) .type → u ≡ under S type t → u ≡ true → At id ≡ foundOf (first (λ y. ltb after y) (instances S (objectsWith n objects ls) t))
-    walk-finds {row} {id} {type} {u} walked h q l r e f =
-        let o = objectRow objects row in
-        let yes : T (wanted S t after o) = yes-and (under S (o .type) t) (ltb after (o .id)) (T-from (under S (o .type) t) (sym (ap (λ k. under S k t) r) ∙ sym e ∙ f)) (yes-ltb (subst (λ k. after < k) q l)) in
-        ap At q
-        ∙ sym (ap foundOf (instance-first ∙ ap (λ o. Option·map (λ (o : Object). o .id) (Option·map (objectRow objects) o)) (hit-at (wanted S t after) (objectRow objects) n walked h yes)))
-
--- ---- the value of a cell
-
-module _ (n : ℕ) (objects : List ℕ) (ls : List Link) (id k : ℕ) where
-  cell-by : Option Object → ℤ
-  cell-by found = elim found [ none ↦ pos 0 | some o ↦ getD (o .cells) k (pos 0) ]
-
-  cell-row : cellAt (objectsWith n objects ls) id k ≡ cell-by (Option·map (objectRow objects) (objectPlace n objects id))
-  unfolding cellAt cell-by
-  cell-row = ap cell-by (object-row n objects ls id)
-
-  cell-used : (i : ℕ) → getD ((objectRow objects i) .cells) k (pos 0) ≡ cond (ltb k cellCount) (signed (wordAt objects 10 i (2 + k))) (pos 0)
-  unfolding objectRow
-  cell-used i = row-used (λ j. signed (wordAt objects 10 i (2 + j))) (λ z. z) cellCount k (pos 0)
-
-  pub cell-none : Nothing ≡ foundOf (objectPlace n objects id) → pos 0 ≡ cellAt (objectsWith n objects ls) id k
-  unfolding cell-by
-  cell-none h = sym (cell-row ∙ ap (λ o. cell-by (Option·map (objectRow objects) o)) (found-none (objectPlace n objects id) h))
-
-  pub cell-found : {i : ℕ} → At i ≡ foundOf (objectPlace n objects id) → k < cellCount → signed (wordAt objects 10 i (2 + k)) ≡ cellAt (objectsWith n objects ls) id k
-  unfolding cell-by
-  cell-found {i} h l =
-      sym (cell-row ∙ ap (λ o. cell-by (Option·map (objectRow objects) o)) (found-some (objectPlace n objects id) h) ∙ cell-used i ∙ ap (λ b. cond b (signed (wordAt objects 10 i (2 + k))) (pos 0)) (lt-ltb k cellCount l))
-
-  pub cell-past : cellCount ≤ k → pos 0 ≡ cellAt (objectsWith n objects ls) id k
-  unfolding cell-by
-  cell-past h = sym (cell-row ∙ step (objectPlace n objects id))
+  -- rows whose ids come before x leave nothing, and rows from x on leave all
+  below : (x d j k : ℕ) → ((i : ℕ) → i < j + d → idIn objects i < x) → keep (leb x) (from j (d + k)) ≡ keep (leb x) (from (j + d) k)
+  below x zero j k h =
+      let a : 0 + k ≡ k = omega arith in
+      let b : j ≡ j + 0 = omega arith in
+      ap (λ i. keep (leb x) (from j i)) a ∙ ap (λ i. keep (leb x) (from i k)) b
+  below x (suc d) j k h =
+      let more : suc d + k ≡ suc (d + k) = omega arith in
+      let same : suc j + d ≡ j + suc d = omega arith in
+      ap (λ i. keep (leb x) (from j i)) more
+      ∙ ap (keep (leb x)) (one (wanted (objectRow objects j)) j (d + k))
+      ∙ step (wanted (objectRow objects j))
+      ∙ below x d (suc j) k (λ i l. h i (omega arith))
+      ∙ ap (λ i. keep (leb x) (from i k)) same
     where
-      step : (o : Option ℕ) → cell-by (Option·map (objectRow objects) o) ≡ pos 0
-      step none = refl
-      step (some i) = cell-used i ∙ ap (λ b. cond b (signed (wordAt objects 10 i (2 + k))) (pos 0)) (le-ltb k cellCount h)
+      step : (b : Bool) → keep (leb x) (cond b (idIn objects j ∷ from (suc j) (d + k)) (from (suc j) (d + k))) ≡ keep (leb x) (from (suc j) (d + k))
+      step true = cond-no (leb x (idIn objects j)) _ _ (no-leb (h j (omega arith)))
+      step false = refl
+
+  above : (x j k : ℕ) → ((i : ℕ) → j ≤ i → i < j + k → x ≤ idIn objects i) → keep (leb x) (from j k) ≡ from j k
+  above x j zero h = refl
+  above x j (suc k) h = ap (keep (leb x)) (one (wanted (objectRow objects j)) j k) ∙ step (wanted (objectRow objects j)) (above x (suc j) k (λ i l u. h i (omega arith) (omega arith))) ∙ sym (one (wanted (objectRow objects j)) j k)
+    where
+      step : (b : Bool) → keep (leb x) (from (suc j) k) ≡ from (suc j) k → keep (leb x) (cond b (idIn objects j ∷ from (suc j) k) (from (suc j) k)) ≡ cond b (idIn objects j ∷ from (suc j) k) (from (suc j) k)
+      step true rest = cond-yes (leb x (idIn objects j)) _ _ (yes-leb (h j (omega arith) (omega arith))) ∙ ap {B = List ℕ} (λ l. idIn objects j ∷ l) rest
+      step false rest = rest
+
+  rising : ObjectsAscend m objects → (i j : ℕ) → i < j → j < m → idIn objects i < idIn objects j
+  rising a i j l h = before-one _ _ (ordered objectKey (objectRow objects) m a l h)
+
+  -- what a walk over all objects of the type has left from a row on
+  pub left-from : ObjectsAscend m objects → (n : ℕ) (links : List ℕ) (row : ℕ) → keep (isFrom (cond (ltb row m) (some (idIn objects row)) none)) (instances types (registerOf m objects n links) t) ≡ instancesFrom types objects m t row
+  unfolding instances
+  left-from a n links row = ⊎-elim inside past (decide (ltb row m))
+    where
+      inside : T (ltb row m) → keep (isFrom (cond (ltb row m) (some (idIn objects row)) none)) (from 0 m) ≡ instancesFrom types objects m t row
+      inside u =
+          let h : row < m = ltb-yes u in
+          let x = idIn objects row in
+          let split : m ≡ row + (m - row) = omega arith in
+          let at : 0 + row ≡ row = omega arith in
+          ap (λ o. keep (isFrom o) (from 0 m)) (cond-yes (ltb row m) (some x) none u)
+          ∙ ap (λ k. keep (leb x) (from 0 k)) split
+          ∙ below x row 0 (m - row) (λ i l. rising a i row (omega arith) h)
+          ∙ ap (λ i. keep (leb x) (from i (m - row))) at
+          ∙ above x row (m - row) (λ i l k. ⊎-elim (λ (q : row ≡ i). subst (λ j. x ≤ idIn objects j) q (omega arith)) (λ (q : row < i). let r = rising a row i q (omega arith) in omega arith) (eq-or-lt-of-le l))
+
+      past : T (not (ltb row m)) → keep (isFrom (cond (ltb row m) (some (idIn objects row)) none)) (from 0 m) ≡ instancesFrom types objects m t row
+      past u =
+          let h : m ≤ row = ltb-no u in
+          let over : 0 ≡ m - row = omega arith in
+          ap (λ o. keep (isFrom o) (from 0 m)) (cond-no (ltb row m) (some (idIn objects row)) none u)
+          ∙ keep-none (isFrom none) (from 0 m) (λ y k. tt)
+          ∙ ap (from row) over
+
+  pub from-start : (n : ℕ) (links : List ℕ) → instancesFrom types objects m t 0 ≡ instances types (registerOf m objects n links) t
+  unfolding instances
+  from-start n links = ap (from 0) (sub-zero m)
+
+  -- one row more: its object is under the type or not
+  one-row : (row : ℕ) → row < m → {type : ℕ} {u : Bool} → type ≡ (objectRow objects row) .type → u ≡ under types type t → instancesFrom types objects m t row ≡ cond u (idIn objects row ∷ instancesFrom types objects m t (row + 1)) (instancesFrom types objects m t (row + 1))
+  one-row row h q e =
+      let more : m - row ≡ suc (m - (row + 1)) = omega arith in
+      let asked = ap (λ k. under types k t) (sym q) ∙ sym e in
+      ap (from row) more
+      ∙ one (wanted (objectRow objects row)) row (m - (row + 1))
+      ∙ ap₂ (λ b i. cond b (idIn objects row ∷ from i (m - (row + 1))) (from i (m - (row + 1)))) asked (sym (add-one row))
+
+  module _ {row type : ℕ} {u : Bool} (h : row < m) (q : type ≡ (objectRow objects row) .type) (e : u ≡ under types type t) where
+    pub row-taken : u ≡ true → instancesFrom types objects m t row ≡ idIn objects row ∷ instancesFrom types objects m t (row + 1)
+    row-taken y = one-row row h q e ∙ ap (λ b. cond b (idIn objects row ∷ instancesFrom types objects m t (row + 1)) (instancesFrom types objects m t (row + 1))) y
+
+    pub row-passed : u ≡ false → instancesFrom types objects m t row ≡ instancesFrom types objects m t (row + 1)
+    row-passed y = one-row row h q e ∙ ap (λ b. cond b (idIn objects row ∷ instancesFrom types objects m t (row + 1)) (instancesFrom types objects m t (row + 1))) y
+
+  pub none-left : (row : ℕ) → m ≤ row → instancesFrom types objects m t row ≡ []
+  none-left row h = let over : m - row ≡ 0 = omega arith in ap (from row) over

@@ -1,13 +1,21 @@
--- The variables that are bound.
-use Prim.Native.Nat.{ℕ, zero, suc, _≤_}
-use mathlib.Core.Path.{_≡_, refl}
-use mathlib.Core.List.{List, [], _∷_}
+-- The ids that bound variables stand for.
+use Prim.Native.Nat.{ℕ, zero, suc, _+_, _≤_, _<_}
+use mathlib.Core.Path.{_≡_, refl, ap, _∙_}
+use mathlib.Core.List.{List, [], _∷_, _++_, map, map-append}
 use native.Mathlib.Nat.{le-of-suc-le-suc, not-suc-le-zero}
-use lib.ListN.{getD, take}
+use native.Mathlib.Numerals.{add-one}
+use lib.ListN.{length, getD, take, set}
+use lib.Seq.{take-suc-set}
 
--- there is nothing past the first n
-pub past-take : (n : ℕ) (l : List ℕ) (v : ℕ) → n ≤ v → getD (take n l) v 0 ≡ 0
-past-take zero l v h = refl
-past-take (suc n) [] v h = refl
-past-take (suc n) (x ∷ xs) zero h = absurd (not-suc-le-zero h)
-past-take (suc n) (x ∷ xs) (suc v) h = past-take n xs v (le-of-suc-le-suc h)
+module _ (f : ℕ → ℕ) where
+  -- a bound variable
+  pub bound-at : (depth : ℕ) (l : List ℕ) (v : ℕ) → v < depth → depth ≤ length l → getD (map f (take depth l)) v 0 ≡ f (getD l v 0)
+  bound-at zero l v h k = absurd (not-suc-le-zero h)
+  bound-at (suc d) [] v h k = absurd (not-suc-le-zero k)
+  bound-at (suc d) (x ∷ xs) zero h k = refl
+  bound-at (suc d) (x ∷ xs) (suc v) h k = bound-at d xs v (le-of-suc-le-suc h) (le-of-suc-le-suc k)
+
+  -- one variable more
+  pub one-more : (depth : ℕ) (l : List ℕ) (x : ℕ) → depth < length l → map f (take (depth + 1) (set l depth x)) ≡ map f (take depth l) ++ f x ∷ []
+  one-more d l x h =
+      ap (λ k. map f (take k (set l d x))) (add-one d) ∙ ap (map f) (take-suc-set l d x h) ∙ map-append f (take d l) (x ∷ [])

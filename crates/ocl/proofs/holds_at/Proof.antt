@@ -1,6 +1,7 @@
+-- `ocl::holds_at` meets its contract: the truth of the whole body, with one variable bound.
 use mathlib.Core.Path.{refl}
-use Rattle.ocl.specs.Values.{truthOf}
 use borrow.Author.Needs.{needs}
+use Rattle.ocl.specs.Values.{truthOf}
 use Rattle.ocl.proofs.holds_at.Statement.{statement}
 use Rattle.ocl.proofs.holds_at.Tie as tie
 
@@ -8,7 +9,7 @@ array-write-vars : tie.Need-array-write-vars
 array-write-vars c = search needs
 
 truth-requires : tie.Need-truth-requires
-truth-requires c κs = c .before .before .before .before .before .pre _ refl
+truth-requires c κs = c .before .before .before .before .before .pre _ refl refl
 
 returns : tie.Need-returns
 unfolding truthOf

@@ -1,7 +1,7 @@
 use borrow.Author.Tests.{eq-eqb, ne-eqb}
-use Rattle.ocl.specs.Values.{quantifierOf, stopping}
-use Rattle.ocl.proofs.stops.Statement.{statement}
-use Rattle.ocl.proofs.stops.Tie as tie
+use Rattle.ocl.specs.Operators.{quantifierOf, stopping}
+use Rattle.ocl.proofs.operators.stops.Statement.{statement}
+use Rattle.ocl.proofs.operators.stops.Tie as tie
 
 returns : tie.Need-returns
 unfolding quantifierOf stopping

@@ -1,7 +1,7 @@
 use Rattle.meaning.specs.Meaning.{connected}
 use Rattle.ocl.proofs.Connectives.{code-and, code-or, code-xor, code-implies, xor-true}
-use Rattle.ocl.proofs.joined.Statement.{statement}
-use Rattle.ocl.proofs.joined.Tie as tie
+use Rattle.ocl.proofs.operators.joined.Statement.{statement}
+use Rattle.ocl.proofs.operators.joined.Tie as tie
 
 returns : tie.Need-returns
 unfolding connected

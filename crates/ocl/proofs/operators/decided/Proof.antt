@@ -2,8 +2,8 @@ use mathlib.Core.Path.{_≡_}
 use Prim.Native.Nat.{ℕ}
 use native.Mathlib.Omega.{arith}
 use Rattle.ocl.proofs.Connectives.{decided-and, decided-or, decided-implies}
-use Rattle.ocl.proofs.decided.Statement.{statement}
-use Rattle.ocl.proofs.decided.Tie as tie
+use Rattle.ocl.proofs.operators.decided.Statement.{statement}
+use Rattle.ocl.proofs.operators.decided.Tie as tie
 
 returns : tie.Need-returns
 returns c = decided-and _ _ (c .match .keys1)
