@@ -6,10 +6,10 @@ use mathlib.Core.Option.{Option}
 use lib.Dec.{ltb, eqb}
 use Rattle.meaning.specs.Lists.{firstOf}
 use Rattle.meaning.specs.Events.{Refusal}
-use Rattle.meaning.specs.Reach.{pairOf, contextPairs}
+use Rattle.meaning.specs.Reach.{pairOf}
 use Rattle.meaning.specs.Answers as Meaning
-use Rattle.meaning.specs.Answers.{accepted, brokenAt, refused, refusalFor, unlessRefused, firstBroken}
-use Rattle.tables.specs.Refusals.{Tables, bookOf, registerIn, tablesOf, tableRefusal, lentRefusal}
+use Rattle.meaning.specs.Answers.{accepted, brokenAt, refused, refusalFor, unlessRefused, firstBroken, fullCheck}
+use Rattle.tables.specs.Refusals.{Tables, bookOf, registerIn, tablesOf, tableRefusal}
 use Rattle.tables.specs.declared.Verdict.{Verdict}
 use Rattle.tables.specs.declared.Verdict.the-variants as Verdict
 use Rattle.full.specs.declared.Answer.{Answer}
@@ -21,12 +21,9 @@ answerOf accepted = Accepted
 answerOf (brokenAt rule id) = Broken rule id
 answerOf (refused number place) = Refused number place
 
--- "A full check answers the first broken pair, lowest rule and then lowest id, or accepted", once no refusal is met.
+-- The full check of the book and the register that the tables hold, after refusals 2 and 6 of the tables themselves.
 unfoldable pub lentAnswer : Tables → Meaning.Answer
-lentAnswer t =
-    let k = bookOf t in
-    let g = registerIn t in
-    unlessRefused (lentRefusal t false) (firstBroken k g (contextPairs k g))
+lentAnswer t = unlessRefused (tableRefusal (tablesOf t) false) (fullCheck (bookOf t) (registerIn t))
 
 -- refusals 2, 6, 3, 4 and 5 of a question about one rule, "checked from the top"
 unfoldable pub lentRefusalFor : Tables → ℕ → Option Refusal

@@ -4,19 +4,20 @@
 --   Variables     the ids of bound variables
 --   Objects       objects by their rows
 --   Connectives   connectives by their codes
---   Nodes         the form that ends before a row, by its code
+--   Codes         operators by ranges of codes
 --   Steady        what a register that fits its schema gives
 --   Scopes        well-typed forms are in scope
 --   Nums          the numbers of a form are small
 --   Parts         the parts of a form are ready where the form is
 --   Walks         walks over the three collections
 --   Answers       what each evaluator answers
+--   Bodies        well-typed bodies are ready
 pub mod Members
 pub mod Steps
 pub mod Variables
 pub mod Objects
 pub mod Connectives
-pub mod Nodes
+pub mod Codes
 pub mod Steady
 pub mod Scopes
 pub mod Nums
@@ -24,3 +25,4 @@ pub mod Loops
 pub mod Parts
 pub mod Walks
 pub mod Answers
+pub mod Bodies

@@ -30,7 +30,8 @@ use Rattle.ocl.specs.Walks.{collectionAt}
 use Rattle.ocl.specs.Ready.{scoped, scopedAs, Ready}
 use Rattle.ocl.proofs.Variables.{bound-at, one-more}
 use Rattle.ocl.proofs.Loops.{weighed, ones}
-use Rattle.ocl.proofs.Nodes.{comparing-at, connecting-at, quantifying-at, combining-at, Made, made, truth-code, number-code, collection-code, read-sound, Two, two, one}
+use Rattle.book.proofs.Nodes.{Made, made, truth-code, number-code, collection-code, read-sound, Two, two, one}
+use Rattle.ocl.proofs.Codes.{comparing-at, connecting-at, quantifying-at, combining-at}
 
 module _ {w : Site} {starts : List ℕ} {e : ℕ} {vars : List ℕ} {depth : ℕ} {s : Sort} (ready : Ready w starts e vars depth s) where
   sound : T ((ending (rowsAt w) e) .sound)

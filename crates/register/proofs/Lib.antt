@@ -9,6 +9,7 @@
 --   Ends       the two places of a link, their keys and their ends
 --   Laid       the table of slots, one slot more
 --   Walk       the walk along a role from an object's row
+--   Fits       a register that fits its schema can be indexed
 pub mod Hits
 pub mod Places
 pub mod Searches
@@ -19,3 +20,4 @@ pub mod Chains
 pub mod Ends
 pub mod Laid
 pub mod Walk
+pub mod Fits

@@ -20,7 +20,7 @@ use Rattle.ocl.specs.Operators.{quantifierOf}
 use Rattle.ocl.specs.Values.{truthOf}
 use Rattle.ocl.specs.Walks.{leftAt, Stands, Went}
 use Rattle.ocl.specs.Ready.{Ready}
-use Rattle.ocl.proofs.Nodes.{above-cell}
+use Rattle.ocl.proofs.Codes.{above-cell}
 use Rattle.ocl.proofs.Steps.{stepped-done, stepped-at, fewer-left}
 use Rattle.ocl.proofs.Parts.{positive, shallow, underOne, compare-parts, connect-parts, quantify-parts, combine-parts, select-parts, negate-part, total-part, kind-code, kind-scope, number-codes, cell-scope, is-select}
 use Rattle.ocl.proofs.Answers.{compare-made, negate-made, connect-early, connect-made, kind-made, quantify-starts, quantify-ends, quantify-stops, quantify-goes-on, literal-made, cell-made, add-made, subtract-made, value-fits}

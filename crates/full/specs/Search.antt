@@ -1,0 +1,33 @@
+-- The search of the full check, and one rule at one object, once no refusal is met.
+use Prim.Native.Nat.{ℕ}
+use mathlib.Core.Path.{_≡_}
+use mathlib.Core.Bool.{Bool, false, _&&_, not}
+use mathlib.Core.List.{List, [], _∷_}
+use mathlib.Core.Option.{none}
+use Rattle.meaning.specs.Schema.{under}
+use Rattle.meaning.specs.Meaning.{broken}
+use Rattle.meaning.specs.Reach.{contextPairs, ofRule}
+use Rattle.meaning.specs.Answers.{Answer, firstBroken}
+use Rattle.tables.specs.Columns.{objectRow}
+use Rattle.tables.specs.Refusals.{Tables, bookOf, registerIn, lentTables, lentRefusal}
+use Rattle.tables.specs.declared.Counts.{Counts}
+use Rattle.register.specs.Slots.{Indexed}
+use Rattle.ocl.specs.Site.{Site, typesAt}
+use Rattle.ocl.specs.Values.{truthOf}
+
+-- "the first broken pair, lowest rule and then lowest id, or accepted"
+unfoldable pub found : Tables → Answer
+found t = firstBroken (bookOf t) (registerIn t) (contextPairs (bookOf t) (registerIn t))
+
+-- "A rule is *broken* at an object": the rule of that number, at the object of that id
+unfoldable pub brokenIn : Tables → ℕ → ℕ → Bool
+brokenIn t rule id = ofRule (bookOf t) (λ r. broken ((bookOf t) .schema .types) (registerIn t) r id) rule
+
+-- the same of the object in a row, by the context type and the body of e rows
+unfoldable pub brokenRow : Site → ℕ → ℕ → ℕ → Bool
+brokenRow w context e row = under (typesAt w) ((objectRow (w .objects) row) .type) context && not (truthOf w e (row ∷ []) 1)
+
+-- no refusal is met, and the table is the index of the links
+pub record Clear (n : Counts) (types relationships rules bodies objects links index : List ℕ) : Type 0 where
+  pub unrefused : lentRefusal (lentTables n types relationships rules bodies objects links) false ≡ none
+  pub indexed : Indexed (n .objects) objects (n .links) links index
