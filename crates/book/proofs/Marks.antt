@@ -141,7 +141,10 @@ module _ (rows : ℕ → BodyRow) (i : ℕ) where
   unfolding readingOf
   start-none e = reading-code none e .starts
 
-  pub mark-some : (o : Operator) → operatorOf ((rows i) .code) ≡ some o → mark (ending rows (suc i)) ≡ cond (serves (firstSort ((shapeOf o) .parts)) (mark (firstPart rows i))) (cond (serves (secondSort ((shapeOf o) .parts)) (mark (secondPart rows i))) (cond (fieldsFit ((shapeOf o) .fields) (rows i)) (sortCode ((shapeOf o) .result)) 3) 3) 3
+  pub mark-some : (o : Operator)
+      → operatorOf ((rows i) .code) ≡ some o
+      → mark (ending rows (suc i))
+      ≡ cond (serves (firstSort ((shapeOf o) .parts)) (mark (firstPart rows i))) (cond (serves (secondSort ((shapeOf o) .parts)) (mark (secondPart rows i))) (cond (fieldsFit ((shapeOf o) .fields) (rows i)) (sortCode ((shapeOf o) .result)) 3) 3) 3
   unfolding readingOf mark
   mark-some o e =
       mark-agree (reading-code (some o) e)

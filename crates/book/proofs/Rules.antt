@@ -59,7 +59,7 @@ module _ (typeCount : ℕ) (types : List ℕ) (relationshipCount : ℕ) (relatio
   faulty = faultyRule S rule p (ruleRow rules bodies rule)
 
   -- the three tests of a rule
-  tests : not (knownType S context && wellTyped S (context ∷ []) body && leb (formCount body) maxForms) ≡ faulty
+  tests : not (knownType (S .types) context && wellTyped S (context ∷ []) body && leb (formCount body) maxForms) ≡ faulty
   unfolding faultyRule ruleRow
   tests = λ j. faultyRule S rule p (record { context = first j; body = readBody (bodyOf bodies rule) (second j) })
 
@@ -67,7 +67,7 @@ module _ (typeCount : ℕ) (types : List ℕ) (relationshipCount : ℕ) (relatio
   unknown-context h =
       sym
       (ap (λ a. not (a && wellTyped S (context ∷ []) body && leb (formCount body) maxForms))
-      (type-known typeCount types (S .relationships) context ∙ le-ltb context typeCount h))
+      (type-known typeCount types context ∙ le-ltb context typeCount h))
       ∙ tests
 
   -- rows that are no body are read as one that names variable 1
@@ -75,8 +75,8 @@ module _ (typeCount : ℕ) (types : List ℕ) (relationshipCount : ℕ) (relatio
   unfolding wellTyped
   no-body h =
       sym
-      (ap (λ f. not (knownType S context && wellTyped S (context ∷ []) f && leb (formCount f) maxForms)) (body-none (bodyOf bodies rule) size h)
-      ∙ refused (knownType S context) (leb (formCount (kind 1 0)) maxForms))
+      (ap (λ f. not (knownType (S .types) context && wellTyped S (context ∷ []) f && leb (formCount f) maxForms)) (body-none (bodyOf bodies rule) size h)
+      ∙ refused (knownType (S .types) context) (leb (formCount (kind 1 0)) maxForms))
       ∙ tests
     where
       refused : (a c : Bool) → not (a && false && c) ≡ true
@@ -88,7 +88,7 @@ module _ (typeCount : ℕ) (types : List ℕ) (relationshipCount : ℕ) (relatio
   judged h words whole b e =
       let rows = bodyOf bodies rule in
       let w = whole-body rows size whole in
-      let known : true ≡ knownType S context = sym (type-known typeCount types (S .relationships) context ∙ lt-ltb context typeCount h) in
+      let known : true ≡ knownType (S .types) context = sym (type-known typeCount types context ∙ lt-ltb context typeCount h) in
       let few : true ≡ leb (formCount body) maxForms = sym (ap (λ n. leb n maxForms) (body-count rows words size whole) ∙ le-leb size maxForms (w .few)) in
       let same : b ≡ wellTyped S (context ∷ []) body =
       e ∙ ap (typedPart S (context ∷ [])) (is-truth ((ending rows size) .form) (w .isTruth)) ∙ ap (wellTyped S (context ∷ [])) (sym (body-ending rows size whole)) in

@@ -14,7 +14,7 @@ use lib.Seq.{length-take-le, getD-take, take-suc-set}
 use mir.Facts.{and-yes}
 use borrow.Author.Tests.{lt-ltb, le-ltb, leb-true, leb-false, eqb-false, eq-eqb, ne-eqb}
 use Rattle.meaning.specs.Limits.{fitsWord}
-use Rattle.meaning.specs.Schema.{Schema, knownType, knownRole, cellsOf, under, nearType, farType}
+use Rattle.meaning.specs.Schema.{Relationship, Schema, knownType, knownRole, cellsOf, under, nearType, farType}
 use Rattle.meaning.specs.Forms.{Sort, truth, number, collection, Form, bind, variable, memberType, wellTyped}
 use Rattle.rows.specs.Rows.{signed}
 use Rattle.rows.proofs.Words.{signed-fits}
@@ -41,13 +41,13 @@ module _ (typeCount : ℕ) (types : List ℕ) (relationshipCount : ℕ) (relatio
         (cond (eqb code 21) (ltb x typeCount)
         (cond (leb depth x) false
         (cond (eqb code 13) (ltb y typeCount)
-        (cond (eqb code 15) (ltb y (cellsOf lent (getD env x 0)))
-        (ltb (y / 2) relationshipCount && under lent (getD env x 0) (nearType lent y))))))
+        (cond (eqb code 15) (ltb y (cellsOf (lent .types) (getD env x 0)))
+        (ltb (y / 2) relationshipCount && under (lent .types) (getD env x 0) (nearType (lent .relationships) y))))))
 
     pub leaf-words : leafWords ≡ typedLeaf lent (take depth env) code x y
     unfolding typedLeaf knownRole
     leaf-words =
-        ap₂ (λ a b. cond (eqb code 14) true (cond (eqb code 21) a b)) (sym (type-known typeCount types (lent .relationships) x))
+        ap₂ (λ a b. cond (eqb code 14) true (cond (eqb code 21) a b)) (sym (type-known typeCount types x))
         (ap (λ n. cond (leb n x) false (rest (getD env x 0) (ltb y typeCount) (ltb (y / 2) relationshipCount))) (sym size)
         ∙ guarded (leb (length (take depth env)) x) refl)
       where
@@ -55,53 +55,53 @@ module _ (typeCount : ℕ) (types : List ℕ) (relationshipCount : ℕ) (relatio
         size = length-take-le depth env long
 
         rest : ℕ → Bool → Bool → Bool
-        rest t known role = cond (eqb code 13) known (cond (eqb code 15) (ltb y (cellsOf lent t)) (role && under lent t (nearType lent y)))
+        rest t known role = cond (eqb code 13) known (cond (eqb code 15) (ltb y (cellsOf (lent .types) t)) (role && under (lent .types) t (nearType (lent .relationships) y)))
 
         -- a variable below the depth is that of the array
-        guarded : (b : Bool) → leb (length (take depth env)) x ≡ b → cond b false (rest (getD env x 0) (ltb y typeCount) (ltb (y / 2) relationshipCount)) ≡ cond b false (rest (variable (take depth env) x) (knownType lent y) (knownRole lent y))
+        guarded : (b : Bool) → leb (length (take depth env)) x ≡ b → cond b false (rest (getD env x 0) (ltb y typeCount) (ltb (y / 2) relationshipCount)) ≡ cond b false (rest (variable (take depth env) x) (knownType (lent .types) y) (knownRole (lent .relationships) y))
         guarded true e = refl
         guarded false e =
             let inside : x < depth = omega (arith, leb-false (length (take depth env)) x e, size) in
             λ j.
-            rest (sym (getD-take depth env x 0 inside) j) (sym (type-known typeCount types (lent .relationships) y) j)
-            (sym (relationship-known (lent .types) relationshipCount relationships (y / 2)) j)
+            rest (sym (getD-take depth env x 0 inside) j) (sym (type-known typeCount types y) j)
+            (sym (relationship-known relationshipCount relationships (y / 2)) j)
 
 -- ---- the members of a collection
 
 -- by the code: a select's are those of its first part, an all's of its type, and a role's of the type to which it leads
-abbrev memberTest : Schema → List ℕ → ℕ → BodyRow → Part → ℕ
-memberTest S vs code r a = cond (eqb code 22) (memberOf S vs a) (cond (eqb code 21) (r .x) (farType S (r .y)))
+abbrev memberTest : List Relationship → ℕ → BodyRow → Part → ℕ
+memberTest relationships code r a = cond (eqb code 22) (memberOf relationships a) (cond (eqb code 21) (r .x) (farType relationships (r .y)))
 
-member-node : (S : Schema) (vs : List ℕ) (o : Operator) (r : BodyRow) (a b : Part) → T (sameSort collection ((shapeOf o) .result)) → memberTest S vs (codeOf o) r a ≡ memberOf S vs (formOf o r a b)
+member-node : (relationships : List Relationship) (o : Operator) (r : BodyRow) (a b : Part) → T (sameSort collection ((shapeOf o) .result)) → memberTest relationships (codeOf o) r a ≡ memberOf relationships (formOf o r a b)
 unfolding shapeOf codeOf formOf memberOf memberType asCollection
-member-node S vs (comparing o) r a b t = absurd t
-member-node S vs negating r a b t = absurd t
-member-node S vs (connecting o) r a b t = absurd t
-member-node S vs (quantifying q) r a b t = absurd t
-member-node S vs kindOf r a b t = absurd t
-member-node S vs literal r a b t = absurd t
-member-node S vs cellOf r a b t = absurd t
-member-node S vs sizeOf r a b t = absurd t
-member-node S vs sumOf r a b t = absurd t
-member-node S vs (combining o) r a b t = absurd t
-member-node S vs roleOf r a b t = refl
-member-node S vs allOf r a b t = refl
-member-node S vs selecting r a b t = refl
+member-node relationships (comparing o) r a b t = absurd t
+member-node relationships negating r a b t = absurd t
+member-node relationships (connecting o) r a b t = absurd t
+member-node relationships (quantifying q) r a b t = absurd t
+member-node relationships kindOf r a b t = absurd t
+member-node relationships literal r a b t = absurd t
+member-node relationships cellOf r a b t = absurd t
+member-node relationships sizeOf r a b t = absurd t
+member-node relationships sumOf r a b t = absurd t
+member-node relationships (combining o) r a b t = absurd t
+member-node relationships roleOf r a b t = refl
+member-node relationships allOf r a b t = refl
+member-node relationships selecting r a b t = refl
 
 module _ (rows : ℕ → BodyRow) (i : ℕ) (reading : T (reads collection (ending rows (suc i)))) where
   is-sound : T ((ending rows (suc i)) .sound)
   is-sound = and-yes ((ending rows (suc i)) .sound) (sameSort collection (sortOf ((ending rows (suc i)) .form))) reading .0
 
-  pub member-row : (S : Schema) (vs : List ℕ) → memberTest S vs ((rows i) .code) (rows i) ((firstPart rows i) .form) ≡ memberOf S vs ((ending rows (suc i)) .form)
-  member-row S vs =
+  pub member-row : (relationships : List Relationship) → memberTest relationships ((rows i) .code) (rows i) ((firstPart rows i) .form) ≡ memberOf relationships ((ending rows (suc i)) .form)
+  member-row relationships =
       let d = node rows i is-sound in
       let f = (firstPart rows i) .form in
       let s = (secondPart rows i) .form in
       let sort : sortOf ((ending rows (suc i)) .form) ≡ (shapeOf (d .operator)) .result = ap sortOf (d .form) ∙ result-sort (d .operator) (rows i) f s in
-      ap (λ k. memberTest S vs k (rows i) f) (sym (code-of ((rows i) .code) (d .operator) (d .coded)))
-      ∙ member-node S vs (d .operator) (rows i) f s
+      ap (λ k. memberTest relationships k (rows i) f) (sym (code-of ((rows i) .code) (d .operator) (d .coded)))
+      ∙ member-node relationships (d .operator) (rows i) f s
       (subst (λ q. T (sameSort collection q)) sort (and-yes ((ending rows (suc i)) .sound) (sameSort collection (sortOf ((ending rows (suc i)) .form))) reading .1))
-      ∙ ap (memberOf S vs) (sym (d .form))
+      ∙ ap (memberOf relationships) (sym (d .form))
 
   -- the first part of a select is a collection
   pub select-row : (rows i) .code ≡ 22 → (0 < (ending rows i) .start) × T (reads collection (firstPart rows i))
@@ -116,14 +116,14 @@ module _ (rows : ℕ → BodyRow) (i : ℕ) (reading : T (reads collection (endi
 pub record Members (rows : ℕ → BodyRow) (e row : ℕ) : Type 0 where
   pub below : row < e
   pub reading : T (reads collection (ending rows (suc row)))
-  pub same : (S : Schema) (vs : List ℕ) → memberOf S vs ((ending rows (suc row)) .form) ≡ memberOf S vs ((ending rows e) .form)
+  pub same : (relationships : List Relationship) → memberOf relationships ((ending rows (suc row)) .form) ≡ memberOf relationships ((ending rows e) .form)
 
 pub members-none : (rows : ℕ → BodyRow) (e : ℕ) → T (reads collection (ending rows e)) → (0 < e) × Members rows e (e - 1)
 unfolding ending
 members-none rows zero t = absurd t
 members-none rows (suc i) t =
     let row : suc i - 1 ≡ i = omega arith in
-    (omega arith, subst (Members rows (suc i)) (sym row) (record { below = le-refl (suc i); reading = t; same = λ S vs. refl }))
+    (omega arith, subst (Members rows (suc i)) (sym row) (record { below = le-refl (suc i); reading = t; same = λ relationships. refl }))
 
 pub members-more : {rows : ℕ → BodyRow} {e row : ℕ} → Members rows e row → (rows row) .code ≡ 22 → (m : ℕ) → m ≡ (ending rows row) .start → (0 < m) × (m ≤ row) × Members rows e (m - 1)
 members-more {rows} {e} {row} k code zero q = let h = select-row rows row (k .reading) code .0 in absurd (omega arith)
@@ -139,23 +139,23 @@ members-more {rows} {e} {row} k code (suc m) q =
             below = omega arith;
             reading = subst (λ n. T (reads collection (ending rows n))) (sym q) (h .1);
             same =
-                λ S vs.
-                ap (λ n. memberOf S vs ((ending rows n) .form)) q
-                ∙ ap (λ c. memberTest S vs c (rows row) ((firstPart rows row) .form)) (sym code)
-                ∙ member-row rows row (k .reading) S vs
-                ∙ k .same S vs;
+                λ relationships.
+                ap (λ n. memberOf relationships ((ending rows n) .form)) q
+                ∙ ap (λ c. memberTest relationships c (rows row) ((firstPart rows row) .form)) (sym code)
+                ∙ member-row rows row (k .reading) relationships
+                ∙ k .same relationships;
           }
           ),
     )
 
-module _ {rows : ℕ → BodyRow} {e row : ℕ} (k : Members rows e row) (S : Schema) (vs : List ℕ) where
-  pub members-all : (rows row) .code ≡ 21 → (rows row) .x ≡ memberOf S vs ((ending rows e) .form)
+module _ {rows : ℕ → BodyRow} {e row : ℕ} (k : Members rows e row) (relationships : List Relationship) where
+  pub members-all : (rows row) .code ≡ 21 → (rows row) .x ≡ memberOf relationships ((ending rows e) .form)
   members-all code =
-      ap (λ c. memberTest S vs c (rows row) ((firstPart rows row) .form)) (sym code) ∙ member-row rows row (k .reading) S vs ∙ k .same S vs
+      ap (λ c. memberTest relationships c (rows row) ((firstPart rows row) .form)) (sym code) ∙ member-row rows row (k .reading) relationships ∙ k .same relationships
 
-  pub members-role : ((rows row) .code ≡ 22 → ⊥) → ((rows row) .code ≡ 21 → ⊥) → farType S ((rows row) .y) ≡ memberOf S vs ((ending rows e) .form)
+  pub members-role : ((rows row) .code ≡ 22 → ⊥) → ((rows row) .code ≡ 21 → ⊥) → farType relationships ((rows row) .y) ≡ memberOf relationships ((ending rows e) .form)
   members-role a b =
-      sym (simp (ne-eqb ((rows row) .code) 22 a, ne-eqb ((rows row) .code) 21 b) at (sym (member-row rows row (k .reading) S vs))) ∙ k .same S vs
+      sym (simp (ne-eqb ((rows row) .code) 22 a, ne-eqb ((rows row) .code) 21 b) at (sym (member-row rows row (k .reading) relationships))) ∙ k .same relationships
 
 -- ---- a form by its parts
 
@@ -184,10 +184,10 @@ module _ (S : Schema) (vs : List ℕ) where
   -- test by test: a leaf; a form with one part, of which only a sum asks more; a form with two, of which the second has a variable
   -- more where the first is a collection
   abbrev onePart : ℕ → ℕ → Part → Bool
-  onePart code x b = cond (summed S vs code x b) (typedPart S vs b) false
+  onePart code x b = cond (summed S code x b) (typedPart S vs b) false
 
   abbrev twoParts : ℕ → Part → Part → Bool
-  twoParts first a b = cond (typedPart S vs a) (cond (eqb first 2) (typedPart S (bind vs (memberOf S vs a)) b) (typedPart S vs b)) false
+  twoParts first a b = cond (typedPart S vs a) (cond (eqb first 2) (typedPart S (bind vs (memberOf (S .relationships) a)) b) (typedPart S vs b)) false
 
   abbrev pub nodeTest : List Sort → ℕ → BodyRow → Part → Part → Bool
   nodeTest parts code r a b =
@@ -200,11 +200,11 @@ module _ (S : Schema) (vs : List ℕ) where
   plain a b f g p q = ap₂ (λ x y. cond (typedPart S vs x) (typedPart S vs y) false) p q ∙ cond-and (wellTyped S vs f) (wellTyped S vs g)
 
   -- a collection, and a truth with one variable more
-  bound : (a b : Part) (f : Form collection) (g : Form truth) → a ≡ part collection f → b ≡ part truth g → cond (typedPart S vs a) (typedPart S (bind vs (memberOf S vs a)) b) false ≡ (wellTyped S vs f && wellTyped S (bind vs (memberType S vs f)) g)
+  bound : (a b : Part) (f : Form collection) (g : Form truth) → a ≡ part collection f → b ≡ part truth g → cond (typedPart S vs a) (typedPart S (bind vs (memberOf (S .relationships) a)) b) false ≡ (wellTyped S vs f && wellTyped S (bind vs (memberType (S .relationships) f)) g)
   unfolding typedPart memberOf asCollection
   bound a b f g p q =
-      ap₂ (λ x y. cond (typedPart S vs x) (typedPart S (bind vs (memberOf S vs x)) y) false) p q
-      ∙ cond-and (wellTyped S vs f) (wellTyped S (bind vs (memberType S vs f)) g)
+      ap₂ (λ x y. cond (typedPart S vs x) (typedPart S (bind vs (memberOf (S .relationships) x)) y) false) p q
+      ∙ cond-and (wellTyped S vs f) (wellTyped S (bind vs (memberType (S .relationships) f)) g)
 
   node-typed : (o : Operator) (r : BodyRow) (a b : Part) → sorted ((shapeOf o) .parts) a b → nodeTest ((shapeOf o) .parts) (codeOf o) r a b ≡ typedPart S vs (formOf o r a b)
   unfolding shapeOf codeOf formOf typedPart typedLeaf memberOf wellTyped fitsWord
@@ -212,19 +212,19 @@ module _ (S : Schema) (vs : List ℕ) where
   node-typed negating r a b t = ap (typedPart S vs) (is-truth b t)
   node-typed (connecting o) r a b t = plain a b (asTruth a) (asTruth b) (is-truth a (t .0)) (is-truth b (t .1))
   node-typed (quantifying q) r a b t = bound a b (asCollection a) (asTruth b) (is-collection a (t .0)) (is-truth b (t .1))
-  node-typed kindOf r a b t = cond-below (length vs) (r .x) (knownType S (r .y))
+  node-typed kindOf r a b t = cond-below (length vs) (r .x) (knownType (S .types) (r .y))
   node-typed literal r a b t = sym (lt-ltb (mag (signed (r .x))) (2 ^ 31) (signed-fits (r .x)))
-  node-typed cellOf r a b t = cond-below (length vs) (r .x) (ltb (r .y) (cellsOf S (variable vs (r .x))))
+  node-typed cellOf r a b t = cond-below (length vs) (r .x) (ltb (r .y) (cellsOf (S .types) (variable vs (r .x))))
   node-typed sizeOf r a b t = ap (typedPart S vs) (is-collection b t)
   node-typed sumOf r a b t =
-      let cells = cellsOf S (memberOf S vs b) in
+      let cells = cellsOf (S .types) (memberOf (S .relationships) b) in
       cond-and (ltb (r .x) cells) (typedPart S vs b)
       ∙ and-swap (ltb (r .x) cells) (typedPart S vs b)
       ∙ ap (λ p. typedPart S vs p && ltb (r .x) cells) (is-collection b t)
   node-typed (combining o) r a b t = plain a b (asNumber a) (asNumber b) (is-number a (t .0)) (is-number b (t .1))
   node-typed roleOf r a b t =
-      cond-below (length vs) (r .x) (knownRole S (r .y) && under S (variable vs (r .x)) (nearType S (r .y)))
-      ∙ and-assoc (ltb (r .x) (length vs)) (knownRole S (r .y)) (under S (variable vs (r .x)) (nearType S (r .y)))
+      cond-below (length vs) (r .x) (knownRole (S .relationships) (r .y) && under (S .types) (variable vs (r .x)) (nearType (S .relationships) (r .y)))
+      ∙ and-assoc (ltb (r .x) (length vs)) (knownRole (S .relationships) (r .y)) (under (S .types) (variable vs (r .x)) (nearType (S .relationships) (r .y)))
   node-typed allOf r a b t = refl
   node-typed selecting r a b t = bound a b (asCollection a) (asTruth b) (is-collection a (t .0)) (is-truth b (t .1))
 
@@ -290,7 +290,7 @@ module _ (rows : ℕ → BodyRow) (i : ℕ) (sound : T ((ending rows (suc i)) .s
     pub leaf-here : secondSort partsHere ≡ 3 → typedLeaf S vs ((rows i) .code) ((rows i) .x) ((rows i) .y) ≡ typedPart S vs ((ending rows (suc i)) .form)
     leaf-here e = simp (eq-eqb (secondSort partsHere) 3 e) at (typed-here S vs)
 
-    pub one-here : (secondSort partsHere ≡ 3 → ⊥) → firstSort partsHere ≡ 3 → cond (summed S vs ((rows i) .code) ((rows i) .x) ((secondPart rows i) .form)) (typedPart S vs ((secondPart rows i) .form)) false ≡ typedPart S vs ((ending rows (suc i)) .form)
+    pub one-here : (secondSort partsHere ≡ 3 → ⊥) → firstSort partsHere ≡ 3 → cond (summed S ((rows i) .code) ((rows i) .x) ((secondPart rows i) .form)) (typedPart S vs ((secondPart rows i) .form)) false ≡ typedPart S vs ((ending rows (suc i)) .form)
     one-here n e = simp (ne-eqb (secondSort partsHere) 3 n, eq-eqb (firstSort partsHere) 3 e) at (typed-here S vs)
 
     module _ (n : secondSort partsHere ≡ 3 → ⊥) (m : firstSort partsHere ≡ 3 → ⊥) where
@@ -300,7 +300,7 @@ module _ (rows : ℕ → BodyRow) (i : ℕ) (sound : T ((ending rows (suc i)) .s
       pub plain-here : (firstSort partsHere ≡ 2 → ⊥) → cond (typedPart S vs ((firstPart rows i) .form)) (typedPart S vs ((secondPart rows i) .form)) false ≡ typedPart S vs ((ending rows (suc i)) .form)
       plain-here k = simp (ne-eqb (firstSort partsHere) 2 k) at two-here
 
-      pub bound-here : firstSort partsHere ≡ 2 → cond (typedPart S vs ((firstPart rows i) .form)) (typedPart S (bind vs (memberOf S vs ((firstPart rows i) .form))) ((secondPart rows i) .form)) false ≡ typedPart S vs ((ending rows (suc i)) .form)
+      pub bound-here : firstSort partsHere ≡ 2 → cond (typedPart S vs ((firstPart rows i) .form)) (typedPart S (bind vs (memberOf (S .relationships) ((firstPart rows i) .form))) ((secondPart rows i) .form)) false ≡ typedPart S vs ((ending rows (suc i)) .form)
       bound-here e = simp (eq-eqb (firstSort partsHere) 2 e) at two-here
 
       -- a first part that is not well typed

@@ -4,7 +4,7 @@ use mathlib.Core.Bool.{Bool, true, false, _&&_, cond}
 use mathlib.Core.List.{List}
 use lib.Dec.{ltb, leb, eqb}
 use lib.ListN.{length}
-use Rattle.meaning.specs.Schema.{Schema, knownType, knownRole, cellsOf, under, nearType}
+use Rattle.meaning.specs.Schema.{Relationship, Schema, knownType, knownRole, cellsOf, under, nearType}
 use Rattle.meaning.specs.Forms.{variable, memberType, wellTyped}
 use Rattle.tables.specs.Bodies.{Part, part, asCollection}
 
@@ -12,19 +12,19 @@ use Rattle.tables.specs.Bodies.{Part, part, asCollection}
 unfoldable pub typedPart : Schema → List ℕ → Part → Bool
 typedPart S types (part s f) = wellTyped S types f
 
-unfoldable pub memberOf : Schema → List ℕ → Part → ℕ
-memberOf S types p = memberType S types (asCollection p)
+unfoldable pub memberOf : List Relationship → Part → ℕ
+memberOf relationships p = memberType relationships (asCollection p)
 
 -- a sum names a cell of its members; what is no sum names none
-abbrev pub summed : Schema → List ℕ → ℕ → ℕ → Part → Bool
-summed S types code x p = cond (eqb code 17) (ltb x (cellsOf S (memberOf S types p))) true
+abbrev pub summed : Schema → ℕ → ℕ → Part → Bool
+summed S code x p = cond (eqb code 17) (ltb x (cellsOf (S .types) (memberOf (S .relationships) p))) true
 
 -- a row without parts, by its code and its first two fields: num, all, and then kind, cell and role, which name a variable
 unfoldable pub typedLeaf : Schema → List ℕ → ℕ → ℕ → ℕ → Bool
 typedLeaf S types code x y =
     cond (eqb code 14) true
-    (cond (eqb code 21) (knownType S x)
+    (cond (eqb code 21) (knownType (S .types) x)
     (cond (leb (length types) x) false
-    (cond (eqb code 13) (knownType S y)
-    (cond (eqb code 15) (ltb y (cellsOf S (variable types x)))
-    (knownRole S y && under S (variable types x) (nearType S y))))))
+    (cond (eqb code 13) (knownType (S .types) y)
+    (cond (eqb code 15) (ltb y (cellsOf (S .types) (variable types x)))
+    (knownRole (S .relationships) y && under (S .types) (variable types x) (nearType (S .relationships) y))))))

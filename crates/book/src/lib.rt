@@ -21,7 +21,9 @@ fn faulty(
     bodies: &[u32],
     rule: u32,
 ) -> bool
-    ensures { λ r. ⌜ ((p : Option Rule) → r ≡ faultyRule (schemaOf «type_count» (now (types .entry)) «relationship_count» (now (relationships .entry))) rule p (ruleRow (now (rules .entry)) (now (bodies .entry)) rule)) ⌝ }
+    ensures { λ r. ⌜ ((p : Option Rule) → r ≡ faultyRule
+        (schemaOf «type_count» (now (types .entry)) «relationship_count» (now (relationships .entry)))
+        rule p (ruleRow (now (rules .entry)) (now (bodies .entry)) rule)) ⌝ }
 {
     let context = rows::word(rules, 2, rule, 0);
     if type_count <= context {
@@ -62,7 +64,10 @@ pub fn check(
     rules: &[u32],
     bodies: &[u32],
 ) -> Found
-    ensures { λ r. ⌜ r ≡ foundOf (ruleFault (record { schema = schemaOf «type_count» (now (types .entry)) «relationship_count» (now (relationships .entry)); rules = rulesOf «rule_count» (now (rules .entry)) (now (bodies .entry)) })) ⌝ }
+    ensures { λ r. ⌜ r ≡ foundOf (ruleFault (record {
+      schema = schemaOf «type_count» (now (types .entry)) «relationship_count» (now (relationships .entry));
+      rules = rulesOf «rule_count» (now (rules .entry)) (now (bodies .entry));
+    })) ⌝ }
 {
     let mut rule: u32 = 0;
     while rule < rule_count {

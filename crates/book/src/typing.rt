@@ -6,15 +6,12 @@ use crate::body::SECOND;
 use crate::body::field;
 use crate::body::shape;
 ghost use mathlib.Core.Path.{_≡_};
-ghost use mathlib.Core.List.{List};
-ghost use Prim.Native.Nat.{ℕ, _+_, _≤_};
+ghost use Prim.Native.Nat.{_+_, _≤_};
 ghost use lib.Dec.{T};
 ghost use lib.ListN.{length, take};
-ghost use Rattle.meaning.specs.Schema.{ObjectType};
 ghost use Rattle.meaning.specs.Forms.{collection};
 ghost use Rattle.tables.specs.Bodies.{reads, ending};
-ghost use Rattle.tables.specs.Columns.{schemaOf};
-ghost use Rattle.schema.specs.Tables.{relationshipsWith};
+ghost use Rattle.tables.specs.Columns.{relationshipsOf, schemaOf};
 ghost use Rattle.book.specs.Marks.{bodyOf, Starts};
 ghost use Rattle.book.specs.Types.{typedPart, memberOf, summed, typedLeaf};
 
@@ -44,7 +41,7 @@ pub struct Place {
 // The type of a collection's members.
 fn member_type(relationships: &[u32], bodies: &[u32], starts: &[u32; 65], at: Place) -> u32
     requires { ⌜ (Starts (bodyOf (now bodies) (at .rule)) (now starts) (at .end)) × T (reads collection (ending (bodyOf (now bodies) (at .rule)) (at .end))) ⌝ }
-    ensures { λ r. ⌜ ((ts : List ObjectType) (vs : List ℕ) → r ≡ memberOf (relationshipsWith ts (at .relationships) (now (relationships .entry))) vs ((ending (bodyOf (now (bodies .entry)) (at .rule)) (at .end)) .form)) ⌝ }
+    ensures { λ r. ⌜ r ≡ memberOf (relationshipsOf (at .relationships) (now (relationships .entry))) ((ending (bodyOf (now (bodies .entry)) (at .rule)) (at .end)) .form) ⌝ }
 {
     let rule = at.rule;
     let mut row = at.end - 1;
@@ -71,7 +68,9 @@ fn leaf(
     y: u32,
 ) -> bool
     requires { ⌜ (length (now env) ≡ 64) × (at .depth ≤ 64) ⌝ }
-    ensures { λ r. ⌜ r ≡ typedLeaf (schemaOf (at .types) (now (types .entry)) (at .relationships) (now (relationships .entry))) (take (at .depth) (now (env .entry))) code x y ⌝ }
+    ensures { λ r. ⌜ r ≡ typedLeaf
+        (schemaOf (at .types) (now (types .entry)) (at .relationships) (now (relationships .entry)))
+        (take (at .depth) (now (env .entry))) code x y ⌝ }
 {
     if code == NUM {
         return true;
@@ -108,7 +107,9 @@ fn summable(
     x: u32,
 ) -> bool
     requires { ⌜ (Starts (bodyOf (now bodies) (at .rule)) (now starts) (at .end)) × (code ≡ 17 → T (reads collection (ending (bodyOf (now bodies) (at .rule)) (at .end)))) ⌝ }
-    ensures { λ r. ⌜ ((vs : List ℕ) → r ≡ summed (schemaOf (at .types) (now (types .entry)) (at .relationships) (now (relationships .entry))) vs code x ((ending (bodyOf (now (bodies .entry)) (at .rule)) (at .end)) .form)) ⌝ }
+    ensures { λ r. ⌜ r ≡ summed
+        (schemaOf (at .types) (now (types .entry)) (at .relationships) (now (relationships .entry)))
+        code x ((ending (bodyOf (now (bodies .entry)) (at .rule)) (at .end)) .form) ⌝ }
 {
     if code != SUM {
         return true;
@@ -126,8 +127,12 @@ pub fn typed(
     env: &[u32; 64],
     at: Place,
 ) -> bool
-    requires { ⌜ (Starts (bodyOf (now bodies) (at .rule)) (now starts) (at .end)) × T ((ending (bodyOf (now bodies) (at .rule)) (at .end)) .sound) × (length (now env) ≡ 64) × (at .depth + at .end ≤ 65) ⌝ }
-    ensures { λ r. ⌜ r ≡ typedPart (schemaOf (at .types) (now (types .entry)) (at .relationships) (now (relationships .entry))) (take (at .depth) (now (env .entry))) ((ending (bodyOf (now (bodies .entry)) (at .rule)) (at .end)) .form) ⌝ }
+    requires { ⌜ (Starts (bodyOf (now bodies) (at .rule)) (now starts) (at .end))
+        × T ((ending (bodyOf (now bodies) (at .rule)) (at .end)) .sound)
+        × (length (now env) ≡ 64) × (at .depth + at .end ≤ 65) ⌝ }
+    ensures { λ r. ⌜ r ≡ typedPart
+        (schemaOf (at .types) (now (types .entry)) (at .relationships) (now (relationships .entry)))
+        (take (at .depth) (now (env .entry))) ((ending (bodyOf (now (bodies .entry)) (at .rule)) (at .end)) .form) ⌝ }
 {
     let row = at.end - 1;
     let code = field(bodies, at.rule, row, 0);

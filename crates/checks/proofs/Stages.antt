@@ -27,7 +27,12 @@ first-none none = refl
 first-none (some x) = refl
 
 -- refusals 3, 4 and 5, stage by stage
-pub stages : (t : Tables) → verdictOf (refusal (bookOf t) (registerIn t)) ≡ staged 3 (foundOf (firstOf (typeFault ((bookOf t) .schema)) (relationshipFault ((bookOf t) .schema)))) (staged 4 (foundOf (ruleFault (bookOf t))) (staged 5 (foundOf (firstOf (objectFault ((bookOf t) .schema) (registerIn t)) (linkFault ((bookOf t) .schema) (registerIn t)))) Clear))
+pub stages : (t : Tables)
+    → let S = (bookOf t) .schema in
+    verdictOf (refusal (bookOf t) (registerIn t))
+    ≡ staged 3 (foundOf (firstOf (typeFault (S .types)) (relationshipFault S)))
+    (staged 4 (foundOf (ruleFault (bookOf t)))
+    (staged 5 (foundOf (firstOf (objectFault (S .types) (registerIn t)) (linkFault S (registerIn t)))) Clear))
 unfolding refusal bookRefusal registerRefusal
 stages t =
     ap verdictOf (first-assoc (refusalAt 3 types) (refusalAt 4 (ruleFault (bookOf t))) (refusalAt 5 rows))
@@ -35,10 +40,10 @@ stages t =
     ∙ ap (staged 3 (foundOf types)) (stage 4 (ruleFault (bookOf t)) (refusalAt 5 rows) ∙ ap (staged 4 (foundOf (ruleFault (bookOf t)))) (ap verdictOf (first-none (refusalAt 5 rows)) ∙ stage 5 rows none))
   where
     types : Option ℕ
-    types = firstOf (typeFault ((bookOf t) .schema)) (relationshipFault ((bookOf t) .schema))
+    types = firstOf (typeFault ((bookOf t) .schema .types)) (relationshipFault ((bookOf t) .schema))
 
     rows : Option ℕ
-    rows = firstOf (objectFault ((bookOf t) .schema) (registerIn t)) (linkFault ((bookOf t) .schema) (registerIn t))
+    rows = firstOf (objectFault ((bookOf t) .schema .types) (registerIn t)) (linkFault ((bookOf t) .schema) (registerIn t))
 
 -- refusal 2, refusal 6, and what comes after them
 pub counts-refused : (t : Tables) (short : Bool) → any overfull (tablesOf t) ≡ true → verdictOf (lentRefusal t short) ≡ Refused 2 0

@@ -181,7 +181,7 @@ module _ (t : Tables) (eventCount : ℕ) (events : List ℕ) (w : Writable t eve
 
   -- ---- rows that can be said
 
-  type-at : (i : ℕ) → i < t .typeCount → typeAt S i ≡ typeRow (t .types) i
+  type-at : (i : ℕ) → i < t .typeCount → typeAt (S .types) i ≡ typeRow (t .types) i
   unfolding typeAt
   type-at i h = row-at (typeRow (t .types)) (t .typeCount) i _ h
 
@@ -195,8 +195,8 @@ module _ (t : Tables) (eventCount : ℕ) (events : List ℕ) (w : Writable t eve
       step : (b : Bool) → eqb word noParent ≡ b → (ltb word (2 ^ 31) || b) ≡ true
       step true q = is-true (ltb word (2 ^ 31) || true) (or-right (ltb word (2 ^ 31)) true tt)
       step false q =
-          let there : parentOf S i ≡ some word = ap (λ r. r .parent) (type-at i h) ∙ ap (λ b. cond b none (some word)) q in
-          ap (λ b. b || false) (lt-ltb word (2 ^ 31) (omega (arith, known .schema .parent-lower i word there, h, limited .few-types)))
+          let there : parentOf (S .types) i ≡ some word = ap (λ r. r .parent) (type-at i h) ∙ ap (λ b. cond b none (some word)) q in
+          ap (λ b. b || false) (lt-ltb word (2 ^ 31) (omega (arith, known .types .parent-lower i word there, h, limited .few-types)))
 
   type-said : (b : List Entry) (i : ℕ) → i < t .typeCount → sayable b (row typeName (wordsAt (t .types) 2 i)) ≡ true
   unfolding sayable
@@ -289,7 +289,7 @@ module _ (t : Tables) (eventCount : ℕ) (events : List ℕ) (w : Writable t eve
   -- the types are those of the tables
   pub record TypesAre (b : List Entry) : Type 0 where
     pub counted : countOf typeName b ≡ t .typeCount
-    pub cells : (u : ℕ) → u < t .typeCount → cellsIn b u ≡ cellsOf S u
+    pub cells : (u : ℕ) → u < t .typeCount → cellsIn b u ≡ cellsOf (S .types) u
 
   object-there : (i : ℕ) → i < t .objectCount → objectRow (t .objects) i ∈ (registerIn t) .objects
   object-there i h = element-in ((registerIn t) .objects) i (row-there (objectRow (t .objects)) (t .objectCount) i h)
@@ -312,14 +312,14 @@ module _ (t : Tables) (eventCount : ℕ) (events : List ℕ) (w : Writable t eve
   unfolding sayable objectRow knownType
   object-said b i h types =
       let u = wordAt (t .objects) 10 i 1 in
-      let fits = object-parts S (objectRow (t .objects) i) (known .register .objects-fit (objectRow (t .objects) i) (object-there i h)) in
+      let fits = object-parts (S .types) (objectRow (t .objects) i) (known .register .objects-fit (objectRow (t .objects) i) (object-there i h)) in
       let inside : u < t .typeCount = omega (arith, ltb→lt u (length (S .types)) (fits .type-known), length-rows (typeRow (t .types)) (t .typeCount)) in
-      let same : cellsIn b u ≡ cellsOf S u = types .cells u inside in
-      let two : 2 + cellsIn b u ≡ suc (suc (cellsOf S u)) = omega (arith, same) in
+      let same : cellsIn b u ≡ cellsOf (S .types) u = types .cells u inside in
+      let two : 2 + cellsIn b u ≡ suc (suc (cellsOf (S .types) u)) = omega (arith, same) in
       ap₂ (λ x y. x && y) (row-words (t .objects) (w .object-words) 10 i 0 10)
       (ap₂ (λ x y. x && y) (lt-ltb u (countOf typeName b) (omega (arith, inside, types .counted)))
-      (ap₂ (λ x y. x && y) (le-leb (cellsIn b u) cellCount (omega (arith, same, known .schema .cells-bound u)))
-      (ap (λ n. allZero (drop n (wordsAt (t .objects) 10 i))) two ∙ zero-words (λ c. wordAt (t .objects) 10 i (2 + c)) (cellsOf S u) 0 8 (fits .cells-zero))))
+      (ap₂ (λ x y. x && y) (le-leb (cellsIn b u) cellCount (omega (arith, same, known .types .cells-bound u)))
+      (ap (λ n. allZero (drop n (wordsAt (t .objects) 10 i))) two ∙ zero-words (λ c. wordAt (t .objects) 10 i (2 + c)) (cellsOf (S .types) u) 0 8 (fits .cells-zero))))
 
   -- ---- all of them
 

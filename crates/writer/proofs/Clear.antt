@@ -133,15 +133,15 @@ module _ (n : Counts) (used : ℕ) (types relationships rules bodies objects lin
     known i h =
         let o = objectRow objects i in
         let fit = fits .register .objects-fit o (element-in _ i (row-there (objectRow objects) (n .objects) i h)) in
-        let a = and-yes (validId (o .id) && knownType S (o .type)) (cellsFit S o) fit .0 in
-        let b = and-yes (validId (o .id)) (knownType S (o .type)) a .1 in
-        ltb-yes (subst T (type-known (n .types) types (S .relationships) (wordAt objects 10 i 1)) b)
+        let a = and-yes (validId (o .id) && knownType (S .types) (o .type)) (cellsFit (S .types) o) fit .0 in
+        let b = and-yes (validId (o .id)) (knownType (S .types) (o .type)) a .1 in
+        ltb-yes (subst T (type-known (n .types) types (wordAt objects 10 i 1)) b)
 
     cells : (i : ℕ) → i < n .objects → cellsFor types objects i ≤ cellCount
     cells i h =
         let u = wordAt objects 10 i 1 in
-        let same : cellsOf S u ≡ wordAt types 2 u 1 = cells-used (n .types) types (S .relationships) u ∙ rw (lt-ltb u (n .types) (known i h)) in
-        subst (λ k. k ≤ cellCount) same (fits .schema .cells-bound u)
+        let same : cellsOf (S .types) u ≡ wordAt types 2 u 1 = cells-used (n .types) types u ∙ rw (lt-ltb u (n .types) (known i h)) in
+        subst (λ k. k ≤ cellCount) same (fits .types .cells-bound u)
 
     kinds : (i : ℕ) → i < used → wordAt events 4 i 0 < 7
     unfolding eventFault eventRow

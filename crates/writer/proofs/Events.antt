@@ -37,11 +37,11 @@ module _ (n : ℕ) (types : List ℕ) (m : ℕ) (relationships : List ℕ) (x y 
   abbrev S : Schema
   S = schemaOf n types m relationships
 
-  typed : (ltb y n && validId x) ≡ (validId x && knownType S y)
-  typed = and-swap (ltb y n) (validId x) ∙ ap (λ b. validId x && b) (sym (type-known n types (S .relationships) y))
+  typed : (ltb y n && validId x) ≡ (validId x && knownType (S .types) y)
+  typed = and-swap (ltb y n) (validId x) ∙ ap (λ b. validId x && b) (sym (type-known n types y))
 
-  ends : (ltb x m && (validId y && validId z)) ≡ (knownRelationship S x && validId y && validId z)
-  ends = ap (λ b. b && (validId y && validId z)) (sym (relationship-known (S .types) m relationships x)) ∙ regroup (knownRelationship S x) (validId y) (validId z)
+  ends : (ltb x m && (validId y && validId z)) ≡ (knownRelationship (S .relationships) x && validId y && validId z)
+  ends = ap (λ b. b && (validId y && validId z)) (sym (relationship-known m relationships x)) ∙ regroup (knownRelationship (S .relationships) x) (validId y) (validId z)
     where
       regroup : (a b d : Bool) → (a && (b && d)) ≡ (a && b && d)
       regroup true b d = refl

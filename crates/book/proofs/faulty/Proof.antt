@@ -27,8 +27,11 @@ word-requires-2 c κs = search needs
 returns-2 : tie.Need-returns-2
 returns-2 c = λ p.
     let a = c .before .before .before .before .before .before .before .before .args in
-    let n = c .before .word2 .result in
-    no-body (a .type-count) (a .types .now) (a .relationship-count) (a .relationships .now) (a .rules .now) (a .bodies .now) (a .rule) (c .before .before .before .word .result) n (c .before .before .before .word .ensures) (c .before .word2 .ensures) p
+    let context = c .before .before .before .word in
+    let size = c .before .word2 in
+    let n = size .result in
+    no-body (a .type-count) (a .types .now) (a .relationship-count) (a .relationships .now) (a .rules .now) (a .bodies .now) (a .rule)
+    (context .result) n (context .ensures) (size .ensures) p
     (too-long (bodyOf (a .bodies .now) (a .rule)) n (c .if2 .taken))
 
 scan-requires : tie.Need-scan-requires
@@ -37,8 +40,11 @@ scan-requires c κs = search needs
 returns-3 : tie.Need-returns-3
 returns-3 c = λ p.
     let a = c .before .before .before .before .before .before .before .before .before .before .before .args in
-    let n = c .before .before .before .before .word2 .result in
-    no-body (a .type-count) (a .types .now) (a .relationship-count) (a .relationships .now) (a .rules .now) (a .bodies .now) (a .rule) (c .before .before .before .before .before .before .word .result) n (c .before .before .before .before .before .before .word .ensures) (c .before .before .before .before .word2 .ensures) p
+    let context = c .before .before .before .before .before .before .word in
+    let size = c .before .before .before .before .word2 in
+    let n = size .result in
+    no-body (a .type-count) (a .types .now) (a .relationship-count) (a .relationships .now) (a .rules .now) (a .bodies .now) (a .rule)
+    (context .result) n (context .ensures) (size .ensures) p
     (no-truth (bodyOf (a .bodies .now) (a .rule)) n (λ e. c .if3 .taken (c .before .before .scan .ensures .1 ∙ e)))
 
 cast-last : tie.Need-cast-last
@@ -53,34 +59,44 @@ array-read-if4 c = search needs
 returns-4 : tie.Need-returns-4
 returns-4 c = λ p.
     let a = c .before .before .before .before .before .before .before .before .before .before .before .before .before .args in
-    let n = c .before .before .before .before .before .before .word2 .result in
-    no-body (a .type-count) (a .types .now) (a .relationship-count) (a .relationships .now) (a .rules .now) (a .bodies .now) (a .rule) (c .before .before .before .before .before .before .before .before .word .result) n (c .before .before .before .before .before .before .before .before .word .ensures) (c .before .before .before .before .before .before .word2 .ensures) p
+    let context = c .before .before .before .before .before .before .before .before .word in
+    let size = c .before .before .before .before .before .before .word2 in
+    let n = size .result in
+    no-body (a .type-count) (a .types .now) (a .relationship-count) (a .relationships .now) (a .rules .now) (a .bodies .now) (a .rule)
+    (context .result) n (context .ensures) (size .ensures) p
     (not-first (bodyOf (a .bodies .now) (a .rule)) n (λ e. c .if4 .taken (c .before .before .before .before .scan .ensures .0 .right n (le-refl n) ∙ e)))
 
 array-write-env : tie.Need-array-write-env
 array-write-env c = search needs
 
 -- the body is one whole form
-whole : (c : tie.Else4) → T (wholeBody (bodyOf (c .before .before .before .before .before .before .before .before .before .before .before .before .before .args .bodies .now) (c .before .before .before .before .before .before .before .before .before .before .before .before .before .args .rule)) (c .before .before .before .before .before .before .word2 .result))
+whole : (c : tie.Else4)
+    → let a = c .before .before .before .before .before .before .before .before .before .before .before .before .before .args in
+    T (wholeBody (bodyOf (a .bodies .now) (a .rule)) (c .before .before .before .before .before .before .word2 .result))
 whole c =
+    let a = c .before .before .before .before .before .before .before .before .before .before .before .before .before .args in
     let n = c .before .before .before .before .before .before .word2 .result in
     let scanned = c .before .before .before .before .scan .ensures in
-    one-form (bodyOf (c .before .before .before .before .before .before .before .before .before .before .before .before .before .args .bodies .now) (c .before .before .before .before .before .before .before .before .before .before .before .before .before .args .rule)) n (c .before .before .before .before .before .if2 .left) (sym (scanned .1) ∙ c .before .before .if3 .left)
+    one-form (bodyOf (a .bodies .now) (a .rule)) n (c .before .before .before .before .before .if2 .left) (sym (scanned .1) ∙ c .before .before .if3 .left)
     (sym (scanned .0 .right n (le-refl n)) ∙ c .if4 .left)
 
 typed-requires : tie.Need-typed-requires
 typed-requires c κs =
+    let a = c .before .before .before .before .before .before .before .before .before .before .before .before .before .before .before .args in
     let n = c .before .before .before .before .before .before .before .before .word2 .result in
-    let w = whole-body (bodyOf (c .before .before .before .before .before .before .before .before .before .before .before .before .before .before .before .args .bodies .now) (c .before .before .before .before .before .before .before .before .before .before .before .before .before .before .before .args .rule)) n (whole (c .before .before)) in
+    let w = whole-body (bodyOf (a .bodies .now) (a .rule)) n (whole (c .before .before)) in
     let few = w .few in
     (c .before .before .before .before .before .before .scan .ensures .0, w .sound, refl, omega arith)
 
 returns-5 : tie.Need-returns-5
 returns-5 c = λ p.
     let a = c .before .before .before .before .before .before .before .before .before .before .before .before .before .before .before .before .args in
-    judged (a .type-count) (a .types .now) (a .relationship-count) (a .relationships .now) (a .rules .now) (a .bodies .now) (a .rule) (c .before .before .before .before .before .before .before .before .before .before .before .word .result)
-    (c .before .before .before .before .before .before .before .before .before .word2 .result) (c .before .before .before .before .before .before .before .before .before .before .before .word .ensures) (c .before .before .before .before .before .before .before .before .before .word2 .ensures) p (c .before .before .before .before .before .before .before .before .before .before .if1 .left)
-    (λ k. c .before .before .before .before .before .before .before .before .before .before .before .before .shared-slice-known4 .given ((a .rule * 64 + k) * 4 + 1) .fits) (whole (c .before .before .before)) (c .typed .result) (c .typed .ensures)
+    let read = c .before .before .before .before .before .before .before .before .before in
+    let context = read .before .before .word in
+    let size = read .word2 in
+    judged (a .type-count) (a .types .now) (a .relationship-count) (a .relationships .now) (a .rules .now) (a .bodies .now) (a .rule)
+    (context .result) (size .result) (context .ensures) (size .ensures) p (read .before .if1 .left)
+    (λ k. read .before .before .before .shared-slice-known4 .given ((a .rule * 64 + k) * 4 + 1) .fits) (whole (c .before .before .before)) (c .typed .result) (c .typed .ensures)
 
 pub faulty-spec : {M : Type 1} → statement M
 faulty-spec =

@@ -99,7 +99,11 @@ module _ (t : ℕ) where
   second-sound c = let s = c .before .before .before .before .before .before .before .before in second-here (rows s) (row s) (sound s) (λ q. c .if1 .left (second (c .before) ∙ q))
 
   -- what a call asks, with one more variable or none
-  second-asks : (c : typed-lts.Else1 (calls t) (typed-at t) typed.Post) (env : List ℕ) (depth : ℕ) → let s = c .before .before .before .before .before .before .before .before in length env ≡ 64 → depth + row s ≤ 65 → (row s < t) × ((Starts (rows s) (s .args .starts .now) (row s)) × T ((ending (rows s) (row s)) .sound) × (length env ≡ 64) × (depth + row s ≤ 65))
+  second-asks : (c : typed-lts.Else1 (calls t) (typed-at t) typed.Post) (env : List ℕ) (depth : ℕ)
+      → let s = c .before .before .before .before .before .before .before .before in
+      length env ≡ 64
+      → depth + row s ≤ 65
+      → (row s < t) × ((Starts (rows s) (s .args .starts .now) (row s)) × T ((ending (rows s) (row s)) .sound) × (length env ≡ 64) × (depth + row s ≤ 65))
   second-asks c env depth l h =
       let s = c .before .before .before .before .before .before .before .before in
       let k = positive s in
@@ -108,17 +112,23 @@ module _ (t : ℕ) where
 
   -- ---- a form with one part
 
-  one : (c : typed-lts.Then2 (calls t) (typed-at t) typed.Post) → let s = c .before .before .before .before .before .before .before .before .before .before in cond (summed (schema s) (scope s) ((rows s (row s)) .code) ((rows s (row s)) .x) ((secondPart (rows s) (row s)) .form)) (typedPart (schema s) (scope s) ((secondPart (rows s) (row s)) .form)) false ≡ typedPart (schema s) (scope s) ((ending (rows s) (suc (row s))) .form)
+  one : (c : typed-lts.Then2 (calls t) (typed-at t) typed.Post)
+      → let s = c .before .before .before .before .before .before .before .before .before .before in
+      let b = (secondPart (rows s) (row s)) .form in
+      cond (summed (schema s) ((rows s (row s)) .code) ((rows s (row s)) .x) b) (typedPart (schema s) (scope s) b) false
+      ≡ typedPart (schema s) (scope s) ((ending (rows s) (suc (row s))) .form)
   one c =
       let s = c .before .before .before .before .before .before .before .before .before .before in
       one-here (rows s) (row s) (sound s) (schema s) (scope s) (λ q. c .before .before .if1 .left (second (c .before .before .before) ∙ q)) (sym (first (c .before)) ∙ c .if2 .taken)
 
-  sum-is : (c : typed-lts.After-summable (calls t) (typed-at t) typed.Post) → let s = c .before .before .before .before .before .before .before .before .before .before .before in summed (schema s) (scope s) ((rows s (row s)) .code) ((rows s (row s)) .x) ((secondPart (rows s) (row s)) .form) ≡ c .summable .result
+  sum-is : (c : typed-lts.After-summable (calls t) (typed-at t) typed.Post)
+      → let s = c .before .before .before .before .before .before .before .before .before .before .before in
+      summed (schema s) ((rows s (row s)) .code) ((rows s (row s)) .x) ((secondPart (rows s) (row s)) .form) ≡ c .summable .result
   sum-is c =
       let s = c .before .before .before .before .before .before .before .before .before .before .before in
       let code = sym (c .before .before .before .before .before .before .field .ensures) in
       let x = sym (c .before .before .before .before .before .field2 .ensures) in
-      (λ j. summed (schema s) (scope s) (code j) (x j) ((secondPart (rows s) (row s)) .form)) ∙ sym (c .summable .ensures (scope s))
+      (λ j. summed (schema s) (code j) (x j) ((secondPart (rows s) (row s)) .form)) ∙ sym (c .summable .ensures)
 
   -- ---- a form with two parts: the first ends before the start of the second
 
@@ -288,9 +298,9 @@ module _ (t : ℕ) where
       let l = s .pre .1 .2 in
       let k = room (c .before .before .before .before .before .before .before .before .before .before .before .before .before) in
       let yes = first-typed (c .before .before .before .before .before .before .before .before .before) ∙ not-false (c .before .before .before .before .before .before .before .before .before .typed2 .result) (c .before .before .before .before .before .before .before .before .if4 .left) in
-      let member : m ≡ memberOf (schema s) (scope s) ((firstPart (rows s) (row s)) .form) =
-      c .before .before .before .member-type .ensures (schema s .types) (scope s) ∙ ap (λ n. memberOf (schema s) (scope s) ((ending (rows s) n) .form)) (middle-is s) in
-      let inner : take (s .args .at .depth + 1) (set (s .args .env .now) (s .args .at .depth) m) ≡ bind (scope s) (memberOf (schema s) (scope s) ((firstPart (rows s) (row s)) .form)) =
+      let member : m ≡ memberOf (schema s .relationships) ((firstPart (rows s) (row s)) .form) =
+      c .before .before .before .member-type .ensures ∙ ap (λ n. memberOf (schema s .relationships) ((ending (rows s) n) .form)) (middle-is s) in
+      let inner : take (s .args .at .depth + 1) (set (s .args .env .now) (s .args .at .depth) m) ≡ bind (scope s) (memberOf (schema s .relationships) ((firstPart (rows s) (row s)) .form)) =
       bind-take (s .args .env .now) (s .args .at .depth) m (omega arith) ∙ ap (bind (scope s)) member in
       answer s
       (c .typed4 .ensures
@@ -300,4 +310,7 @@ module _ (t : ℕ) where
 pub +typed-spec : {M : Type 1} → statement M
 +typed-spec =
     close μ-typed λ t.
-    typed-lts.spec (calls t) (typed-at t) typed.Post (sub-row t) (field-requires t) (field-requires-2 t) (shape-requires t) (field-requires-3 t) (leaf-requires t) (returns t) (shape-requires-2 t) (summable-requires t) (returns-2 t) (typed-requires t) (returns-3 t) (cast-index t) (mul-first t) (element-copy-out-first t) (typed-requires-2 t) (returns-4 t) (shape-requires-3 t) (typed-requires-3 t) (returns-5 t) (cast-new t) (member-type-requires t) (mul-inner t) (array-write-inner t) (add-second t) (typed-requires-4 t) (returns-6 t)
+    typed-lts.spec (calls t) (typed-at t) typed.Post (sub-row t) (field-requires t) (field-requires-2 t) (shape-requires t) (field-requires-3 t)
+    (leaf-requires t) (returns t) (shape-requires-2 t) (summable-requires t) (returns-2 t) (typed-requires t) (returns-3 t) (cast-index t)
+    (mul-first t) (element-copy-out-first t) (typed-requires-2 t) (returns-4 t) (shape-requires-3 t)
+    (typed-requires-3 t) (returns-5 t) (cast-new t) (member-type-requires t) (mul-inner t) (array-write-inner t) (add-second t) (typed-requires-4 t) (returns-6 t)

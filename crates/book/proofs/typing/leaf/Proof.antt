@@ -15,7 +15,10 @@ use Rattle.book.proofs.typing.leaf.Tie as tie
 abbrev schema : tie.Start → Schema
 schema s = lent (s .args .at .types) (s .args .types .now) (s .args .at .relationships) (s .args .relationships .now)
 
-words : (s : tie.Start) → leafWords (s .args .at .types) (s .args .types .now) (s .args .at .relationships) (s .args .relationships .now) (s .args .at .depth) (s .args .env .now) (omega arith) (s .args .code) (s .args .x) (s .args .y) ≡ typedLeaf (schema s) (take (s .args .at .depth) (s .args .env .now)) (s .args .code) (s .args .x) (s .args .y)
+words : (s : tie.Start)
+    → let a = s .args in
+    leafWords (a .at .types) (a .types .now) (a .at .relationships) (a .relationships .now) (a .at .depth) (a .env .now) (omega arith) (a .code) (a .x) (a .y)
+    ≡ typedLeaf (schema s) (take (a .at .depth) (a .env .now)) (a .code) (a .x) (a .y)
 words s =
     leaf-words (s .args .at .types) (s .args .types .now) (s .args .at .relationships) (s .args .relationships .now) (s .args .at .depth)
     (s .args .env .now) (omega arith) (s .args .code) (s .args .x) (s .args .y)
@@ -61,7 +64,7 @@ returns-5 : tie.Need-returns-5
 returns-5 c =
     let s = c .before .before .before .before .before .before .before .before .before .before in
     let a = s .args in
-    (simp (ne-eqb (a .code) 14 (omega arith), ne-eqb (a .code) 21 (omega arith), lt-leb (a .at .depth) (a .x) (omega arith), ne-eqb (a .code) 13 (omega arith), eq-eqb (a .code) 15 (omega arith)) (ap (ltb (a .y)) (c .cells-of .ensures (schema s .relationships))))
+    (simp (ne-eqb (a .code) 14 (omega arith), ne-eqb (a .code) 21 (omega arith), lt-leb (a .at .depth) (a .x) (omega arith), ne-eqb (a .code) 13 (omega arith), eq-eqb (a .code) 15 (omega arith)) (ap (ltb (a .y)) (c .cells-of .ensures)))
     ∙ words s
 
 returns-6 : tie.Need-returns-6
@@ -82,7 +85,7 @@ returns-7 c =
     let s = c .before .before .before .before .before .before .before .before .before .before .before .before .before in
     let a = s .args in
     (simp (ne-eqb (a .code) 14 (omega arith), ne-eqb (a .code) 21 (omega arith), lt-leb (a .at .depth) (a .x) (omega arith), ne-eqb (a .code) 13 (omega arith), ne-eqb (a .code) 15 (omega arith), lt-ltb (a .y / 2) (a .at .relationships) (omega arith))
-    (c .under .ensures (schema s .relationships) ∙ ap (isUnder (schema s) (getD (a .env .now) (a .x) 0)) (c .before .near-type .ensures (schema s .types))))
+    (c .under .ensures ∙ ap (isUnder (schema s .types) (getD (a .env .now) (a .x) 0)) (c .before .near-type .ensures)))
     ∙ words s
 
 pub leaf-spec : {M : Type 1} → statement M

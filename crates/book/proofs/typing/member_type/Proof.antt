@@ -6,7 +6,7 @@ use native.Mathlib.Omega.{arith}
 use lib.ListN.{getD}
 use borrow.Author.Needs.{needs}
 use Rattle.meaning.specs.Schema.{farType}
-use Rattle.schema.specs.Tables.{relationshipsWith}
+use Rattle.tables.specs.Columns.{relationshipsOf}
 use Rattle.book.specs.Marks.{bodyOf}
 use Rattle.book.proofs.Types.{Members, members-none, members-more, members-all, members-role}
 use Rattle.book.proofs.typing.member_type.Statement.{statement}
@@ -37,7 +37,11 @@ element-copy-out-row : tie.Need-element-copy-out-row Inv-loop μ-loop
 element-copy-out-row c = omega arith
 
 -- from a select to its first part
-step : (c : tie.After-row Inv-loop μ-loop) → let a = c .before .before .before .before .before .before .before .args in let m = getD (a .starts .now) (c .before .before .before .loop .row) 0 in (0 < m) × (m ≤ c .before .before .before .loop .row) × Members (bodyOf (a .bodies .now) (a .at .rule)) (a .at .end) (m - 1)
+step : (c : tie.After-row Inv-loop μ-loop)
+    → let a = c .before .before .before .before .before .before .before .args in
+    let row = c .before .before .before .loop .row in
+    let m = getD (a .starts .now) row 0 in
+    (0 < m) × (m ≤ row) × Members (bodyOf (a .bodies .now) (a .at .rule)) (a .at .end) (m - 1)
 step c =
     let a = c .before .before .before .before .before .before .before .args in
     let k = c .before .before .before .loop .inv in
@@ -61,10 +65,10 @@ field-requires-3 : tie.Need-field-requires-3 Inv-loop μ-loop
 field-requires-3 c κs = search needs
 
 returns : tie.Need-returns Inv-loop μ-loop
-returns c = λ ts vs.
+returns c =
     let a = c .before .before .before .before .before .before .before .before .before .args in
     c .before .before .field2 .ensures
-    ∙ members-all (c .before .before .before .before .before .loop .inv) (relationshipsWith ts (a .at .relationships) (a .relationships .now)) vs (sym (c .before .field3 .ensures) ∙ c .if2 .taken)
+    ∙ members-all (c .before .before .before .before .before .loop .inv) (relationshipsOf (a .at .relationships) (a .relationships .now)) (sym (c .before .field3 .ensures) ∙ c .if2 .taken)
 
 field-requires-4 : tie.Need-field-requires-4 Inv-loop μ-loop
 field-requires-4 c κs = search needs
@@ -73,12 +77,13 @@ far-type-requires : tie.Need-far-type-requires Inv-loop μ-loop
 far-type-requires c κs = search needs
 
 returns-2 : tie.Need-returns-2 Inv-loop μ-loop
-returns-2 c = λ ts vs.
+returns-2 c =
     let a = c .before .before .before .before .before .before .before .before .before .before .before .args in
-    let S = relationshipsWith ts (a .at .relationships) (a .relationships .now) in
-    c .far-type .ensures ts
-    ∙ ap (farType S) (c .before .field4 .ensures)
-    ∙ members-role (c .before .before .before .before .before .before .before .loop .inv) S vs (λ q. c .before .before .before .before .before .if1 .left (c .before .before .before .before .before .before .field .ensures ∙ q)) (λ q. c .before .before .if2 .left (c .before .before .before .field3 .ensures ∙ q))
+    let relationships = relationshipsOf (a .at .relationships) (a .relationships .now) in
+    c .far-type .ensures
+    ∙ ap (farType relationships) (c .before .field4 .ensures)
+    ∙ members-role (c .before .before .before .before .before .before .before .loop .inv) relationships
+    (λ q. c .before .before .before .before .before .if1 .left (c .before .before .before .before .before .before .field .ensures ∙ q)) (λ q. c .before .before .if2 .left (c .before .before .before .field3 .ensures ∙ q))
 
 pub member-type-spec : {M : Type 1} → statement M
 member-type-spec =
