@@ -1,5 +1,5 @@
--- Places, their keys and their slots.
-use Prim.Native.Nat.{ℕ, _+_, _*_, _/_, _%_, _≤_, _<_}
+-- The two places of a link: their ends, and that these are there.
+use Prim.Native.Nat.{ℕ, _*_, _/_, _%_, _<_}
 use mathlib.Core.Path.{_≡_, ap}
 use mathlib.Core.Bool.{Bool, true, false, cond}
 use mathlib.Core.List.{List}
@@ -10,7 +10,7 @@ use Rattle.meaning.specs.Schema.{forward}
 use Rattle.meaning.specs.Register.{Link, nearEnd, farEnd}
 use Rattle.tables.specs.Columns.{linkRow}
 use Rattle.register.specs.Tables.{objectPlace}
-use Rattle.register.specs.Slots.{rowAt, placeKey, placeFar, Indexable}
+use Rattle.register.specs.Slots.{placeKey, Indexable}
 use Rattle.register.proofs.Rows.{row-is}
 
 -- ---- a place and a role of one parity

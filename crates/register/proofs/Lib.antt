@@ -6,7 +6,7 @@
 --   Cells      the cells of an object's row
 --   Far        the far ends of a role, by the rows of the links
 --   Chains     the law of chains over a key
---   Ends       the two places of a link, their keys and their ends
+--   Ends       the two places of a link and their ends
 --   Laid       the table of slots, one slot more
 --   Walk       the walk along a role from an object's row
 --   Fits       a register that fits its schema can be indexed

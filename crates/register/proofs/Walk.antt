@@ -15,15 +15,14 @@ use Rattle.meaning.specs.Schema.{forward}
 use Rattle.meaning.specs.Register.{Link, Register, linkKey, nearEnd, farEnd, startsAt, farEnds}
 use Rattle.meaning.proofs.Lists.{_∈_, decide, keep-in, map-in}
 use Rattle.meaning.proofs.Order.{Before, before-one, before-last, before-first}
-use Rattle.rows.specs.Rows.{readRows}
 use Rattle.tables.specs.Columns.{objectRow, linkRow, registerOf}
 use Rattle.schema.proofs.Scan.{passed-none}
 use Rattle.register.specs.Chains.{lead, slotWord}
 use Rattle.register.specs.Slots.{rowAt, placeKey, slotAt, Place, nextWord, headWord, Indexed, farId}
-use Rattle.register.proofs.Hits.{firstHit, missed-to, hit-at, hit-none}
+use Rattle.register.proofs.Hits.{missed-to, hit-at, hit-none}
 use Rattle.register.proofs.Places.{ordered, row-there}
 use Rattle.register.proofs.Far.{reaches, reach, missed, far-found, far-none}
-use Rattle.register.proofs.Chains.{Lead, lead-some, lead-none}
+use Rattle.register.proofs.Chains.{lead-some, lead-none}
 use Rattle.register.proofs.Rows.{row-is}
 use Rattle.register.proofs.Ends.{near-same, far-same, near-present, far-present}
 pub use Rattle.register.proofs.Rows.{own-place, own-row}

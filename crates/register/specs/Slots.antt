@@ -16,6 +16,7 @@ use Rattle.tables.specs.Columns.{objectRow, linkRow}
 use Rattle.register.specs.Tables.{ObjectsAscend, LinksAscend, objectPlace}
 use Rattle.register.specs.Chains.{Chained}
 
+-- a row, if there is one; else 0
 abbrev pub orZero : Option ℕ → ℕ
 orZero none = 0
 orZero (some i) = i

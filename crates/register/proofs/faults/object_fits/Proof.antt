@@ -45,9 +45,18 @@ zero-from-requires c κs = search needs
 returns-4 : tie.Need-returns-4
 unfolding objectFits validId
 returns-4 c =
-    let some-id = c .before .before .before .before .before in
-    simp
-    (row-cells, ← some-id .before .id-of .ensures, le-leb _ _ (least (some-id .if1 .left)), le-leb _ _ (c .before .before .before .before .if2 .left), ← c .before .before .before .type-of .ensures, type-known, lt-ltb _ _ (c .before .before .if3 .left), ← c .before .cells-of .ensures)
+    let type = c .before .before .before in
+    let id = type .before .before in
+    simp (
+      row-cells,
+      ← id .before .id-of .ensures,
+      le-leb _ _ (least (id .if1 .left)),
+      le-leb _ _ (type .before .if2 .left),
+      ← type .type-of .ensures,
+      type-known,
+      lt-ltb _ _ (c .before .before .if3 .left),
+      ← c .before .cells-of .ensures,
+    )
     (c .zero-from .ensures)
 
 pub object-fits-spec : {M : Type 1} → statement M

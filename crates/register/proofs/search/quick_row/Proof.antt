@@ -1,5 +1,6 @@
 -- `register::search::quick_row` meets its contract. A row that has the id is the object's, however it was come by.
 use mathlib.Core.Path.{sym, _∙_}
+use denote.Ref.{now}
 use borrow.Author.Needs.{needs}
 use Rattle.register.proofs.Rows.{guessed-place}
 use Rattle.register.proofs.search.quick_row.Statement.{statement}
@@ -24,7 +25,9 @@ returns : tie.Need-returns
 returns c =
     let guess = c .before .before .before in
     let start = guess .before .before .before in
-    rw (guessed-place _ _ (start .pre) _ (c .before .before .if1 .taken) (sym (c .before .id-of .ensures) ∙ c .if2 .taken))
+    let objects = now (start .args .objects) in
+    let own = sym (c .before .id-of .ensures) ∙ c .if2 .taken in
+    rw (guessed-place (start .args .object-count) objects (start .pre) (guess .wide .result) (c .before .before .if1 .taken) own)
 
 object-row-requires : tie.Need-object-row-requires
 object-row-requires c κs = search needs

@@ -25,8 +25,11 @@ abbrev μ-loop : tie.MeasureT-loop
 abbrev Read : Type 0
 Read = tie.After-relationship-of Inv-loop μ-loop
 
+abbrev at-source : Read → tie.After-row-of Inv-loop μ-loop
+at-source c = c .before .before .before .before
+
 abbrev at-loop : Read → tie.At-loop Inv-loop μ-loop
-at-loop c = c .before .before .before .before .before .before .before .before
+at-loop c = at-source c .before .before .before .before
 
 abbrev start : Read → tie.Start Inv-loop μ-loop
 start c = at-loop c .before .before .before .before
@@ -41,13 +44,13 @@ abbrev row-at : Read → ℕ → ℕ
 row-at c = rowAt (start c .args .object-count) (now (start c .args .objects))
 
 left : (c : Read) → 0 < row c
-left c = c .before .before .before .before .before .before .before .loop-test .taken
+left c = at-source c .before .before .before .loop-test .taken
 
 within : (c : Read) → row c ≤ start c .args .link-count
 within c = at-loop c .loop .inv .0
 
-source-is : (c : Read) → c .before .before .before .before .row-of .result ≡ row-at c (link c .source)
-source-is c = let at = c .before .before .before .before in at .row-of .ensures ∙ ap (row-at c) (at .before .source-of .ensures)
+source-is : (c : Read) → at-source c .row-of .result ≡ row-at c (link c .source)
+source-is c = at-source c .row-of .ensures ∙ ap (row-at c) (at-source c .before .source-of .ensures)
 
 target-is : (c : Read) → c .before .row-of2 .result ≡ row-at c (link c .target)
 target-is c = c .before .row-of2 .ensures ∙ ap (row-at c) (c .before .before .target-of .ensures)
