@@ -20,8 +20,8 @@ use Rattle.tables.specs.declared.Counts.{Counts}
 use Rattle.tables.specs.declared.Verdict.{Verdict}
 use Rattle.tables.specs.declared.Verdict.the-variants.{Clear, Refused}
 use Rattle.schema.proofs.Rows.{length-rows}
-use Rattle.ocl.specs.Search.{brokenPair}
 use Rattle.full.specs.Answers.{answerOf, lentRefusalFor, lentAnswerAt, lacking, verdictFor}
+use Rattle.full.specs.Search.{brokenIn}
 use Rattle.full.specs.declared.Answer.the-variants as Answers
 use Rattle.full.proofs.Answers.{refused-answer, clear-answer}
 
@@ -54,7 +54,7 @@ verdict-for t rule =
 
     by-known : (known : Bool) → cond known (verdictOf (lentRefusal t false)) (lacking (verdictOf (lentRefusal t false)) rule) ≡ verdictOf (staged known)
     by-known true = refl
-    by-known false = lacked (any overfull (tablesOf t)) (any broken (tablesOf t) || false) (firstOf (typeFault (k .schema)) (relationshipFault (k .schema))) (ruleFault k) (firstOf (objectFault (k .schema) g) (linkFault (k .schema) g)) rule
+    by-known false = lacked (any overfull (tablesOf t)) (any broken (tablesOf t) || false) (firstOf (typeFault (k .schema .types)) (relationshipFault (k .schema))) (ruleFault k) (firstOf (objectFault (k .schema .types) g) (linkFault (k .schema) g)) rule
 
 -- ---- what the code finds
 
@@ -82,20 +82,17 @@ pub rule-refused : (t : Tables) (rule id : ℕ) {number place : ℕ} → Refused
 unfolding lentAnswerAt
 rule-refused t rule id e = refused-answer (lentRefusalFor t rule) (firstBroken (bookOf t) (registerIn t) (pairOf rule id ∷ [])) (e ∙ verdict-for t rule)
 
-module _ (n : Counts) (types relationships rules bodies objects links : List ℕ) (rule id : ℕ) (clear : Clear ≡ verdictFor (verdictOf (lentRefusal (lentTables n types relationships rules bodies objects links) false)) (n .rules) rule) {found : Bool} (judged : found ≡ brokenPair n types rules bodies objects links (readRows (relationshipRow relationships) (n .relationships)) rule id) where
-  abbrev t : Tables
-  t = lentTables n types relationships rules bodies objects links
-
-  pair-answer : answerOf (foundAnswer (cond found (some (pairOf rule id)) none)) ≡ answerOf (lentAnswerAt t rule id)
-  unfolding lentAnswerAt firstBroken brokenPair
+module _ (t : Tables) (rule id : ℕ) (clear : Clear ≡ verdictFor (verdictOf (lentRefusal t false)) (t .ruleCount) rule) {broke : Bool} (judged : broke ≡ brokenIn t rule id) where
+  pair-answer : answerOf (foundAnswer (cond broke (some (pairOf rule id)) none)) ≡ answerOf (lentAnswerAt t rule id)
+  unfolding lentAnswerAt firstBroken brokenIn
   pair-answer =
       ap (λ b. answerOf (foundAnswer (cond b (some (pairOf rule id)) none))) judged
       ∙ clear-answer (lentRefusalFor t rule) (firstBroken (bookOf t) (registerIn t) (pairOf rule id ∷ [])) (clear ∙ verdict-for t rule)
 
-  pub rule-broken : found ≡ true → Answers.Broken rule id ≡ answerOf (lentAnswerAt t rule id)
+  pub rule-broken : broke ≡ true → Answers.Broken rule id ≡ answerOf (lentAnswerAt t rule id)
   unfolding foundAnswer
   rule-broken f = ap (λ b. answerOf (foundAnswer (cond b (some (pairOf rule id)) none))) (sym f) ∙ pair-answer
 
-  pub rule-accepted : found ≡ false → Answers.Accepted ≡ answerOf (lentAnswerAt t rule id)
+  pub rule-accepted : broke ≡ false → Answers.Accepted ≡ answerOf (lentAnswerAt t rule id)
   unfolding foundAnswer
   rule-accepted f = ap (λ b. answerOf (foundAnswer (cond b (some (pairOf rule id)) none))) (sym f) ∙ pair-answer

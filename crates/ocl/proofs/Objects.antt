@@ -122,7 +122,7 @@ module _ (types : List ObjectType) (objects : List ℕ) (m t : ℕ) where
   from-start n links = ap (from 0) (sub-zero m)
 
   -- one row more: its object is under the type or not
-  one-row : (row : ℕ) → row < m → {type : ℕ} {u : Bool} → type ≡ (objectRow objects row) .type → u ≡ under types type t → instancesFrom types objects m t row ≡ cond u (idIn objects row ∷ instancesFrom types objects m t (row + 1)) (instancesFrom types objects m t (row + 1))
+  pub one-row : (row : ℕ) → row < m → {type : ℕ} {u : Bool} → type ≡ (objectRow objects row) .type → u ≡ under types type t → instancesFrom types objects m t row ≡ cond u (idIn objects row ∷ instancesFrom types objects m t (row + 1)) (instancesFrom types objects m t (row + 1))
   one-row row h q e =
       let more : m - row ≡ suc (m - (row + 1)) = omega arith in
       let asked = ap (λ k. under types k t) (sym q) ∙ sym e in

@@ -1,11 +1,10 @@
--- `full::check` meets its contract: the verdict of the checks, and then the search's result.
+-- `full::check` meets its contract: the verdict of the checks, and then the search over the indexed register.
 use mathlib.Core.Path.{sym, _∙_}
 use denote.Ref.{now}
 use borrow.Author.Needs.{needs}
-use Rattle.rows.specs.Rows.{readRows}
-use Rattle.tables.specs.Columns.{relationshipRow}
 use Rattle.tables.specs.Refusals.{lentTables}
-use Rattle.full.proofs.Answers.{checked, answer-refused, answer-broken, answer-accepted}
+use Rattle.full.proofs.Given.{register-fits, can-index, zeros}
+use Rattle.full.proofs.Answers.{clear-none, answer-refused, answer-found}
 use Rattle.full.proofs.check.Statement.{statement}
 use Rattle.full.proofs.check.Tie as tie
 
@@ -18,42 +17,28 @@ enum-known-number c = search needs
 enum-told : tie.Need-enum-told
 enum-told c = search needs
 
-first-broken-requires : tie.Need-first-broken-requires
-first-broken-requires c κs =
-    let start = c .before .before .before .before .before .before .before .before .before .args in
-    checked (start .n) (now (start .types)) (now (start .relationships)) (now (start .rules)) (now (start .bodies)) (now (start .objects)) (now (start .links)) (sym (c .enum-told .given .1) ∙ c .before .before .check .ensures)
+index-requires : tie.Need-index-requires
+index-requires c κs =
+    let earlier = c .before .before .before .before .before .before .before in
+    let start = earlier .before .before .before in
+    let t = lentTables (start .args .n) (now (start .args .types)) (now (start .args .relationships)) (now (start .args .rules)) (now (start .args .bodies)) (now (start .args .objects)) (now (start .args .links)) in
+    let clear = clear-none _ (sym (c .before .enum-told .given .1) ∙ c .before .before .before .check .ensures) in
+    let fits = register-fits t clear in
+    (fits .objects-ascend, fits .links-ascend, can-index t clear, zeros 81920)
 
-enum-known-rule : tie.Need-enum-known-rule
-enum-known-rule c = search needs
-
-enum-told-2 : tie.Need-enum-told-2
-enum-told-2 c = search needs
+search-requires : tie.Need-search-requires
+search-requires c κs = record { unrefused = clear-none _ (sym (c .before .before .before .enum-told .given .1) ∙ c .before .before .before .before .before .check .ensures); indexed = c .before .index2 .ensures }
 
 returns : tie.Need-returns
-returns c =
-    let start = c .before .before .before .before .before .before .before .before .before .before .args in
-    answer-refused (lentTables (start .n) (now (start .types)) (now (start .relationships)) (now (start .rules)) (now (start .bodies)) (now (start .objects)) (now (start .links))) (sym (c .before .number .given .1) ∙ c .before .before .before .check .ensures)
+returns c = answer-refused _ (sym (c .before .number .given .1) ∙ c .before .before .before .check .ensures)
 
 returns-2 : tie.Need-returns-2
 returns-2 c =
-    let start = c .before .before .before .before .before .before .before .before .before .before .before .before .before .args in
-    answer-broken (start .n) (now (start .types)) (now (start .relationships)) (now (start .rules)) (now (start .bodies)) (now (start .objects)) (now (start .links)) (sym (c .before .before .before .before .enum-told .given .1) ∙ c .before .before .before .before .before .before .check .ensures) (sym (c .before .rule .given .1) ∙ c .before .before .before .first-broken .ensures (readRows (relationshipRow (now (start .relationships))) (start .n .relationships)))
-
-returns-3 : tie.Need-returns-3
-returns-3 c =
-    let start = c .before .before .before .before .before .before .before .before .before .before .before .before .args in
-    answer-accepted (start .n) (now (start .types)) (now (start .relationships)) (now (start .rules)) (now (start .bodies)) (now (start .objects)) (now (start .links)) (sym (c .before .before .before .enum-told .given .1) ∙ c .before .before .before .before .before .check .ensures) (sym (c .enum-told2 .given .1) ∙ c .before .before .first-broken .ensures (readRows (relationshipRow (now (start .relationships))) (start .n .relationships)))
+    let check = c .before .before .before .before .before .before .check in
+    answer-found _ (sym (c .before .before .before .before .enum-told .given .1) ∙ check .ensures) (c .search .ensures)
 
 pub check-spec : {M : Type 1} → statement M
 check-spec =
     tie.close
-    (tie.spec
-    check-requires
-    enum-known-number
-    enum-told
-    first-broken-requires
-    enum-known-rule
-    enum-told-2
-    returns
-    returns-2
-    returns-3)
+    (tie.spec check-requires enum-known-number enum-told index-requires search-requires returns returns-2)
+

@@ -1,12 +1,11 @@
--- `full::check_rule` meets its contract: the verdict, and then whether the pair is broken.
+-- `full::check_rule` meets its contract: the verdict on the question, and then the pair over the indexed register.
 use mathlib.Core.Path.{sym, ap, _∙_}
 use denote.Ref.{now}
 use borrow.Author.Needs.{needs}
-use Rattle.rows.specs.Rows.{readRows}
-use Rattle.tables.specs.Columns.{relationshipRow}
-use Rattle.tables.specs.Refusals.{lentTables}
+use Rattle.tables.specs.Refusals.{lentTables, verdictOf, lentRefusal}
 use Rattle.full.specs.Answers.{verdictFor}
-use Rattle.full.proofs.Answers.{checked}
+use Rattle.full.proofs.Given.{register-fits, can-index, zeros}
+use Rattle.full.proofs.Answers.{clear-none}
 use Rattle.full.proofs.Rules.{known-rule, clear-before, rule-refused, rule-broken, rule-accepted}
 use Rattle.full.proofs.check_rule.Statement.{statement}
 use Rattle.full.proofs.check_rule.Tie as tie
@@ -23,39 +22,49 @@ enum-known-number c = search needs
 enum-told : tie.Need-enum-told
 enum-told c = search needs
 
-broken-at-requires : tie.Need-broken-at-requires
-broken-at-requires c κs =
-    let start = c .before .before .before .before .before .before .before .before .before .before .args in
-    let verdict = c .before .before .before .check .result in
-    let clear = sym (c .enum-told .given .1) ∙ c .before .before .verdict-for .ensures in
-    (checked (start .n) (now (start .types)) (now (start .relationships)) (now (start .rules)) (now (start .bodies)) (now (start .objects)) (now (start .links)) (clear-before verdict (start .n .rules) (start .rule) clear ∙ c .before .before .before .check .ensures), known-rule verdict (start .n .rules) (start .rule) clear)
+index-requires : tie.Need-index-requires
+index-requires c κs =
+    let earlier = c .before .before .before .before .before .before .before in
+    let start = earlier .before .before .before .before in
+    let t = lentTables (start .args .n) (now (start .args .types)) (now (start .args .relationships)) (now (start .args .rules)) (now (start .args .bodies)) (now (start .args .objects)) (now (start .args .links)) in
+    let clear = clear-none _ (clear-before _ (start .args .n .rules) (start .args .rule) (sym (c .before .enum-told .given .1) ∙ c .before .before .before .verdict-for .ensures) ∙ c .before .before .before .before .check .ensures) in
+    let fits = register-fits t clear in
+    (fits .objects-ascend, fits .links-ascend, can-index t clear, zeros 81920)
+
+breaks-at-requires : tie.Need-breaks-at-requires
+breaks-at-requires c κs =
+    let check = c .before .before .before .before .before .before .check in
+    let earlier = c .before .before .before .before .before .before .before in
+    let start = earlier .before .before .before .before .before .before in
+    let asked = sym (c .before .before .before .enum-told .given .1) ∙ c .before .before .before .before .before .verdict-for .ensures in
+    (record { unrefused = clear-none _ (clear-before _ (start .args .n .rules) (start .args .rule) asked ∙ check .ensures); indexed = c .before .index2 .ensures }, known-rule _ (start .args .n .rules) (start .args .rule) asked)
 
 returns : tie.Need-returns
 returns c =
-    let start = c .before .before .before .before .before .before .before .before .before .before .before .args in
-    rule-refused (lentTables (start .n) (now (start .types)) (now (start .relationships)) (now (start .rules)) (now (start .bodies)) (now (start .objects)) (now (start .links))) (start .rule) (start .id) (sym (c .before .number .given .1) ∙ c .before .before .before .verdict-for .ensures ∙ ap (λ v. verdictFor v (start .n .rules) (start .rule)) (c .before .before .before .before .check .ensures))
+    let earlier = c .before .before .before .before .before .before .before in
+    let start = earlier .before .before .before .before in
+    rule-refused _ (start .args .rule) (start .args .id) (sym (c .before .number .given .1) ∙ c .before .before .before .verdict-for .ensures ∙ ap (λ v. verdictFor v (start .args .n .rules) (start .args .rule)) (c .before .before .before .before .check .ensures))
 
 returns-2 : tie.Need-returns-2
 returns-2 c =
-    let start = c .before .before .before .before .before .before .before .before .before .before .before .before .args in
-    let clear = sym (c .before .before .enum-told .given .1) ∙ c .before .before .before .before .verdict-for .ensures ∙ ap (λ v. verdictFor v (start .n .rules) (start .rule)) (c .before .before .before .before .before .check .ensures) in
-    rule-broken (start .n) (now (start .types)) (now (start .relationships)) (now (start .rules)) (now (start .bodies)) (now (start .objects)) (now (start .links)) (start .rule) (start .id) clear (c .before .broken-at .ensures (readRows (relationshipRow (now (start .relationships))) (start .n .relationships))) (c .if1 .taken)
+    let verdict-for = c .before .before .before .before .before .before .before .verdict-for in
+    let earlier = c .before .before .before .before .before .before .before in
+    let check = earlier .before .check in
+    let early = earlier .before .before .before .before .before .before .before in
+    let start = early .before in
+    rule-broken _ (start .args .rule) (start .args .id) (sym (c .before .before .before .before .before .enum-told .given .1) ∙ verdict-for .ensures ∙ ap (λ v. verdictFor v (start .args .n .rules) (start .args .rule)) (check .ensures)) (c .before .breaks-at .ensures) (c .if1 .taken)
 
 returns-3 : tie.Need-returns-3
 returns-3 c =
-    let start = c .before .before .before .before .before .before .before .before .before .before .before .before .args in
-    let clear = sym (c .before .before .enum-told .given .1) ∙ c .before .before .before .before .verdict-for .ensures ∙ ap (λ v. verdictFor v (start .n .rules) (start .rule)) (c .before .before .before .before .before .check .ensures) in
-    rule-accepted (start .n) (now (start .types)) (now (start .relationships)) (now (start .rules)) (now (start .bodies)) (now (start .objects)) (now (start .links)) (start .rule) (start .id) clear (c .before .broken-at .ensures (readRows (relationshipRow (now (start .relationships))) (start .n .relationships))) (c .if1 .left)
+    let verdict-for = c .before .before .before .before .before .before .before .verdict-for in
+    let earlier = c .before .before .before .before .before .before .before in
+    let check = earlier .before .check in
+    let early = earlier .before .before .before .before .before .before .before in
+    let start = early .before in
+    rule-accepted _ (start .args .rule) (start .args .id) (sym (c .before .before .before .before .before .enum-told .given .1) ∙ verdict-for .ensures ∙ ap (λ v. verdictFor v (start .args .n .rules) (start .args .rule)) (check .ensures)) (c .before .breaks-at .ensures) (c .if1 .left)
 
 pub check-rule-spec : {M : Type 1} → statement M
 check-rule-spec =
     tie.close
-    (tie.spec
-    check-requires
-    verdict-for-requires
-    enum-known-number
-    enum-told
-    broken-at-requires
-    returns
-    returns-2
-    returns-3)
+    (tie.spec check-requires verdict-for-requires enum-known-number enum-told index-requires breaks-at-requires returns returns-2 returns-3)
+

@@ -1,0 +1,157 @@
+-- The search of the full check: the pairs that are left after a rule and a row, and the first of them that is broken.
+use Prim.Native.Nat.{ℕ, suc, _+_, _-_, _≤_, _<_}
+use mathlib.Core.Path.{_≡_, refl, sym, ap, ap₂, subst, _∙_}
+use mathlib.Core.Bool.{Bool, true, false, _&&_, not, cond}
+use mathlib.Core.List.{List, [], _∷_, _++_, map}
+use mathlib.Core.Option.{Option, none, some}
+use native.Mathlib.Nat.{sub-zero}
+use native.Mathlib.Numerals.{add-one}
+use native.Mathlib.Omega.{arith}
+use Rattle.meaning.specs.Lists.{first, holds}
+use Rattle.meaning.specs.Schema.{ObjectType, under}
+use Rattle.meaning.specs.Register.{Register, isUnder}
+use Rattle.meaning.specs.Forms.{Book}
+use Rattle.meaning.specs.Meaning.{meaning, broken}
+use Rattle.meaning.specs.Reach.{Pair, pairOf, pairsFrom, contextPairs, ofRule}
+use Rattle.meaning.specs.Answers.{foundAnswer, firstBroken}
+use Rattle.rows.specs.Rows.{wordAt, rowsFrom}
+use Rattle.tables.specs.Columns.{ruleRow, objectRow}
+use Rattle.tables.specs.Refusals.{Tables, bookOf, registerIn, lentTables}
+use Rattle.tables.specs.declared.Counts.{Counts}
+use Rattle.register.specs.Tables.{objectPlace}
+use Rattle.register.proofs.Searches.{under-missing}
+use Rattle.register.proofs.Rows.{place-row}
+use Rattle.ocl.specs.Site.{Site, siteOf, typesAt, idIn}
+use Rattle.ocl.specs.Values.{truthOf}
+use Rattle.ocl.specs.Walks.{instancesFrom}
+use Rattle.ocl.proofs.Objects.{under-in, from-start, one-row, none-left}
+use Rattle.ocl.proofs.Bodies.{body-is}
+use Rattle.full.specs.Answers.{answerOf}
+use Rattle.full.specs.Search.{found, brokenIn, brokenRow, Clear}
+use Rattle.full.specs.declared.Answer.the-variants.{Accepted, Broken}
+use Rattle.full.proofs.Given.{rule-there, typed}
+
+-- the pairs of a rule from a row on, and those of the rules after it
+first-pair : (test : Pair → Bool) (rule x : ℕ) (u held : Bool) (rest : List ℕ) (more : List Pair) → (u ≡ true → test (pairOf rule x) ≡ not held) →
+    first test (map (pairOf rule) (cond u (x ∷ rest) rest) ++ more) ≡ cond (u && not held) (some (pairOf rule x)) (first test (map (pairOf rule) rest ++ more))
+first-pair test rule x true held rest more e = ap (λ b. cond b (some (pairOf rule x)) (first test (map (pairOf rule) rest ++ more))) (e refl)
+first-pair test rule x false held rest more e = refl
+
+-- ---- the pairs that are left
+
+module _ (t : Tables) where
+  abbrev test : Pair → Bool
+  test p = ofRule (bookOf t) (λ r. broken ((bookOf t) .schema .types) (registerIn t) r (p .id)) (p .rule)
+
+  abbrev after-rule : ℕ → List Pair
+  after-rule i = pairsFrom ((bookOf t) .schema .types) (registerIn t) i (rowsFrom (ruleRow (t .rules) (t .bodies)) i (t .ruleCount - i))
+
+  abbrev from-row : ℕ → ℕ → List ℕ
+  from-row i row = instancesFrom ((bookOf t) .schema .types) (t .objects) (t .objectCount) (wordAt (t .rules) 2 i 0) row
+
+  -- the first broken pair is the first of those that are left from a rule on, or from a row of a rule on
+  pub record Searching (i : ℕ) : Type 0 where
+    pub same : first test (contextPairs (bookOf t) (registerIn t)) ≡ first test (after-rule i)
+
+  pub record Within (i row : ℕ) : Type 0 where
+    pub same : first test (contextPairs (bookOf t) (registerIn t)) ≡ first test (map (pairOf i) (from-row i row) ++ after-rule (suc i))
+
+module _ {n : Counts} {types relationships rules bodies objects links index : List ℕ} (c : Clear n types relationships rules bodies objects links index) where
+  abbrev t : Tables
+  t = lentTables n types relationships rules bodies objects links
+
+  abbrev k : Book
+  k = bookOf t
+
+  abbrev g : Register
+  g = registerIn t
+
+  abbrev site : ℕ → Site
+  site rule = siteOf n types objects links index bodies rule
+
+  -- ---- one pair
+
+  module _ {rule size : ℕ} (h : rule < n .rules) (sized : size ≡ wordAt rules 2 rule 1) where
+    -- the body at the object of a row, by its id
+    body-holds : (row : ℕ) → truthOf (site rule) size (row ∷ []) 1 ≡ meaning (k .schema .types) g ((ruleRow rules bodies rule) .body) (idIn objects row ∷ [])
+    unfolding ruleRow
+    body-holds row = ap (λ e. truthOf (site rule) e (row ∷ []) 1) sized ∙ body-is (k .schema) (site rule) (wordAt rules 2 rule 1) (wordAt rules 2 rule 0) (typed c h refl) row
+
+    pair-is : (id : ℕ) → (test t) (pairOf rule id) ≡ isUnder (k .schema .types) g id (wordAt rules 2 rule 0) && not (meaning (k .schema .types) g ((ruleRow rules bodies rule) .body) (id ∷ []))
+    unfolding ofRule broken ruleRow
+    pair-is id = ap (holds (λ r. broken (k .schema .types) g r id)) (rule-there t (c .unrefused) rule h)
+
+    pub pair-row : (row : ℕ) → row < n .objects → brokenRow (site rule) (wordAt rules 2 rule 0) size row ≡ (test t) (pairOf rule (idIn objects row))
+    unfolding brokenRow
+    pair-row row there =
+        ap₂ (λ a b. a && not b)
+        (sym (under-in (n .objects) objects (n .links) links (c .indexed .objects-ascend) row there (k .schema .types) (wordAt rules 2 rule 0)))
+        (body-holds row)
+        ∙ sym (pair-is (idIn objects row))
+
+    -- what the code finds of an id
+    pub found-row : (id : ℕ) {context row : ℕ} {r : Bool} → objectPlace (n .objects) objects id ≡ some row → context ≡ wordAt rules 2 rule 0 → r ≡ brokenRow (site rule) context size row → r ≡ brokenIn t rule id
+    unfolding brokenIn
+    found-row id {context} {row} place q z =
+        let at = place-row (n .objects) objects id place in
+        z ∙ ap (λ j. brokenRow (site rule) j size row) q ∙ pair-row row (at .0) ∙ ap (λ x. (test t) (pairOf rule x)) (at .1)
+
+    pub found-none : (id : ℕ) → objectPlace (n .objects) objects id ≡ none → false ≡ brokenIn t rule id
+    unfolding brokenIn
+    found-none id e =
+        sym (pair-is id ∙ ap (λ b. b && not (meaning (k .schema .types) g ((ruleRow rules bodies rule) .body) (id ∷ []))) (under-missing (k .schema .types) (n .objects) objects (g .links) id (wordAt rules 2 rule 0) e))
+
+  -- ---- the pairs that are left
+
+  pub search-starts : Searching t 0
+  unfolding contextPairs
+  search-starts = record { same = ap (λ m. first (test t) (pairsFrom (k .schema .types) g 0 (rowsFrom (ruleRow rules bodies) 0 m))) (sym (sub-zero (n .rules))) }
+
+  pub within-starts : {i : ℕ} → i < n .rules → Searching t i → Within t i 0
+  unfolding pairsFrom ruleRow
+  within-starts {i} h s =
+      let left : n .rules - i ≡ suc (n .rules - suc i) = omega arith in
+      record {
+        same = s .same
+            ∙ ap (λ m. first (test t) (pairsFrom (k .schema .types) g i (rowsFrom (ruleRow rules bodies) i m))) left
+            ∙ ap (λ l. first (test t) (map (pairOf i) l ++ after-rule t (suc i))) (sym (from-start (k .schema .types) objects (n .objects) (wordAt rules 2 i 0) (n .links) links));
+      }
+
+  pub within-ends : {i row : ℕ} → n .objects ≤ row → Within t i row → Searching t (i + 1)
+  within-ends {i} {row} h w =
+      record {
+        same = w .same
+            ∙ ap (λ l. first (test t) (map (pairOf i) l ++ after-rule t (suc i))) (none-left (k .schema .types) objects (n .objects) (wordAt rules 2 i 0) row h)
+            ∙ ap (λ j. first (test t) (after-rule t j)) (sym (add-one i));
+      }
+
+  pub search-ends : {i : ℕ} → n .rules ≤ i → Searching t i → Accepted ≡ answerOf (found t)
+  unfolding found firstBroken foundAnswer pairsFrom
+  search-ends {i} h s =
+      let none-after : n .rules - i ≡ 0 = omega arith in
+      sym (ap (λ o. answerOf (foundAnswer o)) (s .same ∙ ap (λ m. first (test t) (pairsFrom (k .schema .types) g i (rowsFrom (ruleRow rules bodies) i m))) none-after))
+
+  -- one row more: what the code finds there
+  module _ {i row size context : ℕ} {broke : Bool} (h : i < n .rules) (there : row < n .objects) (sized : size ≡ wordAt rules 2 i 1) (in-type : context ≡ wordAt rules 2 i 0) (is : broke ≡ brokenRow (site i) context size row) (w : Within t i row) where
+    abbrev x : ℕ
+    x = idIn objects row
+
+    next-pair : first (test t) (contextPairs k g) ≡ cond broke (some (pairOf i x)) (first (test t) (map (pairOf i) (from-row t i (row + 1)) ++ after-rule t (suc i)))
+    unfolding brokenRow
+    next-pair =
+        let u = under (k .schema .types) ((objectRow objects row) .type) (wordAt rules 2 i 0) in
+        let held = truthOf (site i) size (row ∷ []) 1 in
+        let row-is = pair-row h sized row there in
+        w .same
+        ∙ ap (λ l. first (test t) (map (pairOf i) l ++ after-rule t (suc i))) (one-row (k .schema .types) objects (n .objects) (wordAt rules 2 i 0) row there refl refl)
+        ∙ first-pair (test t) i x u held (from-row t i (row + 1)) (after-rule t (suc i)) (λ e. sym row-is ∙ ap (λ b. b && not held) e)
+        ∙ ap (λ b. cond b (some (pairOf i x)) (first (test t) (map (pairOf i) (from-row t i (row + 1)) ++ after-rule t (suc i)))) (sym (is ∙ ap (λ j. brokenRow (site i) j size row) in-type))
+
+    pub row-broken : {id : ℕ} → id ≡ x → broke ≡ true → Broken i id ≡ answerOf (found t)
+    unfolding found firstBroken foundAnswer
+    row-broken q e =
+        ap (Broken i) q
+        ∙ sym (ap (λ o. answerOf (foundAnswer o)) (next-pair ∙ ap (λ b. cond b (some (pairOf i x)) (first (test t) (map (pairOf i) (from-row t i (row + 1)) ++ after-rule t (suc i)))) e))
+
+    pub row-passed : broke ≡ false → Within t i (row + 1)
+    row-passed e = record { same = next-pair ∙ ap (λ b. cond b (some (pairOf i x)) (first (test t) (map (pairOf i) (from-row t i (row + 1)) ++ after-rule t (suc i)))) e }
