@@ -41,7 +41,16 @@ fn breaks(
 {
     if schema::under(n.types, types, register::type_of(objects, row), context) {
         !ocl::holds_at(
-            n, types, objects, links, index, bodies, starts, rule, size, row,
+            n,
+            types,
+            objects,
+            links,
+            index,
+            bodies,
+            starts,
+            rule,
+            size,
+            row,
         )
     } else {
         false
@@ -72,13 +81,24 @@ fn search(
         let starts = spans.starts;
         let mut row: u32 = 0;
         while row < n.objects {
+            let on = row + 1;
             if breaks(
-                n, types, objects, links, index, bodies, &starts, context, rule, size, row,
+                n,
+                types,
+                objects,
+                links,
+                index,
+                bodies,
+                &starts,
+                context,
+                rule,
+                size,
+                row,
             ) {
                 answer = Answer::Broken(rule, register::id_of(objects, row));
                 break 'search;
             }
-            row += 1;
+            row = on;
         }
         rule += 1;
     }
@@ -168,7 +188,17 @@ fn breaks_at(
             let spans = book::body::scan(bodies, rule, size);
             let starts = spans.starts;
             breaks(
-                n, types, objects, links, index, bodies, &starts, context, rule, size, row,
+                n,
+                types,
+                objects,
+                links,
+                index,
+                bodies,
+                &starts,
+                context,
+                rule,
+                size,
+                row,
             )
         }
         Found::Nothing => false,

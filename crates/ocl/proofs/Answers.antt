@@ -82,7 +82,10 @@ module _ {w : Site} {starts : List ℕ} {e : ℕ} {vars : List ℕ} {depth : ℕ
   quantify-ends k first word inv none-left = sym (inv ∙ ap (quantified (quantifierOf k) (underOne w (e - 1) vars depth)) none-left ∙ quantified-none k (underOne w (e - 1) vars depth))
 
   -- a member at which the inner truth is evaluated
-  module _ (k first word : ℕ) {object on : ℕ} {inner : List ℕ} {holds stop : Bool} (deep : depth < 64) (inv : Quantifying k first word) (went : Went (w .objects) (w .counts .objects) (leftAt w first vars depth) (Stands w first vars) word object on) (bound : inner ≡ set vars depth object) (held : holds ≡ truthOf w (e - 1) inner (depth + 1)) (stopped : stop ≡ stopping (quantifierOf k) holds) where
+  module _ (k first word : ℕ) {object on : ℕ} {inner : List ℕ} {holds stop : Bool} (deep : depth < 64)
+      (inv : Quantifying k first word)
+      (went : Went (w .objects) (w .counts .objects) (leftAt w first vars depth) (Stands w first vars) word object on)
+      (bound : inner ≡ set vars depth object) (held : holds ≡ truthOf w (e - 1) inner (depth + 1)) (stopped : stop ≡ stopping (quantifierOf k) holds) where
     at-member : stop ≡ stopping (quantifierOf k) (underOne w (e - 1) vars depth (idIn (w .objects) object))
     at-member = stopped ∙ ap (stopping (quantifierOf k)) (held ∙ ap (λ l. truthOf w (e - 1) l (depth + 1)) bound ∙ under-row ready deep object)
 

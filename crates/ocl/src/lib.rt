@@ -41,12 +41,14 @@ pub fn truth(
     links: &[u32],
     index: &[u16; 81920],
     bodies: &[u32],
-    starts: &[u32; 65],
-    vars: &[u32; 64],
+    spans: &[u32; 65],
+    vs: &[u32; 64],
     at: Place,
 ) -> bool
-    requires { ⌜ Ready (siteOf n (now types) (now objects) (now links) (now index) (now bodies) (at .0)) (now starts) (at .1) (now vars) (at .2) truth ⌝ }
-    ensures { λ r. ⌜ r ≡ truthOf (siteOf n (now (types .entry)) (now (objects .entry)) (now (links .entry)) (now (index .entry)) (now (bodies .entry)) (at .0)) (at .1) (now (vars .entry)) (at .2) ⌝ }
+    requires { ⌜ Ready (siteOf n (now types) (now objects) (now links) (now index) (now bodies) (at .0)) (now spans) (at .1) (now vs) (at .2) truth ⌝ }
+    ensures { λ r. ⌜ r ≡ truthOf
+        (siteOf n (now (types .entry)) (now (objects .entry)) (now (links .entry)) (now (index .entry)) (now (bodies .entry)) (at .0))
+        (at .1) (now (vs .entry)) (at .2) ⌝ }
 {
     let rule = at.0;
     let e = at.1;
@@ -54,62 +56,19 @@ pub fn truth(
     let depth = at.2;
     let code = field(bodies, rule, row, 0);
     if code < 6 {
-        return comparison(
-            n,
-            types,
-            objects,
-            links,
-            index,
-            bodies,
-            starts,
-            vars,
-            at,
-            code,
-        );
+        return comparison(n, types, objects, links, index, bodies, spans, vs, at, code);
     }
     if code == 6 {
         let second = Place(rule, row, depth);
-        return !truth(
-            n,
-            types,
-            objects,
-            links,
-            index,
-            bodies,
-            starts,
-            vars,
-            second,
-        );
+        return !truth(n, types, objects, links, index, bodies, spans, vs, second);
     }
     if code < 11 {
-        return connection(
-            n,
-            types,
-            objects,
-            links,
-            index,
-            bodies,
-            starts,
-            vars,
-            at,
-            code,
-        );
+        return connection(n, types, objects, links, index, bodies, spans, vs, at, code);
     }
     if code < 13 {
-        return quantified(
-            n,
-            types,
-            objects,
-            links,
-            index,
-            bodies,
-            starts,
-            vars,
-            at,
-            code,
-        );
+        return quantified(n, types, objects, links, index, bodies, spans, vs, at, code);
     }
-    let object = variable(vars, field(bodies, rule, row, 1));
+    let object = variable(vs, field(bodies, rule, row, 1));
     let t = register::type_of(objects, object);
     schema::under(n.types, types, t, field(bodies, rule, row, 2))
 }
@@ -122,33 +81,27 @@ fn comparison(
     links: &[u32],
     index: &[u16; 81920],
     bodies: &[u32],
-    starts: &[u32; 65],
-    vars: &[u32; 64],
+    spans: &[u32; 65],
+    vs: &[u32; 64],
     at: Place,
     code: u32,
 ) -> bool
-    requires { ⌜ (Ready (siteOf n (now types) (now objects) (now links) (now index) (now bodies) (at .0)) (now starts) (at .1) (now vars) (at .2) truth) × (code ≡ codeAt (siteOf n (now types) (now objects) (now links) (now index) (now bodies) (at .0)) (at .1)) × (code < 6) ⌝ }
-    ensures { λ r. ⌜ r ≡ truthOf (siteOf n (now (types .entry)) (now (objects .entry)) (now (links .entry)) (now (index .entry)) (now (bodies .entry)) (at .0)) (at .1) (now (vars .entry)) (at .2) ⌝ }
+    requires { ⌜ (Ready (siteOf n (now types) (now objects) (now links) (now index) (now bodies) (at .0)) (now spans) (at .1) (now vs) (at .2) truth)
+        × (code ≡ codeAt (siteOf n (now types) (now objects) (now links) (now index) (now bodies) (at .0)) (at .1))
+        × (code < 6) ⌝ }
+    ensures { λ r. ⌜ r ≡ truthOf
+        (siteOf n (now (types .entry)) (now (objects .entry)) (now (links .entry)) (now (index .entry)) (now (bodies .entry)) (at .0))
+        (at .1) (now (vs .entry)) (at .2) ⌝ }
 {
     let rule = at.0;
     let e = at.1;
     let row = e - 1;
     let depth = at.2;
-    let start = start_of(starts, row);
+    let start = start_of(spans, row);
     let first = Place(rule, start, depth);
-    let left = value(n, types, objects, links, index, bodies, starts, vars, first);
+    let left = value(n, types, objects, links, index, bodies, spans, vs, first);
     let second = Place(rule, row, depth);
-    let right = value(
-        n,
-        types,
-        objects,
-        links,
-        index,
-        bodies,
-        starts,
-        vars,
-        second,
-    );
+    let right = value(n, types, objects, links, index, bodies, spans, vs, second);
     number::compare(code, left, right)
 }
 
@@ -160,36 +113,31 @@ fn connection(
     links: &[u32],
     index: &[u16; 81920],
     bodies: &[u32],
-    starts: &[u32; 65],
-    vars: &[u32; 64],
+    spans: &[u32; 65],
+    vs: &[u32; 64],
     at: Place,
     code: u32,
 ) -> bool
-    requires { ⌜ (Ready (siteOf n (now types) (now objects) (now links) (now index) (now bodies) (at .0)) (now starts) (at .1) (now vars) (at .2) truth) × (code ≡ codeAt (siteOf n (now types) (now objects) (now links) (now index) (now bodies) (at .0)) (at .1)) × (7 ≤ code) × (code < 11) ⌝ }
-    ensures { λ r. ⌜ r ≡ truthOf (siteOf n (now (types .entry)) (now (objects .entry)) (now (links .entry)) (now (index .entry)) (now (bodies .entry)) (at .0)) (at .1) (now (vars .entry)) (at .2) ⌝ }
+    requires { ⌜ (Ready (siteOf n (now types) (now objects) (now links) (now index) (now bodies) (at .0)) (now spans) (at .1) (now vs) (at .2) truth)
+        × (code ≡ codeAt (siteOf n (now types) (now objects) (now links) (now index) (now bodies) (at .0)) (at .1))
+        × (7 ≤ code)
+        × (code < 11) ⌝ }
+    ensures { λ r. ⌜ r ≡ truthOf
+        (siteOf n (now (types .entry)) (now (objects .entry)) (now (links .entry)) (now (index .entry)) (now (bodies .entry)) (at .0))
+        (at .1) (now (vs .entry)) (at .2) ⌝ }
 {
     let rule = at.0;
     let e = at.1;
     let row = e - 1;
     let depth = at.2;
-    let start = start_of(starts, row);
+    let start = start_of(spans, row);
     let first = Place(rule, start, depth);
-    let left = truth(n, types, objects, links, index, bodies, starts, vars, first);
+    let left = truth(n, types, objects, links, index, bodies, spans, vs, first);
     if decided(code, left) {
         return code != 7;
     }
     let second = Place(rule, row, depth);
-    let right = truth(
-        n,
-        types,
-        objects,
-        links,
-        index,
-        bodies,
-        starts,
-        vars,
-        second,
-    );
+    let right = truth(n, types, objects, links, index, bodies, spans, vs, second);
     joined(code, left, right)
 }
 
@@ -201,50 +149,35 @@ fn quantified(
     links: &[u32],
     index: &[u16; 81920],
     bodies: &[u32],
-    starts: &[u32; 65],
-    vars: &[u32; 64],
+    spans: &[u32; 65],
+    vs: &[u32; 64],
     at: Place,
     code: u32,
 ) -> bool
-    requires { ⌜ (Ready (siteOf n (now types) (now objects) (now links) (now index) (now bodies) (at .0)) (now starts) (at .1) (now vars) (at .2) truth) × (code ≡ codeAt (siteOf n (now types) (now objects) (now links) (now index) (now bodies) (at .0)) (at .1)) × (11 ≤ code) × (code < 13) ⌝ }
-    ensures { λ r. ⌜ r ≡ truthOf (siteOf n (now (types .entry)) (now (objects .entry)) (now (links .entry)) (now (index .entry)) (now (bodies .entry)) (at .0)) (at .1) (now (vars .entry)) (at .2) ⌝ }
+    requires { ⌜ (Ready (siteOf n (now types) (now objects) (now links) (now index) (now bodies) (at .0)) (now spans) (at .1) (now vs) (at .2) truth)
+        × (code ≡ codeAt (siteOf n (now types) (now objects) (now links) (now index) (now bodies) (at .0)) (at .1))
+        × (11 ≤ code)
+        × (code < 13) ⌝ }
+    ensures { λ r. ⌜ r ≡ truthOf
+        (siteOf n (now (types .entry)) (now (objects .entry)) (now (links .entry)) (now (index .entry)) (now (bodies .entry)) (at .0))
+        (at .1) (now (vs .entry)) (at .2) ⌝ }
 {
     let rule = at.0;
     let e = at.1;
     let row = e - 1;
     let depth = at.2;
-    let start = start_of(starts, row);
-    let from = Place(rule, start, depth);
-    let mut word = begin(n, types, objects, links, index, bodies, starts, vars, from);
+    let start = start_of(spans, row);
+    let of = Place(rule, start, depth);
+    let mut word = begin(n, types, objects, links, index, bodies, spans, vs, of);
     loop {
-        let Step::At(object, on) = next(
-            n,
-            types,
-            objects,
-            links,
-            index,
-            bodies,
-            starts,
-            vars,
-            from,
-            word,
-        ) else {
+        let step = next(n, types, objects, links, index, bodies, spans, vs, of, word);
+        let Step::At(object, on) = step else {
             return code == 11;
         };
-        let inner = bound(vars, depth, object);
+        let inner = bound(vs, depth, object);
         let deeper = depth + 1;
-        let under = Place(rule, row, deeper);
-        let holds = truth(
-            n,
-            types,
-            objects,
-            links,
-            index,
-            bodies,
-            starts,
-            &inner,
-            under,
-        );
+        let to = Place(rule, row, deeper);
+        let holds = truth(n, types, objects, links, index, bodies, spans, &inner, to);
         if stops(code, holds) {
             return code != 11;
         }
@@ -260,12 +193,14 @@ pub fn value(
     links: &[u32],
     index: &[u16; 81920],
     bodies: &[u32],
-    starts: &[u32; 65],
-    vars: &[u32; 64],
+    spans: &[u32; 65],
+    vs: &[u32; 64],
     at: Place,
 ) -> i64
-    requires { ⌜ Ready (siteOf n (now types) (now objects) (now links) (now index) (now bodies) (at .0)) (now starts) (at .1) (now vars) (at .2) number ⌝ }
-    ensures { λ r. ⌜ r ≡ numberOf (siteOf n (now (types .entry)) (now (objects .entry)) (now (links .entry)) (now (index .entry)) (now (bodies .entry)) (at .0)) (at .1) (now (vars .entry)) (at .2) ⌝ }
+    requires { ⌜ Ready (siteOf n (now types) (now objects) (now links) (now index) (now bodies) (at .0)) (now spans) (at .1) (now vs) (at .2) number ⌝ }
+    ensures { λ r. ⌜ r ≡ numberOf
+        (siteOf n (now (types .entry)) (now (objects .entry)) (now (links .entry)) (now (index .entry)) (now (bodies .entry)) (at .0))
+        (at .1) (now (vs .entry)) (at .2) ⌝ }
 {
     let rule = at.0;
     let e = at.1;
@@ -276,35 +211,13 @@ pub fn value(
         return number::from_word(x);
     }
     if code == 15 {
-        let object = variable(vars, x);
+        let object = variable(vs, x);
         return cell_value(objects, object, field(bodies, rule, row, 2));
     }
     if code < 18 {
-        return totalled(
-            n,
-            types,
-            objects,
-            links,
-            index,
-            bodies,
-            starts,
-            vars,
-            at,
-            code,
-        );
+        return totalled(n, types, objects, links, index, bodies, spans, vs, at, code);
     }
-    combination(
-        n,
-        types,
-        objects,
-        links,
-        index,
-        bodies,
-        starts,
-        vars,
-        at,
-        code,
-    )
+    combination(n, types, objects, links, index, bodies, spans, vs, at, code)
 }
 
 // A sum or a difference of two numbers.
@@ -315,33 +228,27 @@ fn combination(
     links: &[u32],
     index: &[u16; 81920],
     bodies: &[u32],
-    starts: &[u32; 65],
-    vars: &[u32; 64],
+    spans: &[u32; 65],
+    vs: &[u32; 64],
     at: Place,
     code: u32,
 ) -> i64
-    requires { ⌜ (Ready (siteOf n (now types) (now objects) (now links) (now index) (now bodies) (at .0)) (now starts) (at .1) (now vars) (at .2) number) × (code ≡ codeAt (siteOf n (now types) (now objects) (now links) (now index) (now bodies) (at .0)) (at .1)) × (18 ≤ code) ⌝ }
-    ensures { λ r. ⌜ r ≡ numberOf (siteOf n (now (types .entry)) (now (objects .entry)) (now (links .entry)) (now (index .entry)) (now (bodies .entry)) (at .0)) (at .1) (now (vars .entry)) (at .2) ⌝ }
+    requires { ⌜ (Ready (siteOf n (now types) (now objects) (now links) (now index) (now bodies) (at .0)) (now spans) (at .1) (now vs) (at .2) number)
+        × (code ≡ codeAt (siteOf n (now types) (now objects) (now links) (now index) (now bodies) (at .0)) (at .1))
+        × (18 ≤ code) ⌝ }
+    ensures { λ r. ⌜ r ≡ numberOf
+        (siteOf n (now (types .entry)) (now (objects .entry)) (now (links .entry)) (now (index .entry)) (now (bodies .entry)) (at .0))
+        (at .1) (now (vs .entry)) (at .2) ⌝ }
 {
     let rule = at.0;
     let e = at.1;
     let row = e - 1;
     let depth = at.2;
-    let start = start_of(starts, row);
+    let start = start_of(spans, row);
     let first = Place(rule, start, depth);
-    let left = value(n, types, objects, links, index, bodies, starts, vars, first);
+    let left = value(n, types, objects, links, index, bodies, spans, vs, first);
     let second = Place(rule, row, depth);
-    let right = value(
-        n,
-        types,
-        objects,
-        links,
-        index,
-        bodies,
-        starts,
-        vars,
-        second,
-    );
+    let right = value(n, types, objects, links, index, bodies, spans, vs, second);
     if code == 18 {
         number::add(left, right)
     } else {
@@ -357,35 +264,30 @@ fn totalled(
     links: &[u32],
     index: &[u16; 81920],
     bodies: &[u32],
-    starts: &[u32; 65],
-    vars: &[u32; 64],
+    spans: &[u32; 65],
+    vs: &[u32; 64],
     at: Place,
     code: u32,
 ) -> i64
-    requires { ⌜ (Ready (siteOf n (now types) (now objects) (now links) (now index) (now bodies) (at .0)) (now starts) (at .1) (now vars) (at .2) number) × (code ≡ codeAt (siteOf n (now types) (now objects) (now links) (now index) (now bodies) (at .0)) (at .1)) × (16 ≤ code) × (code < 18) ⌝ }
-    ensures { λ r. ⌜ r ≡ numberOf (siteOf n (now (types .entry)) (now (objects .entry)) (now (links .entry)) (now (index .entry)) (now (bodies .entry)) (at .0)) (at .1) (now (vars .entry)) (at .2) ⌝ }
+    requires { ⌜ (Ready (siteOf n (now types) (now objects) (now links) (now index) (now bodies) (at .0)) (now spans) (at .1) (now vs) (at .2) number)
+        × (code ≡ codeAt (siteOf n (now types) (now objects) (now links) (now index) (now bodies) (at .0)) (at .1))
+        × (16 ≤ code)
+        × (code < 18) ⌝ }
+    ensures { λ r. ⌜ r ≡ numberOf
+        (siteOf n (now (types .entry)) (now (objects .entry)) (now (links .entry)) (now (index .entry)) (now (bodies .entry)) (at .0))
+        (at .1) (now (vs .entry)) (at .2) ⌝ }
 {
     let rule = at.0;
     let e = at.1;
     let row = e - 1;
     let depth = at.2;
-    let from = Place(rule, row, depth);
+    let of = Place(rule, row, depth);
     let cell = field(bodies, rule, row, 1);
     let mut total: i64 = 0;
-    let mut word = begin(n, types, objects, links, index, bodies, starts, vars, from);
+    let mut word = begin(n, types, objects, links, index, bodies, spans, vs, of);
     loop {
-        let Step::At(object, on) = next(
-            n,
-            types,
-            objects,
-            links,
-            index,
-            bodies,
-            starts,
-            vars,
-            from,
-            word,
-        ) else {
+        let step = next(n, types, objects, links, index, bodies, spans, vs, of, word);
+        let Step::At(object, on) = step else {
             return total;
         };
         total = number::add(total, weight(objects, code, cell, object));
@@ -401,27 +303,29 @@ pub fn begin(
     links: &[u32],
     index: &[u16; 81920],
     bodies: &[u32],
-    starts: &[u32; 65],
-    vars: &[u32; 64],
+    spans: &[u32; 65],
+    vs: &[u32; 64],
     at: Place,
 ) -> u32
-    requires { ⌜ Ready (siteOf n (now types) (now objects) (now links) (now index) (now bodies) (at .0)) (now starts) (at .1) (now vars) (at .2) collection ⌝ }
-    ensures { λ r. ⌜ Begun (siteOf n (now (types .entry)) (now (objects .entry)) (now (links .entry)) (now (index .entry)) (now (bodies .entry)) (at .0)) (at .1) (now (vars .entry)) (at .2) r ⌝ }
+    requires { ⌜ Ready (siteOf n (now types) (now objects) (now links) (now index) (now bodies) (at .0)) (now spans) (at .1) (now vs) (at .2) collection ⌝ }
+    ensures { λ r. ⌜ Begun
+        (siteOf n (now (types .entry)) (now (objects .entry)) (now (links .entry)) (now (index .entry)) (now (bodies .entry)) (at .0))
+        (at .1) (now (vs .entry)) (at .2) r ⌝ }
 {
     let rule = at.0;
     let e = at.1;
     let row = e - 1;
     let code = field(bodies, rule, row, 0);
     if code == 20 {
-        let object = variable(vars, field(bodies, rule, row, 1));
+        let object = variable(vs, field(bodies, rule, row, 1));
         return slots::first_slot(index, field(bodies, rule, row, 2), object);
     }
     if code == 21 {
         return 0;
     }
-    let start = start_of(starts, row);
-    let from = Place(rule, start, at.2);
-    begin(n, types, objects, links, index, bodies, starts, vars, from)
+    let start = start_of(spans, row);
+    let of = Place(rule, start, at.2);
+    begin(n, types, objects, links, index, bodies, spans, vs, of)
 }
 
 // The next member of a walk over the collection that ends before the place.
@@ -432,13 +336,16 @@ pub fn next(
     links: &[u32],
     index: &[u16; 81920],
     bodies: &[u32],
-    starts: &[u32; 65],
-    vars: &[u32; 64],
+    spans: &[u32; 65],
+    vs: &[u32; 64],
     at: Place,
     word: u32,
 ) -> Step
-    requires { ⌜ (Ready (siteOf n (now types) (now objects) (now links) (now index) (now bodies) (at .0)) (now starts) (at .1) (now vars) (at .2) collection) × (Stands (siteOf n (now types) (now objects) (now links) (now index) (now bodies) (at .0)) (at .1) (now vars) word) ⌝ }
-    ensures { λ r. ⌜ Walked (siteOf n (now (types .entry)) (now (objects .entry)) (now (links .entry)) (now (index .entry)) (now (bodies .entry)) (at .0)) (at .1) (now (vars .entry)) (at .2) word r ⌝ }
+    requires { ⌜ (Ready (siteOf n (now types) (now objects) (now links) (now index) (now bodies) (at .0)) (now spans) (at .1) (now vs) (at .2) collection)
+        × (Stands (siteOf n (now types) (now objects) (now links) (now index) (now bodies) (at .0)) (at .1) (now vs) word) ⌝ }
+    ensures { λ r. ⌜ Walked
+        (siteOf n (now (types .entry)) (now (objects .entry)) (now (links .entry)) (now (index .entry)) (now (bodies .entry)) (at .0))
+        (at .1) (now (vs .entry)) (at .2) word r ⌝ }
 {
     let rule = at.0;
     let e = at.1;
@@ -451,18 +358,7 @@ pub fn next(
         let t = field(bodies, rule, row, 1);
         return next_instance(n.types, types, n.objects, objects, t, word);
     }
-    next_selected(
-        n,
-        types,
-        objects,
-        links,
-        index,
-        bodies,
-        starts,
-        vars,
-        at,
-        word,
-    )
+    next_selected(n, types, objects, links, index, bodies, spans, vs, at, word)
 }
 
 // The next member of a walk over a select: the members of its collection one after the other, until the condition holds at one.
@@ -473,50 +369,34 @@ fn next_selected(
     links: &[u32],
     index: &[u16; 81920],
     bodies: &[u32],
-    starts: &[u32; 65],
-    vars: &[u32; 64],
+    spans: &[u32; 65],
+    vs: &[u32; 64],
     at: Place,
     word: u32,
 ) -> Step
-    requires { ⌜ (Ready (siteOf n (now types) (now objects) (now links) (now index) (now bodies) (at .0)) (now starts) (at .1) (now vars) (at .2) collection) × (Stands (siteOf n (now types) (now objects) (now links) (now index) (now bodies) (at .0)) (at .1) (now vars) word) × (codeAt (siteOf n (now types) (now objects) (now links) (now index) (now bodies) (at .0)) (at .1) ≡ 22) ⌝ }
-    ensures { λ r. ⌜ Walked (siteOf n (now (types .entry)) (now (objects .entry)) (now (links .entry)) (now (index .entry)) (now (bodies .entry)) (at .0)) (at .1) (now (vars .entry)) (at .2) word r ⌝ }
+    requires { ⌜ (Ready (siteOf n (now types) (now objects) (now links) (now index) (now bodies) (at .0)) (now spans) (at .1) (now vs) (at .2) collection)
+        × (Stands (siteOf n (now types) (now objects) (now links) (now index) (now bodies) (at .0)) (at .1) (now vs) word)
+        × (codeAt (siteOf n (now types) (now objects) (now links) (now index) (now bodies) (at .0)) (at .1) ≡ 22) ⌝ }
+    ensures { λ r. ⌜ Walked
+        (siteOf n (now (types .entry)) (now (objects .entry)) (now (links .entry)) (now (index .entry)) (now (bodies .entry)) (at .0))
+        (at .1) (now (vs .entry)) (at .2) word r ⌝ }
 {
     let rule = at.0;
     let e = at.1;
     let row = e - 1;
     let depth = at.2;
-    let start = start_of(starts, row);
-    let from = Place(rule, start, depth);
+    let start = start_of(spans, row);
+    let of = Place(rule, start, depth);
     let mut last = word;
     loop {
-        let Step::At(object, on) = next(
-            n,
-            types,
-            objects,
-            links,
-            index,
-            bodies,
-            starts,
-            vars,
-            from,
-            last,
-        ) else {
+        let step = next(n, types, objects, links, index, bodies, spans, vs, of, last);
+        let Step::At(object, on) = step else {
             return Step::Done;
         };
-        let inner = bound(vars, depth, object);
+        let inner = bound(vs, depth, object);
         let deeper = depth + 1;
-        let under = Place(rule, row, deeper);
-        if truth(
-            n,
-            types,
-            objects,
-            links,
-            index,
-            bodies,
-            starts,
-            &inner,
-            under,
-        ) {
+        let to = Place(rule, row, deeper);
+        if truth(n, types, objects, links, index, bodies, spans, &inner, to) {
             return Step::At(object, on);
         }
         last = on;
@@ -531,16 +411,18 @@ pub fn holds_at(
     links: &[u32],
     index: &[u16; 81920],
     bodies: &[u32],
-    starts: &[u32; 65],
+    spans: &[u32; 65],
     rule: u32,
     size: u32,
     row: u32,
 ) -> bool
-    requires { ⌜ BodyReady (siteOf n (now types) (now objects) (now links) (now index) (now bodies) rule) (now starts) size row ⌝ }
-    ensures { λ r. ⌜ r ≡ truthOf (siteOf n (now (types .entry)) (now (objects .entry)) (now (links .entry)) (now (index .entry)) (now (bodies .entry)) rule) size (row ∷ []) 1 ⌝ }
+    requires { ⌜ BodyReady (siteOf n (now types) (now objects) (now links) (now index) (now bodies) rule) (now spans) size row ⌝ }
+    ensures { λ r. ⌜ r ≡ truthOf
+        (siteOf n (now (types .entry)) (now (objects .entry)) (now (links .entry)) (now (index .entry)) (now (bodies .entry)) rule)
+        size (row ∷ []) 1 ⌝ }
 {
-    let mut vars = [0u32; 64];
-    vars[0] = row;
+    let mut vs = [0u32; 64];
+    vs[0] = row;
     let at = Place(rule, size, 1);
-    truth(n, types, objects, links, index, bodies, starts, &vars, at)
+    truth(n, types, objects, links, index, bodies, spans, &vs, at)
 }

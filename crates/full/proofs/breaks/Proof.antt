@@ -38,4 +38,3 @@ pub breaks-spec : {M : Type 1} → statement M
 breaks-spec =
     tie.close
     (tie.spec type-of-requires under-requires holds-at-requires returns returns-2)
-

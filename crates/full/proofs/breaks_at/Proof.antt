@@ -61,4 +61,3 @@ pub breaks-at-spec : {M : Type 1} → statement M
 breaks-at-spec =
     tie.close
     (tie.spec object-row-requires enum-known-row word-requires word-requires-2 scan-requires breaks-requires enum-told returns returns-2)
-

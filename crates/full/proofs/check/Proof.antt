@@ -41,4 +41,3 @@ pub check-spec : {M : Type 1} → statement M
 check-spec =
     tie.close
     (tie.spec check-requires enum-known-number enum-told index-requires search-requires returns returns-2)
-

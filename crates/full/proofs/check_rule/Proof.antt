@@ -67,4 +67,3 @@ pub check-rule-spec : {M : Type 1} → statement M
 check-rule-spec =
     tie.close
     (tie.spec check-requires verdict-for-requires enum-known-number enum-told index-requires breaks-at-requires returns returns-2 returns-3)
-

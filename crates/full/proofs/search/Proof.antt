@@ -48,6 +48,9 @@ loop-holds c =
     let start = earlier .before .before .before .before .before .before in
     (search .inv .0, within-starts (start .pre) (c .before .before .before .before .if1 .taken) (search .inv .1))
 
+add-on : tie.Need-add-on Inv-loop μ-loop Inv-search μ-search
+add-on c = omega arith
+
 breaks-requires : tie.Need-breaks-requires Inv-loop μ-loop Inv-search μ-search
 breaks-requires c κs =
     let word2 = c .before .before .before .before .before .before .word2 in
@@ -60,9 +63,6 @@ breaks-requires c κs =
 
 id-of-requires : tie.Need-id-of-requires Inv-loop μ-loop Inv-search μ-search
 id-of-requires c κs = tt
-
-add-row : tie.Need-add-row Inv-loop μ-loop Inv-search μ-search
-add-row c = omega arith
 
 loop-less : tie.Need-loop-less Inv-loop μ-loop Inv-search μ-search
 loop-less c = omega arith
@@ -113,6 +113,5 @@ returns-2 c =
 pub search-spec : {M : Type 1} → statement M
 search-spec =
     tie.close
-    (tie.spec Inv-loop μ-loop Inv-search μ-search search-holds word-requires word-requires-2 scan-requires loop-holds breaks-requires id-of-requires
-    add-row loop-less loop-again add-rule search-less search-again returns returns-2)
-
+    (tie.spec Inv-loop μ-loop Inv-search μ-search search-holds word-requires word-requires-2 scan-requires loop-holds add-on breaks-requires
+    id-of-requires loop-less loop-again add-rule search-less search-again returns returns-2)

@@ -41,7 +41,7 @@ module _ (t : ℕ) where
   abbrev site : Start → Site
   site s = siteOf (s .args .n) (s .args .types .now) (s .args .objects .now) (s .args .links .now) (s .args .index .now) (s .args .bodies .now) (s .args .at .0)
 
-  abbrev ready : (s : Start) → Ready (site s) (s .args .starts .now) (s .args .at .1) (s .args .vars .now) (s .args .at .2) collection
+  abbrev ready : (s : Start) → Ready (site s) (s .args .spans .now) (s .args .at .1) (s .args .vs .now) (s .args .at .2) collection
   ready s = s .pre .1
 
   inside : (s : Start) → s .args .at .1 - 1 < 64
@@ -78,7 +78,7 @@ module _ (t : ℕ) where
       let start = earlier .before .before in
       let k = role-scope (ready start) (sym (c .before .before .before .before .field .ensures) ∙ c .before .before .before .if1 .taken) in
       let near : c .before .variable .result < start .args .n .objects =
-      subst (λ v. v < start .args .n .objects) (sym (c .before .variable .ensures ∙ ap (λ j. getD (start .args .vars .now) j 0) (c .before .before .field2 .ensures))) (ready start .there _ (k .0)) in
+      subst (λ v. v < start .args .n .objects) (sym (c .before .variable .ensures ∙ ap (λ j. getD (start .args .vs .now) j 0) (c .before .before .field2 .ensures))) (ready start .there _ (k .0)) in
       (omega (arith, k .1, c .field3 .ensures), omega (arith, ready start .indexed .indexable .few))
 
   begin-returns : begin-lts.Need-returns (calls t) (begin-at t) begin.Post
@@ -115,4 +115,3 @@ pub +begin-spec : {M : Type 1} → statement M
     close μ-begin λ t.
     begin-lts.spec (calls t) (begin-at t) begin.Post
     (begin-sub-row t) (begin-field-requires t) (begin-field-requires-2 t) (begin-variable-requires t) (begin-field-requires-3 t) (begin-first-slot-requires t) (begin-returns t) (begin-returns-2 t) (begin-start-of-requires t) (begin-begin-requires t) (begin-returns-3 t)
-

@@ -350,8 +350,8 @@ module _ (t : ℕ) where
       let start = c .before .before .before .before .before .before .before in
       let f = quantify-parts (start .pre .1 .0) (start .pre .1 .1) (start .pre .1 .2) (start .pre .1 .3) .first (c .before .before .start-of .ensures) in (omega (arith, f .0, start .pre .0), (f .1, c .loop .inv .0))
 
-  quantified-enum-known-object : quantified-lts.Need-enum-known-object (quantified-calls t) (quantified-at t) quantified.Post quantified-Inv-loop quantified-μ-loop
-  quantified-enum-known-object c = search needs
+  quantified-enum-known-step : quantified-lts.Need-enum-known-step (quantified-calls t) (quantified-at t) quantified.Post quantified-Inv-loop quantified-μ-loop
+  quantified-enum-known-step c = search needs
 
   quantified-enum-told : quantified-lts.Need-enum-told (quantified-calls t) (quantified-at t) quantified.Post quantified-Inv-loop quantified-μ-loop
   quantified-enum-told c = search needs
@@ -379,7 +379,7 @@ module _ (t : ℕ) where
   quantified-truth-requires c κs =
       let earlier = c .before .before .before .before .before .before .before in
       let start = earlier .before .before .before .before .before .before in
-      let went = c .before .before .before .before .before .next .ensures .went _ _ (c .before .before .before .object .given .1) in
+      let went = c .before .before .before .before .before .next .ensures .went _ _ (c .before .before .before .step .given .1) in
       let past = positive (start .pre .1 .0) in
       (omega (arith, start .pre .0), quantify-parts (start .pre .1 .0) (start .pre .1 .1) (start .pre .1 .2) (start .pre .1 .3) .inner _ _ (c .before .bound .ensures) (went .there))
 
@@ -388,33 +388,33 @@ module _ (t : ℕ) where
 
   quantified-returns-2 : quantified-lts.Need-returns-2 (quantified-calls t) (quantified-at t) quantified.Post quantified-Inv-loop quantified-μ-loop
   quantified-returns-2 c =
-      let object = c .before .before .before .before .before .before .object in
+      let step = c .before .before .before .before .before .before .step in
       let earlier = c .before .before .before .before .before .before .before in
       let next = earlier .before .next in
       let loop = earlier .before .before .loop in
       let start-of = earlier .before .before .before .before .start-of in
       let early = earlier .before .before .before .before .before .before .before in
       let start = early .before .before in
-      let went = next .ensures .went _ _ (object .given .1) in
+      let went = next .ensures .went _ _ (step .given .1) in
       quantify-stops (start .pre .1 .0) (start .args .code) (start-of .result) (loop .word) (quantify-parts (start .pre .1 .0) (start .pre .1 .1) (start .pre .1 .2) (start .pre .1 .3) .deep) (loop .inv .1) went (c .before .before .before .before .bound .ensures) (c .before .before .truth .ensures) (c .before .stops .ensures) (c .if1 .taken)
 
   quantified-loop-less : quantified-lts.Need-loop-less (quantified-calls t) (quantified-at t) quantified.Post quantified-Inv-loop quantified-μ-loop
   quantified-loop-less c =
-      let object = c .before .before .before .before .before .before .object in
+      let step = c .before .before .before .before .before .before .step in
       let earlier = c .before .before .before .before .before .before .before in
       let next = earlier .before .next in
-      fewer-left (next .ensures .went _ _ (object .given .1))
+      fewer-left (next .ensures .went _ _ (step .given .1))
 
   quantified-loop-again : quantified-lts.Need-loop-again (quantified-calls t) (quantified-at t) quantified.Post quantified-Inv-loop quantified-μ-loop
   quantified-loop-again c =
-      let object = c .before .before .before .before .before .before .object in
+      let step = c .before .before .before .before .before .before .step in
       let earlier = c .before .before .before .before .before .before .before in
       let next = earlier .before .next in
       let loop = earlier .before .before .loop in
       let start-of = earlier .before .before .before .before .start-of in
       let early = earlier .before .before .before .before .before .before .before in
       let start = early .before .before in
-      let went = next .ensures .went _ _ (object .given .1) in
+      let went = next .ensures .went _ _ (step .given .1) in
       (went .stands, quantify-goes-on (start .pre .1 .0) (start .args .code) (start-of .result) (loop .word) (quantify-parts (start .pre .1 .0) (start .pre .1 .1) (start .pre .1 .2) (start .pre .1 .3) .deep) (loop .inv .1) went (c .before .before .before .before .bound .ensures) (c .before .before .truth .ensures) (c .before .stops .ensures) (c .if1 .left))
 
   -- ---- totalled
@@ -441,8 +441,8 @@ module _ (t : ℕ) where
       let past = positive (start .pre .1 .0) in
       (omega (arith, start .pre .0), (total-part (start .pre .1 .0) (start .pre .1 .1) (start .pre .1 .2) (start .pre .1 .3), c .loop .inv .0))
 
-  totalled-enum-known-object : totalled-lts.Need-enum-known-object (totalled-calls t) (totalled-at t) totalled.Post totalled-Inv-loop totalled-μ-loop
-  totalled-enum-known-object c = search needs
+  totalled-enum-known-step : totalled-lts.Need-enum-known-step (totalled-calls t) (totalled-at t) totalled.Post totalled-Inv-loop totalled-μ-loop
+  totalled-enum-known-step c = search needs
 
   totalled-enum-told : totalled-lts.Need-enum-told (totalled-calls t) (totalled-at t) totalled.Post totalled-Inv-loop totalled-μ-loop
   totalled-enum-told c = search needs
@@ -462,10 +462,10 @@ module _ (t : ℕ) where
       let field = c .before .before .before .before .before .before .before .field in
       let earlier = c .before .before .before .before .before .before .before in
       let start = earlier .before .before .before .before .before in
-      (sum-fits (start .pre .1 .0) (loop .inv .1), weight-fits (start .pre .1 .0) (loop .inv .1) (c .before .before .before .before .next .ensures .went _ _ (c .before .before .object .given .1)) (field .ensures) (toZ-ofZ w64 (c .weight .result) (record { sfits = c .weight .ok }) ∙ c .weight .ensures))
+      (sum-fits (start .pre .1 .0) (loop .inv .1), weight-fits (start .pre .1 .0) (loop .inv .1) (c .before .before .before .before .next .ensures .went _ _ (c .before .before .step .given .1)) (field .ensures) (toZ-ofZ w64 (c .weight .result) (record { sfits = c .weight .ok }) ∙ c .weight .ensures))
 
   totalled-loop-less : totalled-lts.Need-loop-less (totalled-calls t) (totalled-at t) totalled.Post totalled-Inv-loop totalled-μ-loop
-  totalled-loop-less c = fewer-left (c .before .before .before .before .before .next .ensures .went _ _ (c .before .before .before .object .given .1))
+  totalled-loop-less c = fewer-left (c .before .before .before .before .before .next .ensures .went _ _ (c .before .before .before .step .given .1))
 
   totalled-loop-again : totalled-lts.Need-loop-again (totalled-calls t) (totalled-at t) totalled.Post totalled-Inv-loop totalled-μ-loop
   totalled-loop-again c =
@@ -473,7 +473,7 @@ module _ (t : ℕ) where
       let earlier = c .before .before .before .before .before .before .before in
       let field = earlier .before .field in
       let start = earlier .before .before .before .before .before .before in
-      let went = c .before .before .before .before .before .next .ensures .went _ _ (c .before .before .before .object .given .1) in
+      let went = c .before .before .before .before .before .next .ensures .went _ _ (c .before .before .before .step .given .1) in
       (went .stands, sum-goes-on (start .pre .1 .0) (loop .inv .1) went (field .ensures) (toZ-ofZ w64 (c .before .weight .result) (record { sfits = c .before .weight .ok }) ∙ c .before .weight .ensures) (toZ-ofZ w64 (c .add .result) (record { sfits = c .add .ok }) ∙ c .add .ensures))
 
   -- ---- truth
@@ -683,8 +683,8 @@ module _ (t : ℕ) where
       let f = select-parts (start .pre .1 .0) (start .pre .1 .2) .first (c .before .start-of .ensures) in
       (omega (arith, f .0, start .pre .0), (f .1, c .loop .inv .0))
 
-  next-selected-enum-known-object : next-selected-lts.Need-enum-known-object (next-selected-calls t) (next-selected-at t) next-selected.Post next-selected-Inv-loop next-selected-μ-loop
-  next-selected-enum-known-object c = search needs
+  next-selected-enum-known-step : next-selected-lts.Need-enum-known-step (next-selected-calls t) (next-selected-at t) next-selected.Post next-selected-Inv-loop next-selected-μ-loop
+  next-selected-enum-known-step c = search needs
 
   next-selected-enum-told : next-selected-lts.Need-enum-told (next-selected-calls t) (next-selected-at t) next-selected.Post next-selected-Inv-loop next-selected-μ-loop
   next-selected-enum-told c = search needs
@@ -712,7 +712,7 @@ module _ (t : ℕ) where
   next-selected-truth-requires c κs =
       let earlier = c .before .before .before .before .before .before .before in
       let start = earlier .before .before .before .before .before in
-      let went = c .before .before .before .before .before .next .ensures .went _ _ (c .before .before .before .object .given .1) in
+      let went = c .before .before .before .before .before .next .ensures .went _ _ (c .before .before .before .step .given .1) in
       let past = positive (start .pre .1 .0) in
       (omega (arith, start .pre .0), select-parts (start .pre .1 .0) (start .pre .1 .2) .inner _ _ (c .before .bound .ensures) (went .there))
 
@@ -723,13 +723,13 @@ module _ (t : ℕ) where
       let loop = earlier .before .loop in
       let start-of = earlier .before .before .start-of in
       let start = earlier .before .before .before .before .before .before .before in
-      let went = next .ensures .went _ _ (c .before .before .before .before .before .object .given .1) in
+      let went = next .ensures .went _ _ (c .before .before .before .before .before .step .given .1) in
       stepped-at (select-stops (start .pre .1 .0) (start-of .ensures) (start .pre .1 .2) (start .args .word) (loop .last) (select-parts (start .pre .1 .0) (start .pre .1 .2) .deep) (loop .inv .1) went (c .before .before .before .bound .ensures) (c .before .truth .ensures) (c .if1 .taken))
 
   next-selected-loop-less : next-selected-lts.Need-loop-less (next-selected-calls t) (next-selected-at t) next-selected.Post next-selected-Inv-loop next-selected-μ-loop
   next-selected-loop-less c =
       let next = c .before .before .before .before .before .before .before .next in
-      fewer-left (next .ensures .went _ _ (c .before .before .before .before .before .object .given .1))
+      fewer-left (next .ensures .went _ _ (c .before .before .before .before .before .step .given .1))
 
   next-selected-loop-again : next-selected-lts.Need-loop-again (next-selected-calls t) (next-selected-at t) next-selected.Post next-selected-Inv-loop next-selected-μ-loop
   next-selected-loop-again c =
@@ -738,7 +738,7 @@ module _ (t : ℕ) where
       let loop = earlier .before .loop in
       let start-of = earlier .before .before .start-of in
       let start = earlier .before .before .before .before .before .before .before in
-      let went = next .ensures .went _ _ (c .before .before .before .before .before .object .given .1) in
+      let went = next .ensures .went _ _ (c .before .before .before .before .before .step .given .1) in
       (went .stands, select-goes-on (start .pre .1 .0) (start-of .ensures) (start .pre .1 .2) (start .args .word) (loop .last) (select-parts (start .pre .1 .0) (start .pre .1 .2) .deep) (loop .inv .1) went (c .before .before .before .bound .ensures) (c .before .truth .ensures) (c .if1 .left))
 
 pub +combination+comparison+connection+next+next-selected+quantified+totalled+truth+value-spec : {M : Type 1} → statement M
@@ -762,13 +762,13 @@ pub +combination+comparison+connection+next+next-selected+quantified+totalled+tr
     (λ t. next-lts.spec (next-calls t) (next-at t) next.Post
     (next-sub-row t) (next-field-requires t) (next-next-far-requires t) (next-returns t) (next-field-requires-2 t) (next-next-instance-requires t) (next-returns-2 t) (next-next-selected-requires t) (next-returns-3 t))
     (λ t. next-selected-lts.spec (next-selected-calls t) (next-selected-at t) next-selected.Post next-selected-Inv-loop next-selected-μ-loop
-    (next-selected-sub-row t) (next-selected-start-of-requires t) (next-selected-loop-holds t) (next-selected-next-requires t) (next-selected-enum-known-object t) (next-selected-enum-told t) (next-selected-returns t) (next-selected-bound-requires t) (next-selected-add-deeper t)
+    (next-selected-sub-row t) (next-selected-start-of-requires t) (next-selected-loop-holds t) (next-selected-next-requires t) (next-selected-enum-known-step t) (next-selected-enum-told t) (next-selected-returns t) (next-selected-bound-requires t) (next-selected-add-deeper t)
     (next-selected-truth-requires t) (next-selected-returns-2 t) (next-selected-loop-less t) (next-selected-loop-again t))
     (λ t. quantified-lts.spec (quantified-calls t) (quantified-at t) quantified.Post quantified-Inv-loop quantified-μ-loop
-    (quantified-sub-row t) (quantified-start-of-requires t) (quantified-begin-requires t) (quantified-loop-holds t) (quantified-next-requires t) (quantified-enum-known-object t) (quantified-enum-told t) (quantified-returns t) (quantified-bound-requires t) (quantified-add-deeper t)
+    (quantified-sub-row t) (quantified-start-of-requires t) (quantified-begin-requires t) (quantified-loop-holds t) (quantified-next-requires t) (quantified-enum-known-step t) (quantified-enum-told t) (quantified-returns t) (quantified-bound-requires t) (quantified-add-deeper t)
     (quantified-truth-requires t) (quantified-stops-requires t) (quantified-returns-2 t) (quantified-loop-less t) (quantified-loop-again t))
     (λ t. totalled-lts.spec (totalled-calls t) (totalled-at t) totalled.Post totalled-Inv-loop totalled-μ-loop
-    (totalled-sub-row t) (totalled-field-requires t) (totalled-begin-requires t) (totalled-loop-holds t) (totalled-next-requires t) (totalled-enum-known-object t) (totalled-enum-told t) (totalled-returns t) (totalled-weight-requires t) (totalled-add-requires t)
+    (totalled-sub-row t) (totalled-field-requires t) (totalled-begin-requires t) (totalled-loop-holds t) (totalled-next-requires t) (totalled-enum-known-step t) (totalled-enum-told t) (totalled-returns t) (totalled-weight-requires t) (totalled-add-requires t)
     (totalled-loop-less t) (totalled-loop-again t))
     (λ t. truth-lts.spec (truth-calls t) (truth-at t) truth.Post
     (truth-sub-row t) (truth-field-requires t) (truth-comparison-requires t) (truth-returns t) (truth-truth-requires t) (truth-returns-2 t) (truth-connection-requires t) (truth-returns-3 t) (truth-quantified-requires t) (truth-returns-4 t) (truth-field-requires-2 t)
@@ -776,4 +776,3 @@ pub +combination+comparison+connection+next+next-selected+quantified+totalled+tr
     (λ t. value-lts.spec (value-calls t) (value-at t) value.Post
     (value-sub-row t) (value-field-requires t) (value-field-requires-2 t) (value-from-word-requires t) (value-returns t) (value-variable-requires t) (value-field-requires-3 t) (value-cell-value-requires t) (value-returns-2 t) (value-totalled-requires t) (value-returns-3 t)
     (value-combination-requires t) (value-returns-4 t))
-

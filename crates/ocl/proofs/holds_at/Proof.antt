@@ -5,8 +5,8 @@ use Rattle.ocl.specs.Values.{truthOf}
 use Rattle.ocl.proofs.holds_at.Statement.{statement}
 use Rattle.ocl.proofs.holds_at.Tie as tie
 
-array-write-vars : tie.Need-array-write-vars
-array-write-vars c = search needs
+array-write-vs : tie.Need-array-write-vs
+array-write-vs c = search needs
 
 truth-requires : tie.Need-truth-requires
 truth-requires c κs = c .before .before .before .before .before .pre _ refl refl
@@ -16,4 +16,4 @@ unfolding truthOf
 returns c = c .truth .ensures
 
 pub holds-at-spec : {M : Type 1} → statement M
-holds-at-spec = tie.close (tie.spec array-write-vars truth-requires returns)
+holds-at-spec = tie.close (tie.spec array-write-vs truth-requires returns)
