@@ -12,8 +12,8 @@ use Rattle.meaning.specs.Register.{Link, Register, present, isUnder, cel
 use Rattle.meaning.specs.Forms.{truth}
 use Rattle.meaning.specs.Events.{Event, Lent, apply, after, eventRefusal}
 use Rattle.meaning.specs.Reach.{Change, changeBy, someStep, subject, linkNamed, joins, parts, sets, insertsInto, specialisesInto, deletesFrom, generalisesFrom, Direction, up, down, roleMoves, bringsIn, takesOut, allMoves, cellMoves, kindMoves, inserted, specialised}
-use Rattle.meaning.specs.Lists.{any}
-use Rattle.meaning.proofs.Lists.{_∈_, or-left, or-right, any-map}
+use Rattle.meaning.specs.Lists.{any, _∈_}
+use Rattle.meaning.proofs.Lists.{or-left, or-right, any-map}
 use Rattle.meaning.proofs.Schemas.{TypesFit}
 use Rattle.meaning.proofs.Registers.{RegisterFits, same-link, under-present, instance-in, instance-from, far-in, far-from, far-under}
 use Rattle.meaning.proofs.Effects.{link-stays, link-was, under-stays, under-was, cell-same, insert-absent, delete-absent}

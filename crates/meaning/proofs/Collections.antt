@@ -11,8 +11,9 @@ use Rattle.meaning.specs.Schema.{ObjectType, Schema, farType}
 use Rattle.meaning.specs.Register.{Object, Register, objectKey, objectAt, present, farEnd, farEnds}
 use Rattle.meaning.specs.Forms.{collection, Form, role, all, select, bind, variable}
 use Rattle.meaning.specs.Meaning.{meaning}
-use Rattle.meaning.proofs.Lists.{_∈_, holds-some, keep-from, Ascending, ascending-keep, ascending-shorter, map-in, ascending-map}
-use Rattle.meaning.proofs.Order.{Before, before-one}
+use Rattle.meaning.specs.Lists.{_∈_, Ascending, Before}
+use Rattle.meaning.proofs.Lists.{holds-some, keep-from, ascending-keep, ascending-shorter, map-in, ascending-map}
+use Rattle.meaning.proofs.Order.{before-one}
 use Rattle.meaning.proofs.Registers.{RegisterFits, object-at, under-present, instance-from, instances-ascend, far-from, far-ends-ascend, far-under}
 
 abbrev idOf : Object → ℕ

@@ -13,14 +13,14 @@ use lib.ListN.{length, getD, take, drop, replicate, length-append, length-replic
 use lib.Seq.{length-take-le, drop-set-lt, drop-at, drop-drop, getD-take, getD-set-other}
 use lib.IntN.{ℤ, pos}
 use mir.Facts.{and-yes, yes-and, or-no, T-not, not-T, T-not-not, eqb-yes, yes-eqb, eqb-no, ltb-yes, leb-no}
-use Rattle.meaning.specs.Lists.{every, keep, place}
+use Rattle.meaning.specs.Lists.{every, keep, place, _∈_, Ascending, Before}
 use Rattle.meaning.specs.Limits.{cellCount, maxObjects, validId, fitsWord}
 use Rattle.meaning.specs.Schema.{ObjectType, Relationship, Schema, knownType, knownRelationship, cellsOf, under, sourceType, targetType}
 use Rattle.meaning.specs.Register.{Object, Link, Register, objectKey, linkKey, objectAt, present, isUnder, cellAt, sameLink, hasLink, isZero, objectFits, linkFits}
 use Rattle.meaning.specs.Events.{Event, insert, delete, set, join, part, special, general, Lent, linkOf, newObject, clearedFrom, withCell, withType, withHigherType, amended, apply, Check, _when_, firstMet, linked, needsType, typeNeeded, strictlyAbove, strictlyUnder, hasCell, checks, eventRefusal, knownEvent}
 use Rattle.meaning.specs.Reach.{subject, linkNamed, joins, parts, sets, insertsInto, specialisesInto, deletesFrom, generalisesFrom}
-use Rattle.meaning.proofs.Lists.{_∈_, Ascending, not-sub, decide, first-absent, first-keep, first-map, every-drop, every-take, every-append, every-replicate, every-set, holds-some, cond-yes, cond-no, any-none, keep-in, keep-from, length-keep, ascending-keep, ascending-map}
-use Rattle.meaning.proofs.Order.{Before, same-refl, same-swap, first-place, length-place, place-from, place-other, place-has, place-ascending}
+use Rattle.meaning.proofs.Lists.{not-sub, decide, first-absent, first-keep, first-map, every-drop, every-take, every-append, every-replicate, every-set, holds-some, cond-yes, cond-no, any-none, keep-in, keep-from, length-keep, ascending-keep, ascending-map}
+use Rattle.meaning.proofs.Order.{same-refl, same-swap, first-place, length-place, place-from, place-other, place-has, place-ascending}
 use Rattle.meaning.proofs.Schemas.{TypesFit, under-trans, under-cells}
 use Rattle.meaning.proofs.Registers.{RegisterFits, object-parts, object-whole, object-at, ascending-found, under-present, link-in, link-has, link-parts, link-whole}
 

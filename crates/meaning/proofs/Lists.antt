@@ -3,19 +3,15 @@ use Prim.Native.Nat.{ℕ, zero, suc, _≤_, zero-le, suc-le-suc}
 use mathlib.Core.Path.{_≡_, refl, sym, ap, subst, _∙_}
 use mathlib.Core.Logic.{_⊎_, inl, inr, ⊎-elim}
 use mathlib.Core.Bool.{Bool, true, false, _&&_, _||_, not, cond}
-use mathlib.Core.List.{List, [], _∷_, _++_, map, List·Memᴰ, List·Memᴰ·head, List·Memᴰ·tail, List·Memᴰ·not-nil, List·Memᴰ·cases-cons, List·Memᴰ·append-cases}
+use mathlib.Core.List.{List, [], _∷_, _++_, map, List·Memᴰ·head, List·Memᴰ·tail, List·Memᴰ·not-nil, List·Memᴰ·cases-cons, List·Memᴰ·append-cases}
 use mathlib.Core.Option.{Option, none, some, Option·map, Option·none-ne-some, Option·some-injective}
 use native.Mathlib.Nat.{le-trans, le-suc}
 use lib.Dec.{T}
 use lib.ListN.{length, getD, take, drop, replicate, getElem?, set as replaceAt}
 use mir.Facts.{and-yes, yes-and, or-yes, T-not, not-T}
-use Rattle.meaning.specs.Lists.{any, every, keep, first, holds, firstOf}
+use Rattle.meaning.specs.Lists.{_∈_, any, every, keep, first, holds, firstOf, Ascending}
 
--- ---- membership
-
-infix 50 _∈_
-abbrev pub _∈_ : {A : Type 0} → A → List A → Type 0
-x ∈ l = List·Memᴰ x l
+-- ---- tests
 
 pub or-left : (a b : Bool) → T a → T (a || b)
 or-left true b t = tt
@@ -164,11 +160,6 @@ module _ {A : Type 0} where
   element-in (y ∷ ys) (suc n) e = List·Memᴰ·tail (element-in ys n e)
 
   -- ---- ascending lists
-
-  -- each element stands in the relation to all that come after it
-  abbrev pub Ascending : (A → A → Type 0) → List A → Type 0
-  Ascending R [] = Unit {0}
-  Ascending R (x ∷ xs) = ((y : A) → y ∈ xs → R x y) × Ascending R xs
 
   pub ascending-keep : (R : A → A → Type 0) (p : A → Bool) (l : List A) → Ascending R l → Ascending R (keep p l)
   ascending-keep R p [] a = tt

@@ -11,11 +11,11 @@ use lib.ListN.{length}
 use lib.IntN.{ℤ, pos, ℤ-set}
 use lib.Signed.{_≤ℤ_, ≤ℤ-refl}
 use mir.Facts.{and-yes, yes-and, or-yes, or-no, T-not, not-T}
-use Rattle.meaning.specs.Lists.{keep}
+use Rattle.meaning.specs.Lists.{keep, _∈_, Ascending}
 use Rattle.meaning.specs.Forms.{Sort, truth, number, collection, Connective, and, or, xor, implies, Quantifier, forall, exists, Arithmetic, add, sub}
 use Rattle.meaning.specs.Meaning.{Value, connected, quantified, combined, total}
 use Rattle.meaning.specs.Reach.{Direction, up, down, opposite, Passing, same, reversed, either, through, firstPart, secondPart, sourceOf, secondTerm}
-use Rattle.meaning.proofs.Lists.{_∈_, or-left, or-right, any-of, any-cases, every-of, every-at, keep-in, keep-from, Ascending, ascending-unique, ascending-shorter}
+use Rattle.meaning.proofs.Lists.{or-left, or-right, any-of, any-cases, every-of, every-at, keep-in, keep-from, ascending-unique, ascending-shorter}
 use Rattle.meaning.proofs.Integers.{pos-mono, add-mono, sub-mono}
 
 -- One order for each sort: false ≤ true, the order of ℤ, inclusion.

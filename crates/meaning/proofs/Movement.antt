@@ -10,13 +10,13 @@ use lib.IntN.{ℤ}
 use lib.Signed.{≤ℤ-refl}
 use lib.ListN.{length}
 use mir.Facts.{and-yes, or-no}
-use Rattle.meaning.specs.Lists.{any}
+use Rattle.meaning.specs.Lists.{any, _∈_}
 use Rattle.meaning.specs.Schema.{ObjectType, Relationship, Schema, cellsOf, under, knownType, knownRole, nearType, farType}
 use Rattle.meaning.specs.Register.{Register, isUnder, cellAt, instances, farEnds}
 use Rattle.meaning.specs.Forms.{Sort, truth, number, collection, Form, compare, negate, connect, quantify, kind, num, cell, size, sum, combine, role, all, select, bind, variable, memberType, wellTyped}
 use Rattle.meaning.specs.Meaning.{Value, meaning}
 use Rattle.meaning.specs.Reach.{Change, Direction, up, down, opposite, Passing, same, reversed, either, through, leftOf, rightOf, firstPart, secondPart, sourceOf, secondTerm, roleMoves, allMoves, cellMoves, kindMoves, moves}
-use Rattle.meaning.proofs.Lists.{_∈_, any-none, keep-from}
+use Rattle.meaning.proofs.Lists.{any-none, keep-from}
 use Rattle.meaning.proofs.Variables.{Each, each-at, each-bind}
 use Rattle.meaning.proofs.Registers.{RegisterFits}
 use Rattle.meaning.proofs.Monotone.{Unmoved, Through, through-none, connective-unmoved, negation-unmoved, arithmetic-unmoved, quantifier-unmoved, select-unmoved, size-unmoved, sum-unmoved}

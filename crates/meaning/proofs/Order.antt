@@ -11,8 +11,8 @@ use native.Mathlib.Omega.{arith}
 use lib.Dec.{T, ltb, eqb, eqb-refl}
 use lib.ListN.{length, getElem?}
 use mir.Facts.{and-yes, yes-and, or-yes, T-not, not-T, T-not-not, ltb-yes, ltb-no, yes-ltb, eqb-yes, yes-eqb}
-use Rattle.meaning.specs.Lists.{first, before, same, ascends, place, faultFrom, firstFault}
-use Rattle.meaning.proofs.Lists.{_∈_, Ascending, or-left, or-right, decide, cond-no}
+use Rattle.meaning.specs.Lists.{first, Before, before, same, ascends, place, faultFrom, firstFault, _∈_, Ascending}
+use Rattle.meaning.proofs.Lists.{or-left, or-right, decide, cond-no}
 
 -- ---- keys
 
@@ -116,10 +116,7 @@ module _ {A : Type 0} where
   each-cons P x xs h rest y m = ⊎-elim (λ (e : y ≡ x). subst P (sym e) h) (rest y) (List·Memᴰ·cases-cons m)
 
 module _ {A : Type 0} (key : A → List ℕ) where
-  abbrev pub Before : A → A → Type 0
-  Before x y = T (before (key x) (key y))
-
-  ascends-after : (previous : Option A) (x y : A) → T (ascends key previous x) → Before x y → T (ascends key previous y)
+  ascends-after : (previous : Option A) (x y : A) → T (ascends key previous x) → Before key x y → T (ascends key previous y)
   ascends-after none x y s t = tt
   ascends-after (some p) x y s t = before-transitive (key p) (key x) (key y) s t
 
@@ -130,7 +127,7 @@ module _ {A : Type 0} (key : A → List ℕ) where
     abbrev faultyRow : ℕ → Option A → A → Bool
     faultyRow n previous x = not (goodRow previous x)
 
-    rows-from : (n : ℕ) (previous : Option A) (l : List A) → faultFrom faultyRow n previous l ≡ none → Ascending Before l × ((x : A) → x ∈ l → T (fits x)) × ((x : A) → x ∈ l → T (ascends key previous x))
+    rows-from : (n : ℕ) (previous : Option A) (l : List A) → faultFrom faultyRow n previous l ≡ none → Ascending (Before key) l × ((x : A) → x ∈ l → T (fits x)) × ((x : A) → x ∈ l → T (ascends key previous x))
     rows-from n previous [] e = (tt, (λ x m. absurd (List·Memᴰ·not-nil m)), (λ x m. absurd (List·Memᴰ·not-nil m)))
     rows-from n previous (x ∷ xs) e =
         let s = fault-step faultyRow n previous x xs e in
@@ -141,7 +138,7 @@ module _ {A : Type 0} (key : A → List ℕ) where
           each-cons (λ y. T (ascends key previous y)) x xs (row .0) (λ y m. ascends-after previous x y (row .0) (r .2 y m)),
         )
 
-    from-rows : (n : ℕ) (previous : Option A) (l : List A) → Ascending Before l → ((x : A) → x ∈ l → T (fits x)) → ((x : A) → x ∈ l → T (ascends key previous x)) → faultFrom faultyRow n previous l ≡ none
+    from-rows : (n : ℕ) (previous : Option A) (l : List A) → Ascending (Before key) l → ((x : A) → x ∈ l → T (fits x)) → ((x : A) → x ∈ l → T (ascends key previous x)) → faultFrom faultyRow n previous l ≡ none
     from-rows n previous [] a h p = refl
     from-rows n previous (x ∷ xs) a h p =
         let row = yes-and (ascends key previous x) (fits x) (p x (List·Memᴰ·head refl)) (h x (List·Memᴰ·head refl)) in
@@ -149,10 +146,10 @@ module _ {A : Type 0} (key : A → List ℕ) where
         ∙ from-rows (suc n) (some x) xs (a .1) (λ y m. h y (List·Memᴰ·tail m)) (a .0)
 
   -- a table that is checked for its order and each row by itself
-  pub rows-fit : (fits : A → Bool) (l : List A) → firstFault (λ n previous x. not (ascends key previous x && fits x)) l ≡ none → Ascending Before l × ((x : A) → x ∈ l → T (fits x))
+  pub rows-fit : (fits : A → Bool) (l : List A) → firstFault (λ n previous x. not (ascends key previous x && fits x)) l ≡ none → Ascending (Before key) l × ((x : A) → x ∈ l → T (fits x))
   rows-fit fits l e = let r = rows-from fits 0 none l e in (r .0, r .1)
 
-  pub fits-rows : (fits : A → Bool) (l : List A) → Ascending Before l → ((x : A) → x ∈ l → T (fits x)) → firstFault (λ n previous x. not (ascends key previous x && fits x)) l ≡ none
+  pub fits-rows : (fits : A → Bool) (l : List A) → Ascending (Before key) l → ((x : A) → x ∈ l → T (fits x)) → firstFault (λ n previous x. not (ascends key previous x && fits x)) l ≡ none
   fits-rows fits l a h = from-rows fits 0 none l a h (λ x m. tt)
 
   -- ---- place
@@ -191,16 +188,16 @@ module _ {A : Type 0} (key : A → List ℕ) where
           ⊎-elim (λ t. absurd (subst T p t)) (⊎-elim sym (λ t. absurd (subst T q t))) (before-total (key x) (key y) (one-width x ∙ sym (one-width y))),
         )
 
-    pub place-ascending : (x : A) (l : List A) → Ascending Before l → Ascending Before (place key x l)
+    pub place-ascending : (x : A) (l : List A) → Ascending (Before key) l → Ascending (Before key) (place key x l)
     place-ascending x [] a = ((λ y m. absurd (List·Memᴰ·not-nil m)), tt)
     place-ascending x (y ∷ ys) a = step (before (key x) (key y)) (before (key y) (key x)) refl refl (place-ascending x ys (a .1))
       where
-        step : (b c : Bool) → before (key x) (key y) ≡ b → before (key y) (key x) ≡ c → Ascending Before (place key x ys) → Ascending Before (cond b (x ∷ y ∷ ys) (cond c (y ∷ place key x ys) (y ∷ ys)))
+        step : (b c : Bool) → before (key x) (key y) ≡ b → before (key y) (key x) ≡ c → Ascending (Before key) (place key x ys) → Ascending (Before key) (cond b (x ∷ y ∷ ys) (cond c (y ∷ place key x ys) (y ∷ ys)))
         step true c p q r =
-            let h : Before x y = subst T (sym p) tt in
-            (each-cons (Before x) y ys h (λ z m. before-transitive (key x) (key y) (key z) h (a .0 z m)), a)
+            let h : Before key x y = subst T (sym p) tt in
+            (each-cons (Before key x) y ys h (λ z m. before-transitive (key x) (key y) (key z) h (a .0 z m)), a)
         step false true p q r =
-            (λ z m. ⊎-elim (λ (e : z ≡ x). subst (Before y) (sym e) (subst T (sym q) tt)) (a .0 z) (place-from x ys m), r)
+            (λ z m. ⊎-elim (λ (e : z ≡ x). subst (Before key y) (sym e) (subst T (sym q) tt)) (a .0 z) (place-from x ys m), r)
         step false false p q r = a
 
 pub same-swap : (x y : List ℕ) → T (same x y) → T (same y x)

@@ -14,8 +14,9 @@ use Rattle.meaning.specs.Schema.{ObjectType}
 use Rattle.meaning.specs.Register.{Register, objectKey, isUnder, instances}
 use Rattle.meaning.specs.Forms.{Rule, Book}
 use Rattle.meaning.specs.Reach.{Change, selected, Pair, pairOf, pairsFrom, contextPairs, ofRule, selectedPairs}
-use Rattle.meaning.proofs.Lists.{_∈_, some-holds, keep-in, keep-from, map-in, map-from, Ascending, ascending-keep, ascending-map, ascending-append}
-use Rattle.meaning.proofs.Order.{Before, before-head, before-tail}
+use Rattle.meaning.specs.Lists.{_∈_, Ascending, Before}
+use Rattle.meaning.proofs.Lists.{some-holds, keep-in, keep-from, map-in, map-from, ascending-keep, ascending-map, ascending-append}
+use Rattle.meaning.proofs.Order.{before-head, before-tail}
 use Rattle.meaning.proofs.Touched.{selected-cases}
 use Rattle.meaning.proofs.Registers.{RegisterFits, instance-in, instance-from, instances-ascend}
 

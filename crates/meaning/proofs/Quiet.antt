@@ -6,14 +6,14 @@ use mathlib.Core.Bool.{Bool, true, false, _||_, not}
 use mathlib.Core.List.{List, [], _∷_}
 use lib.Dec.{T, eqb→eq}
 use mir.Facts.{and-yes, yes-and, or-yes, or-no, T-not, not-T}
-use Rattle.meaning.specs.Lists.{any}
+use Rattle.meaning.specs.Lists.{any, _∈_}
 use Rattle.meaning.specs.Schema.{Schema}
 use Rattle.meaning.specs.Register.{Link, Register, present, hasLink, startsAt, farEnds}
 use Rattle.meaning.specs.Forms.{truth, collection, Connective, and, or, xor, implies, Quantifier, forall, exists, Form, compare, negate, connect, quantify, kind, role, all, select, bind, variable}
 use Rattle.meaning.specs.Meaning.{connected, quantified, meaning}
 use Rattle.meaning.specs.Events.{Event, Lent, after}
 use Rattle.meaning.specs.Reach.{Change, changeBy, someStep, insertsInto, Direction, up, down, opposite, through, firstPart, secondPart, sourceOf, roleMoves, moves, roleOfSelf, quietQuantifier, quietConnective, quietly, inserted}
-use Rattle.meaning.proofs.Lists.{_∈_, or-left, or-right, no-or, not-and-left, not-and-right, not-not, any-cases, every-of, keep-from}
+use Rattle.meaning.proofs.Lists.{or-left, or-right, no-or, not-and-left, not-and-right, not-not, any-cases, every-of, keep-from}
 use Rattle.meaning.proofs.Schemas.{TypesFit}
 use Rattle.meaning.proofs.Registers.{RegisterFits, far-from, near-present}
 use Rattle.meaning.proofs.Effects.{insert-absent}

@@ -7,12 +7,12 @@ use mathlib.Core.Option.{none, some}
 use lib.Dec.{T, eqb, eqb-refl}
 use lib.ListN.{length, getD, drop}
 use mir.Facts.{and-yes, yes-and, eqb-yes, yes-eqb}
-use Rattle.meaning.specs.Lists.{every, keep, before}
+use Rattle.meaning.specs.Lists.{every, keep, before, _∈_, Ascending, Before}
 use Rattle.meaning.specs.Limits.{cellCount, validId, fitsWord}
 use Rattle.meaning.specs.Schema.{ObjectType, Schema, knownType, knownRelationship, cellsOf, relationshipOf, forward, sourceType, targetType, farType, under}
 use Rattle.meaning.specs.Register.{Object, Link, Register, objectKey, linkKey, objectAt, present, isUnder, instances, sameLink, hasLink, nearEnd, farEnd, startsAt, farEnds, isZero, cellsFit, objectFits, faultyObject, linkFits, faultyLink, objectFault, linkFault}
-use Rattle.meaning.proofs.Lists.{_∈_, Ascending, first-only, ascending-one, holds-some, any-of, any-cases, keep-in, keep-from, first-some, ascending-keep, map-in, map-from, ascending-map}
-use Rattle.meaning.proofs.Order.{Before, before-one, before-last, before-first, before-irreflexive, same-eq, same-refl, rows-fit, fits-rows}
+use Rattle.meaning.proofs.Lists.{first-only, ascending-one, holds-some, any-of, any-cases, keep-in, keep-from, first-some, ascending-keep, map-in, map-from, ascending-map}
+use Rattle.meaning.proofs.Order.{before-one, before-last, before-first, before-irreflexive, same-eq, same-refl, rows-fit, fits-rows}
 
 pub record RegisterFits (S : Schema) (g : Register) : Type 0 where
   pub objects-ascend : Ascending (Before objectKey) (g .objects)

@@ -8,13 +8,13 @@ use mathlib.Core.Option.{none, Option·map, map-eq-none-iff}
 use lib.Dec.{T}
 use lib.ListN.{length}
 use mir.Facts.{or-no}
-use Rattle.meaning.specs.Lists.{any}
+use Rattle.meaning.specs.Lists.{any, _∈_}
 use Rattle.meaning.specs.Limits.{maxObjects}
 use Rattle.meaning.specs.Schema.{Schema}
 use Rattle.meaning.specs.Register.{Register}
 use Rattle.meaning.specs.Events.{Event, Lent, apply, after, eventRefusal, refusalFrom, batchRefusal}
 use Rattle.meaning.specs.Reach.{Step, Change, stepsOf, changeBy, someStep}
-use Rattle.meaning.proofs.Lists.{_∈_, no-or, first-of-none}
+use Rattle.meaning.proofs.Lists.{no-or, first-of-none}
 use Rattle.meaning.proofs.Schemas.{TypesFit}
 use Rattle.meaning.proofs.Registers.{RegisterFits}
 use Rattle.meaning.proofs.Effects.{EventFits, event-fits, apply-fits, objects-limit}

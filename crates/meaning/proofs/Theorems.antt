@@ -10,7 +10,7 @@ use lib.Dec.{T}
 use lib.IntN.{natAbs}
 use lib.ListN.{length, getElem?}
 use mir.Facts.{T-not}
-use Rattle.meaning.specs.Lists.{holds}
+use Rattle.meaning.specs.Lists.{holds, _∈_, Ascending, Before}
 use Rattle.meaning.specs.Limits.{maxObjects, maxForms}
 use Rattle.meaning.specs.Schema.{ObjectType, Schema}
 use Rattle.meaning.specs.Register.{Register, isUnder}
@@ -20,8 +20,7 @@ use Rattle.meaning.specs.Events.{Event, Lent, after, batchRefusal}
 use Rattle.meaning.specs.Reach.{Change, changeBy, selected, Pair, pairOf, contextPairs, ofRule, selectedPairs}
 use Rattle.meaning.specs.EventList.{touched}
 use Rattle.meaning.specs.Answers.{refusalAt, registerRefusal, refusal, foundAnswer, firstBroken, unlessRefused, fullCheck, checkRefusal, outcomeOf, outcomeUnless, batchCheck}
-use Rattle.meaning.proofs.Lists.{_∈_, Ascending, decide, every-at, first-keep, first-of-none, holds-some, element-in}
-use Rattle.meaning.proofs.Order.{Before}
+use Rattle.meaning.proofs.Lists.{decide, every-at, first-keep, first-of-none, holds-some, element-in}
 use Rattle.meaning.proofs.Registers.{RegisterFits, fits-register, instance-in}
 use Rattle.meaning.proofs.Bounds
 use Rattle.meaning.proofs.Steps.{Unrefused, unrefused, end-fits, limit-kept, steps-fit}

@@ -7,7 +7,7 @@ use mathlib.Core.List.{List, [], _∷_, _++_, foldr, List·Memᴰ·head, List·M
 use lib.Dec.{T, ltb, eqb}
 use lib.ListN.{length, getD}
 use mir.Facts.{and-yes, yes-and, or-yes, T-not, not-T, ltb-yes, eqb-yes}
-use Rattle.meaning.specs.Lists.{any, place}
+use Rattle.meaning.specs.Lists.{any, place, _∈_, Ascending, Before}
 use Rattle.meaning.specs.Schema.{ObjectType, Relationship, Schema, cellsOf, hasParent, under, relationshipOf}
 use Rattle.meaning.specs.Register.{Link, Register, objectAt, isUnder, nearEnd, startsAt, hasLink}
 use Rattle.meaning.specs.Forms.{Sort, truth, collection, Form, compare, negate, connect, quantify, kind, num, cell, size, sum, combine, role, all, select, bind, variable, memberType, wellTyped, Rule}
@@ -15,8 +15,8 @@ use Rattle.meaning.specs.Meaning.{meaning}
 use Rattle.meaning.specs.Events.{Event, insert, delete, set, join, part, special, general, strictlyAbove, strictlyUnder}
 use Rattle.meaning.specs.Reach.{Step, Change, subject, linkNamed, joins, parts, sets, insertsInto, specialisesInto, deletesFrom, generalisesFrom, someStep, Direction, up, down, opposite, Passing, same, reversed, either, through, leftOf, rightOf, firstPart, secondPart, sourceOf, secondTerm, roleMoves, bringsIn, takesOut, allMoves, cellMoves, kindMoves, moves, quiet, inserted, specialised, broughtIn, selected}
 use Rattle.meaning.specs.EventList.{EventType, insertOf, deleteOf, setOf, joinOf, partOf, specialOf, generalOf, wordsOf, whereParent, roleLists, allLists, kindLists, lists, contextLists, eventList, occurs, touched}
-use Rattle.meaning.proofs.Lists.{_∈_, holds-some, or-left, or-right, decide, cond-yes, cond-no, any-of, any-cases, keep-from, Ascending}
-use Rattle.meaning.proofs.Order.{Before, place-other, place-has, place-ascending}
+use Rattle.meaning.proofs.Lists.{holds-some, or-left, or-right, decide, cond-yes, cond-no, any-of, any-cases, keep-from}
+use Rattle.meaning.proofs.Order.{place-other, place-has, place-ascending}
 use Rattle.meaning.proofs.Schemas.{TypesFit, under-refl, under-linear, under-top}
 use Rattle.meaning.proofs.Variables.{Each, each-at, each-bind}
 use Rattle.meaning.proofs.Effects.{EventFits}

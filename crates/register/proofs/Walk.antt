@@ -10,11 +10,11 @@ use native.Mathlib.Omega.{arith}
 use lib.Dec.{T, ltb, leb, eqb}
 use lib.ListN.{getD}
 use mir.Facts.{ltb-yes, ltb-no, yes-and, yes-eqb}
-use Rattle.meaning.specs.Lists.{before, first}
+use Rattle.meaning.specs.Lists.{before, first, _∈_, Before}
 use Rattle.meaning.specs.Schema.{forward}
 use Rattle.meaning.specs.Register.{Link, Register, linkKey, nearEnd, farEnd, startsAt, farEnds}
-use Rattle.meaning.proofs.Lists.{_∈_, decide, keep-in, map-in}
-use Rattle.meaning.proofs.Order.{Before, before-one, before-last, before-first}
+use Rattle.meaning.proofs.Lists.{decide, keep-in, map-in}
+use Rattle.meaning.proofs.Order.{before-one, before-last, before-first}
 use Rattle.tables.specs.Columns.{objectRow, linkRow, registerOf}
 use Rattle.schema.proofs.Scan.{passed-none}
 use Rattle.register.specs.Chains.{lead, slotWord}

@@ -14,14 +14,14 @@ use denote.Floats.{is-true}
 use borrow.Author.Tests.{ltb-false, le-ltb, lt-ltb, le-leb, eq-eqb}
 use lib.Seq.{drop-nil}
 use mir.Facts.{and-yes, T-not-not}
-use Rattle.meaning.specs.Lists.{any, every, firstOf, firstFault}
+use Rattle.meaning.specs.Lists.{any, every, firstOf, firstFault, _∈_}
 use Rattle.meaning.specs.Limits.{maxTypes, maxRelationships, maxRules, maxForms, maxObjects, maxLinks, maxEvents, cellCount, validId}
 use Rattle.meaning.specs.Schema.{Schema, knownType, parentOf, cellsOf, typeAt}
 use Rattle.meaning.specs.Register.{isZero}
 use Rattle.meaning.specs.Forms.{wellTyped, Book}
 use Rattle.meaning.specs.Events.{Refusal, Event, insert, delete, set, join, part, special, general, knownEvent}
 use Rattle.meaning.specs.Answers.{refusal, refusalAt}
-use Rattle.meaning.proofs.Lists.{_∈_, first-of-none, element-in, decide, or-right}
+use Rattle.meaning.proofs.Lists.{first-of-none, element-in, decide, or-right}
 use Rattle.meaning.proofs.Order.{fault-none}
 use Rattle.meaning.proofs.Registers.{object-parts}
 use Rattle.meaning.proofs.Agreement.{Checked, checked, refusal-at-none}
