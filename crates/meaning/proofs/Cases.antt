@@ -13,7 +13,7 @@ use Rattle.meaning.specs.Register.{Object, Register, objectAt, present, 
 use Rattle.meaning.specs.Forms.{truth, le, ge, gt, and, or, forall, add, Form, compare, connect, quantify, kind, num, cell, size, sum, combine, role, all, select, formCount, memberType, wellTyped, Rule, Book, faultyRule, ruleFault}
 use Rattle.meaning.specs.Meaning.{compared, connected, quantified, combined, total, meaning, broken}
 use Rattle.meaning.specs.Events.{Event, insert, delete, set, join, part, special, general, Lent, linkOf, apply, after, firstMet, linked, needsType, typeNeeded, strictlyAbove, strictlyUnder, hasCell, checks, eventRefusal, refusalFrom, batchRefusal, knownEvent}
-use Rattle.meaning.specs.Reach.{stepsOf, someStep, leftOf, rightOf, firstPart, secondPart, sourceOf, secondTerm, roleMoves, bringsIn, takesOut, allMoves, cellMoves, kindMoves, moves, roleOfSelf, quietQuantifier, quietConnective, quietly, quiet, inserted, specialised, broughtIn, selected, Pair, pairOf, pairsFrom, contextPairs, ofRule, selectedPairs}
+use Rattle.meaning.specs.Reach.{stepsOf, someStep, leftOf, rightOf, firstPart, secondPart, sourceOf, secondTerm, roleMoves, allMoves, cellMoves, kindMoves, moves, roleOfSelf, quietQuantifier, quietConnective, quietly, quiet, inserted, specialised, broughtIn, selected, Pair, pairOf, pairsFrom, contextPairs, ofRule, selectedPairs}
 use Rattle.meaning.specs.EventList.{EventType, insertOf, setOf, joinOf, partOf, specialOf, wordsOf, whereParent, roleLists, allLists, kindLists, lists, contextLists, eventList}
 use Rattle.meaning.specs.Answers.{Answer, accepted, brokenAt, refused, refusalAt, bookRefusal, registerRefusal, refusal, foundAnswer, firstBroken, unlessRefused, listRefusal, checkRefusal, registerLeft, outcomeOf, outcomeUnless, batchCheck}
 
@@ -181,5 +181,5 @@ table =
     ∷ []
 
 cases-hold : map (λ (c : Case). shown (c .given)) table ≡ map (λ (c : Case). c .expected) table
-unfolding table shown everything validId fitsWord knownType knownRelationship typeAt parentOf cellsOf hasParent climbs under knownRole relationshipAt sourceType targetType nearType farType parentFits faultyType faultyRelationship typeFault relationshipFault objectAt present isUnder cellAt instances hasLink farEnds cellsFit objectFits faultyObject linkFits faultyLink objectFault linkFault formCount memberType wellTyped faultyRule ruleFault compared connected quantified combined total meaning broken apply after firstMet linked needsType typeNeeded strictlyAbove strictlyUnder hasCell knownEvent checks eventRefusal refusalFrom batchRefusal stepsOf someStep leftOf rightOf firstPart secondPart sourceOf secondTerm roleMoves bringsIn takesOut allMoves cellMoves kindMoves moves roleOfSelf quietQuantifier quietConnective quietly quiet inserted specialised broughtIn selected pairsFrom contextPairs ofRule selectedPairs wordsOf whereParent roleLists allLists kindLists lists contextLists eventList refusalAt bookRefusal registerRefusal refusal foundAnswer firstBroken unlessRefused listRefusal checkRefusal registerLeft outcomeOf outcomeUnless batchCheck
+unfolding table shown everything validId fitsWord knownType knownRelationship typeAt parentOf cellsOf hasParent climbs under knownRole relationshipAt sourceType targetType nearType farType parentFits faultyType faultyRelationship typeFault relationshipFault objectAt present isUnder cellAt instances hasLink farEnds cellsFit objectFits faultyObject linkFits faultyLink objectFault linkFault formCount memberType wellTyped faultyRule ruleFault compared connected quantified combined total meaning broken apply after firstMet linked needsType typeNeeded strictlyAbove strictlyUnder hasCell knownEvent checks eventRefusal refusalFrom batchRefusal stepsOf someStep leftOf rightOf firstPart secondPart sourceOf secondTerm roleMoves allMoves cellMoves kindMoves moves roleOfSelf quietQuantifier quietConnective quietly quiet inserted specialised broughtIn selected pairsFrom contextPairs ofRule selectedPairs wordsOf whereParent roleLists allLists kindLists lists contextLists eventList refusalAt bookRefusal registerRefusal refusal foundAnswer firstBroken unlessRefused listRefusal checkRefusal registerLeft outcomeOf outcomeUnless batchCheck
 cases-hold = refl

@@ -33,6 +33,10 @@ pub not-and-right : (a b : Bool) → T (not b) → T (not (a && b))
 not-and-right true b t = t
 not-and-right false b t = tt
 
+pub and-map : (a b c : Bool) → (T b → T c) → T (a && b) → T (a && c)
+and-map true b c f t = f t
+and-map false b c f t = t
+
 pub not-not : (a : Bool) → T a → T (not (not a))
 not-not true t = tt
 not-not false t = t

@@ -200,9 +200,6 @@ module _ {A : Type 0} (key : A → List ℕ) where
             (λ z m. ⊎-elim (λ (e : z ≡ x). subst (Before key y) (sym e) (subst T (sym q) tt)) (a .0 z) (place-from x ys m), r)
         step false false p q r = a
 
-pub same-swap : (x y : List ℕ) → T (same x y) → T (same y x)
-same-swap x y t = subst (λ z. T (same z x)) (same-eq x y t) (same-refl x)
-
 -- what is placed and fails the test is passed over
 pub first-place : {A : Type 0} (p : A → Bool) (key : A → List ℕ) (x : A) (l : List A) → T (not (p x)) → first p (place key x l) ≡ first p l
 first-place p key x [] n = cond-no (p x) (some x) none n

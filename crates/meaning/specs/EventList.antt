@@ -1,13 +1,13 @@
 -- Document 01, "Event list of a rule": the same rules without objects, and when a listed event type occurs.
 use Prim.Native.Nat.{ℕ}
-use mathlib.Core.Bool.{Bool, _&&_, cond}
+use mathlib.Core.Bool.{Bool, cond}
 use mathlib.Core.List.{List, [], _∷_, _++_, foldr}
 use lib.Dec.{eqb}
 use Rattle.meaning.specs.Lists.{any, place}
 use Rattle.meaning.specs.Schema.{Schema, hasParent, relationshipOf}
 use Rattle.meaning.specs.Register.{isUnder}
 use Rattle.meaning.specs.Forms.{Sort, Form, compare, negate, connect, quantify, kind, num, cell, size, sum, combine, role, all, select, bind, variable, memberType, Rule}
-use Rattle.meaning.specs.Reach.{Change, someStep, subject, linkNamed, joins, parts, sets, insertsInto, specialisesInto, deletesFrom, generalisesFrom, Direction, up, down, same, reversed, either, through, leftOf, rightOf, firstPart, secondPart, sourceOf, secondTerm, quiet}
+use Rattle.meaning.specs.Reach.{Change, someStep, inserts, deletes, sets, joins, parts, specials, generals, placeOf, among, setsCell, insertsInto, specialisesInto, deletesFrom, generalisesFrom, anyone, Direction, up, down, same, reversed, either, through, leftOf, rightOf, firstPart, secondPart, sourceOf, secondTerm, quiet}
 
 -- What a rule lists: a kind of event with the type, the type and cell, or the relationship that it names.
 pub data EventType : Type 0 where
@@ -18,13 +18,13 @@ pub data EventType : Type 0 where
 
 -- "three 16-bit words each: place in that order from 0, type or relationship, cell or 0"
 unfoldable pub wordsOf : EventType → List ℕ
-wordsOf (insertOf t) = 0 ∷ t ∷ 0 ∷ []
-wordsOf (deleteOf t) = 1 ∷ t ∷ 0 ∷ []
-wordsOf (setOf t k) = 2 ∷ t ∷ k ∷ []
-wordsOf (joinOf r) = 3 ∷ r ∷ 0 ∷ []
-wordsOf (partOf r) = 4 ∷ r ∷ 0 ∷ []
-wordsOf (specialOf t) = 5 ∷ t ∷ 0 ∷ []
-wordsOf (generalOf t) = 6 ∷ t ∷ 0 ∷ []
+wordsOf (insertOf t) = placeOf inserts ∷ t ∷ 0 ∷ []
+wordsOf (deleteOf t) = placeOf deletes ∷ t ∷ 0 ∷ []
+wordsOf (setOf t k) = placeOf sets ∷ t ∷ k ∷ []
+wordsOf (joinOf r) = placeOf joins ∷ r ∷ 0 ∷ []
+wordsOf (partOf r) = placeOf parts ∷ r ∷ 0 ∷ []
+wordsOf (specialOf t) = placeOf specials ∷ t ∷ 0 ∷ []
+wordsOf (generalOf t) = placeOf generals ∷ t ∷ 0 ∷ []
 
 -- "`special t` and `general t` are left out where t has no parent."
 unfoldable pub whereParent : Schema → ℕ → EventType → List EventType
@@ -72,13 +72,13 @@ eventList S r = foldr (place wordsOf) [] (lists S (r .body) (r .context ∷ []) 
 -- type its object is under at the end, with its cell; a join or part for its relationship. A listed event type occurs when an
 -- event of its kind in the batch counts for what it names."
 unfoldable pub occurs : Change → EventType → Bool
-occurs c (insertOf t) = someStep c (insertsInto (c .schema) t)
-occurs c (deleteOf t) = someStep c (deletesFrom (c .schema) t)
-occurs c (setOf t k) = someStep c (λ g e. sets k e && isUnder (c .schema .types) (c .end) (subject e) t)
-occurs c (joinOf r) = someStep c (λ g e. joins e && eqb ((linkNamed e) .relationship) r)
-occurs c (partOf r) = someStep c (λ g e. parts e && eqb ((linkNamed e) .relationship) r)
-occurs c (specialOf t) = someStep c (specialisesInto (c .schema) t)
-occurs c (generalOf t) = someStep c (generalisesFrom (c .schema) t)
+occurs c (insertOf t) = someStep c (insertsInto (c .schema .types) t anyone)
+occurs c (deleteOf t) = someStep c (deletesFrom (c .schema .types) t anyone)
+occurs c (setOf t k) = someStep c (setsCell (λ x. isUnder (c .schema .types) (c .end) x t) k)
+occurs c (joinOf r) = someStep c (λ s. among joins (λ n a b. eqb n r) (s .event))
+occurs c (partOf r) = someStep c (λ s. among parts (λ n a b. eqb n r) (s .event))
+occurs c (specialOf t) = someStep c (specialisesInto (c .schema .types) t anyone)
+occurs c (generalOf t) = someStep c (generalisesFrom (c .schema .types) t anyone)
 
 -- "The rules a batch touches": a listed event type occurs.
 unfoldable pub touched : Change → Rule → Bool
