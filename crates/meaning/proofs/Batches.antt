@@ -11,13 +11,14 @@ use Rattle.meaning.specs.Schema.{ObjectType, Relationship, Schema, cells
 use Rattle.meaning.specs.Register.{Link, Register, present, isUnder, cellAt, instances, hasLink, farEnd, startsAt, farEnds}
 use Rattle.meaning.specs.Forms.{truth}
 use Rattle.meaning.specs.Events.{Event, Lent, apply, after, eventRefusal}
-use Rattle.meaning.specs.Reach.{stepAt, Change, changeBy, someStep, inserts, deletes, specials, generals, joined, parted, setsCell, insertsInto, specialisesInto, deletesFrom, generalisesFrom, bringsIn, takesOut, anyone, Direction, up, down, roleMoves, allMoves, cellMoves, kindMoves, inserted, specialised}
+use Rattle.meaning.specs.Reach.{stepAt, Change, changeBy, someStep, inserts, deletes, specials, generals, joined, parted, setsCell, insertsInto, specialisesInto, deletesFrom}
+use Rattle.meaning.specs.Reach.{generalisesFrom, bringsIn, takesOut, anyone, Direction, up, down, roleMoves, allMoves, cellMoves, kindMoves, inserted, specialised}
 use Rattle.meaning.specs.Lists.{_∈_}
 use Rattle.meaning.proofs.Lists.{or-left, or-right}
 use Rattle.meaning.proofs.Schemas.{TypesFit}
 use Rattle.meaning.proofs.Registers.{RegisterFits, under-present, instance-in, instance-from, far-in, far-from, far-under}
 use Rattle.meaning.proofs.Effects.{link-stays, link-was, under-stays, under-was, cell-same, insert-absent, delete-absent}
-use Rattle.meaning.proofs.Monotone.{Unmoved}
+use Rattle.meaning.specs.Unmoved.{Unmoved}
 use Rattle.meaning.proofs.Movement.{UnmovedKept, Leaves}
 use Rattle.meaning.proofs.Steps.{among-whom, holds-at, none-map, Throughout, EachStep, Unrefused, at-start, at-end, throughout-map, throughout-both, each-side, each-both, each-map, unchanged, forwards, backwards, no-step, fits-throughout, each-fit}
 

@@ -17,7 +17,8 @@ use Rattle.meaning.specs.Lists.{every, keep, place, _∈_, Ascending, Be
 use Rattle.meaning.specs.Limits.{cellCount, maxObjects, validId, fitsWord}
 use Rattle.meaning.specs.Schema.{ObjectType, Relationship, Schema, knownType, knownRelationship, cellsOf, under, sourceType, targetType}
 use Rattle.meaning.specs.Register.{Object, Link, Register, objectKey, linkKey, objectAt, present, isUnder, cellAt, sameLink, hasLink, startsAt, isZero, objectFits, linkFits}
-use Rattle.meaning.specs.Events.{Event, insert, delete, set, join, part, special, general, Lent, linkOf, newObject, clearedFrom, withCell, withType, withHigherType, amended, apply, Check, _when_, firstMet, linked, needsType, typeNeeded, strictlyAbove, strictlyUnder, hasCell, checks, eventRefusal, knownEvent}
+use Rattle.meaning.specs.Events.{Event, insert, delete, set, join, part, special, general, Lent, linkOf, newObject, clearedFrom, withCell, withType, withHigherType, amended, apply, Check}
+use Rattle.meaning.specs.Events.{_when_, firstMet, linked, needsType, typeNeeded, strictlyAbove, strictlyUnder, hasCell, checks, eventRefusal, knownEvent}
 use Rattle.meaning.specs.Reach.{stepAt, joined, parted, setsCell, insertsInto, specialisesInto, deletesFrom, generalisesFrom}
 use Rattle.meaning.proofs.Lists.{not-and-left, not-sub, decide, first-absent, first-keep, first-map, every-drop, every-take, every-append, every-replicate, every-set, holds-some, cond-yes, cond-no, any-none, keep-in, keep-from, length-keep, ascending-keep, ascending-map}
 use Rattle.meaning.proofs.Order.{first-place, length-place, place-from, place-other, place-has, place-ascending}

@@ -1,7 +1,7 @@
 -- Laws of the operations of specs/Lists: membership in what they make, and lists that ascend by a relation.
 use Prim.Native.Nat.{ℕ, zero, suc, _≤_, zero-le, suc-le-suc}
 use mathlib.Core.Path.{_≡_, refl, sym, ap, subst, _∙_}
-use mathlib.Core.Logic.{_⊎_, inl, inr, ⊎-elim}
+use mathlib.Core.Logic.{_⊎_, inl, inr, ⊎-elim, _↔_}
 use mathlib.Core.Bool.{Bool, true, false, _&&_, _||_, not, cond}
 use mathlib.Core.List.{List, [], _∷_, _++_, map, List·Memᴰ·head, List·Memᴰ·tail, List·Memᴰ·not-nil, List·Memᴰ·cases-cons, List·Memᴰ·append-cases}
 use mathlib.Core.Option.{Option, none, some, Option·map, Option·none-ne-some, Option·some-injective}
@@ -163,6 +163,11 @@ module _ {A : Type 0} where
   element-in (y ∷ ys) zero {x} e = List·Memᴰ·head (sym (Option·some-injective y x e))
   element-in (y ∷ ys) (suc n) e = List·Memᴰ·tail (element-in ys n e)
 
+  -- what holds of the element at each place holds of every element
+  pub every-place : (p : A → Bool) (l : List A) → ((n : ℕ) (x : A) → getElem? l n ≡ some x → T (p x)) → T (every p l)
+  every-place p [] h = tt
+  every-place p (y ∷ ys) h = yes-and (p y) (every p ys) (h 0 y refl) (every-place p ys (λ n. h (suc n)))
+
   -- ---- ascending lists
 
   pub ascending-keep : (R : A → A → Type 0) (p : A → Bool) (l : List A) → Ascending R l → Ascending R (keep p l)
@@ -320,3 +325,29 @@ module _ {A : Type 0} where
       (λ (j : x ∈ zs).
       ⊎-elim (λ (q : y ≡ z). absurd (h (subst (λ w. R w x) (sym q) (a .0 x j)))) (λ (k : y ∈ zs). ascending-one R zs (a .1) j k f h) (List·Memᴰ·cases-cons n))
       (List·Memᴰ·cases-cons m)
+
+  module _ (R : A → A → Type 0) (irreflexive : (x : A) → ¬ R x x) (transitive : (x y z : A) → R x y → R y z → R x z) (p : A → Bool) where
+    -- no element before the first that passes the test passes it
+    first-before : (l : List A) → Ascending R l → {x : A} → first p l ≡ some x → (y : A) → y ∈ l → R y x → T (not (p y))
+    first-before [] a e y m r = absurd (List·Memᴰ·not-nil m)
+    first-before (z ∷ zs) a {x} e y m r = step (p z) refl (λ q n. first-before zs (a .1) q y n r) e
+      where
+        step : (b : Bool) → p z ≡ b → (first p zs ≡ some x → y ∈ zs → T (not (p y))) → cond b (some z) (first p zs) ≡ some x → T (not (p y))
+        step true b below q =
+            let s : R y z = subst (R y) (sym (Option·some-injective z x q)) r in
+            ⊎-elim (λ (i : y ≡ z). absurd (irreflexive z (subst (λ w. R w z) i s))) (λ (n : y ∈ zs). absurd (irreflexive z (transitive z y z (a .0 y n) s))) (List·Memᴰ·cases-cons m)
+        step false b below q = ⊎-elim (λ (i : y ≡ z). rw (i, b) tt) (below q) (List·Memᴰ·cases-cons m)
+
+    -- the first of an ascending list that passes a test: it passes, and no element before it does
+    pub first-ascending : (l : List A) → Ascending R l → (x : A) → (first p l ≡ some x) ↔ (x ∈ l × T (p x) × ((y : A) → y ∈ l → R y x → T (not (p y))))
+    first-ascending l a x = (
+      λ e. let r = first-some p l e in (r .0, r .1, first-before l a e),
+      λ h. step (h .0) (h .1) (h .2) (first p l) refl,
+    )
+      where
+        step : x ∈ l → T (p x) → ((y : A) → y ∈ l → R y x → T (not (p y))) → (o : Option A) → first p l ≡ o → o ≡ some x
+        step m t least none e = absurd (T-not (p x) t (first-none p l e x m))
+        step m t least (some y) e =
+            let r = first-some p l e in
+            ap {B = Option A} some
+            (ascending-one R l a (r .0) m (λ y-x. T-not (p y) (r .1) (least y (r .0) y-x)) (λ x-y. T-not (p x) t (first-before l a e x m x-y)))

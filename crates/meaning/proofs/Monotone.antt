@@ -9,32 +9,15 @@ use native.Mathlib.Nat.{lt-irrefl, lt-trans}
 use lib.Dec.{T}
 use lib.ListN.{length}
 use lib.IntN.{ℤ, pos, ℤ-set}
-use lib.Signed.{_≤ℤ_, ≤ℤ-refl}
+use lib.Signed.{≤ℤ-refl}
 use mir.Facts.{and-yes, yes-and, or-yes, or-no, T-not, not-T}
 use Rattle.meaning.specs.Lists.{keep, _∈_, Ascending}
 use Rattle.meaning.specs.Forms.{Sort, truth, number, collection, Connective, and, or, xor, implies, Quantifier, forall, exists, Arithmetic, add, sub}
 use Rattle.meaning.specs.Meaning.{Value, connected, quantified, combined, total}
 use Rattle.meaning.specs.Reach.{Direction, up, down, opposite, Passing, same, reversed, either, through, firstPart, secondPart, sourceOf, secondTerm}
+use Rattle.meaning.specs.Unmoved.{Below, Unmoved, Through}
 use Rattle.meaning.proofs.Lists.{or-left, or-right, any-of, any-cases, every-of, every-at, keep-in, keep-from, ascending-unique, ascending-shorter}
 use Rattle.meaning.proofs.Integers.{pos-mono, add-mono, sub-mono}
-
--- One order for each sort: false ≤ true, the order of ℤ, inclusion.
-abbrev pub Below : (s : Sort) → Value s → Value s → Type 0
-Below truth a b = T a → T b
-Below number a b = a ≤ℤ b
-Below collection a b = (x : ℕ) → x ∈ a → x ∈ b
-
--- The value before and the value after, where the form does not move in direction d: what is not moved down has not fallen,
--- what is not moved up has not risen.
-abbrev pub Unmoved : (s : Sort) → Direction → Value s → Value s → Type 0
-Unmoved s down before after = Below s before after
-Unmoved s up before after = Below s after before
-
--- What is known of a part through which nothing moves the form in direction d.
-abbrev pub Through : Passing → (Direction → Type 0) → Direction → Type 0
-Through same P d = P d
-Through reversed P d = P (opposite d)
-Through either P d = P up × P down
 
 -- nothing moves through a part, as a test and as what follows from it
 pub through-none : (p : Passing) (moved : Direction → Bool) (P : Direction → Type 0) (d : Direction) → ((e : Direction) → T (not (moved e)) → P e) → T (not (through _||_ p moved d)) → Through p P d

@@ -19,7 +19,8 @@ use Rattle.meaning.specs.Reach.{Change, Direction, up, down, opposite, P
 use Rattle.meaning.proofs.Lists.{any-none, keep-from}
 use Rattle.meaning.proofs.Variables.{Each, each-at, each-bind}
 use Rattle.meaning.proofs.Registers.{RegisterFits}
-use Rattle.meaning.proofs.Monotone.{Unmoved, Through, through-none, connective-unmoved, negation-unmoved, arithmetic-unmoved, quantifier-unmoved, select-unmoved, size-unmoved, sum-unmoved}
+use Rattle.meaning.specs.Unmoved.{Unmoved, Through}
+use Rattle.meaning.proofs.Monotone.{through-none, connective-unmoved, negation-unmoved, arithmetic-unmoved, quantifier-unmoved, select-unmoved, size-unmoved, sum-unmoved}
 use Rattle.meaning.proofs.Comparisons.{comparison-unmoved}
 use Rattle.meaning.proofs.Collections.{gathered, members-ascend}
 

@@ -31,7 +31,12 @@ against true = down
 against false = up
 
 -- what makes a connective quietly true or quietly false makes its value so
-connective-quiet : (o : Connective) (w : Bool) (a b : Bool) (qa qb : Bool → Bool) (ma mb : Direction → Bool) → ((v : Bool) → T (qa v) → T (not (ma (against v))) → Is v a) → ((v : Bool) → T (qb v) → T (not (mb (against v))) → Is v b) → T (quietConnective o w qa qb) → T (not (through _||_ (firstPart o) ma (against w) || through _||_ (secondPart o) mb (against w))) → Is w (connected o a b)
+connective-quiet : (o : Connective) (w : Bool) (a b : Bool) (qa qb : Bool → Bool) (ma mb : Direction → Bool)
+    → ((v : Bool) → T (qa v) → T (not (ma (against v))) → Is v a)
+    → ((v : Bool) → T (qb v) → T (not (mb (against v))) → Is v b)
+    → T (quietConnective o w qa qb)
+    → T (not (through _||_ (firstPart o) ma (against w) || through _||_ (secondPart o) mb (against w)))
+    → Is w (connected o a b)
 unfolding quietConnective connected firstPart secondPart
 connective-quiet and true a b qa qb ma mb f g q n =
     let qs = and-yes (qa true) (qb true) q in let ns = or-no (ma down) (mb down) n in

@@ -7,7 +7,8 @@ use Rattle.meaning.specs.Lists.{any, place}
 use Rattle.meaning.specs.Schema.{Schema, hasParent, relationshipOf}
 use Rattle.meaning.specs.Register.{isUnder}
 use Rattle.meaning.specs.Forms.{Sort, Form, compare, negate, connect, quantify, kind, num, cell, size, sum, combine, role, all, select, bind, variable, memberType, Rule}
-use Rattle.meaning.specs.Reach.{Change, someStep, inserts, deletes, sets, joins, parts, specials, generals, placeOf, among, setsCell, insertsInto, specialisesInto, deletesFrom, generalisesFrom, anyone, Direction, up, down, same, reversed, either, through, leftOf, rightOf, firstPart, secondPart, sourceOf, secondTerm, quiet}
+use Rattle.meaning.specs.Reach.{Change, someStep, inserts, deletes, sets, joins, parts, specials, generals, placeOf, among, setsCell, insertsInto, specialisesInto, deletesFrom, generalisesFrom}
+use Rattle.meaning.specs.Reach.{anyone, Direction, up, down, same, reversed, either, through, leftOf, rightOf, firstPart, secondPart, sourceOf, secondTerm, quiet}
 
 -- What a rule lists: a kind of event with the type, the type and cell, or the relationship that it names.
 pub data EventType : Type 0 where

@@ -7,7 +7,8 @@ use lib.ListN.{getElem?}
 use Rattle.meaning.specs.Lists.{any, keep, holds}
 use Rattle.meaning.specs.Schema.{ObjectType, Schema, under}
 use Rattle.meaning.specs.Register.{Link, Register, isUnder, instances, hasLink, startsAt}
-use Rattle.meaning.specs.Forms.{Sort, truth, collection, Comparison, le, lt, eq, ne, ge, gt, Connective, and, or, xor, implies, Quantifier, forall, exists, Arithmetic, add, sub, Form, compare, negate, connect, quantify, kind, num, cell, size, sum, combine, role, all, select, bind, variable, Rule, Book}
+use Rattle.meaning.specs.Forms.{Sort, truth, collection, Comparison, le, lt, eq, ne, ge, gt, Connective, and, or, xor, implies, Quantifier, forall, exists, Arithmetic, add, sub, Form}
+use Rattle.meaning.specs.Forms.{compare, negate, connect, quantify, kind, num, cell, size, sum, combine, role, all, select, bind, variable, Rule, Book}
 use Rattle.meaning.specs.Meaning.{meaning}
 use Rattle.meaning.specs.Events.{Event, insert, delete, set, join, part, special, general, linkOf, apply, after}
 
@@ -18,6 +19,7 @@ pub record Step : Type 0 where
   pub event : Event
   pub met : Register
 
+-- a step by its parts
 abbrev pub stepAt : Register → Event → Step
 stepAt g e = record { event = e; met = g }
 
@@ -54,6 +56,7 @@ placeOf parts = 4
 placeOf specials = 5
 placeOf generals = 6
 
+-- the two are one kind
 abbrev pub sameKind : Kind → Kind → Bool
 sameKind j k = eqb (placeOf j) (placeOf k)
 
@@ -103,6 +106,7 @@ module _ (types : List ObjectType) (t : ℕ) (whom : ℕ → Bool) (s : Step) wh
   abbrev pub takesOut : Bool
   takesOut = deletesFrom || generalisesFrom
 
+-- of whichever object
 abbrev pub anyone : ℕ → Bool
 anyone x = true
 
@@ -275,6 +279,10 @@ pub record Pair : Type 0 where
 abbrev pub pairOf : ℕ → ℕ → Pair
 pairOf n id = record { rule = n; id = id }
 
+-- the order of pairs: "rule then id"
+abbrev pub pairKey : Pair → List ℕ
+pairKey p = p .rule ∷ p .id ∷ []
+
 -- Every pair of a rule and an object under its context type, ascending. n is the first rule's number.
 unfoldable pub pairsFrom : List ObjectType → Register → ℕ → List Rule → List Pair
 pairsFrom types g n [] = []
@@ -287,6 +295,10 @@ contextPairs k g = pairsFrom (k .schema .types) g 0 (k .rules)
 unfoldable pub ofRule : Book → (Rule → Bool) → ℕ → Bool
 ofRule k fact n = holds fact (getElem? (k .rules) n)
 
+-- "Pair (rule, s) is selected"
+abbrev pub pairSelected : Book → Change → Pair → Bool
+pairSelected k c p = ofRule k (λ r. selected c r (p .id)) (p .rule)
+
 -- "The list is .. rule then id, ascending, no repeat."
 unfoldable pub selectedPairs : Book → Change → List Pair
-selectedPairs k c = keep (λ p. ofRule k (λ r. selected c r (p .id)) (p .rule)) (contextPairs k (c .end))
+selectedPairs k c = keep (pairSelected k c) (contextPairs k (c .end))
