@@ -13,7 +13,7 @@ use lib.ListN.{length, getD, take, drop, replicate, length-append, length-replic
 use lib.Seq.{length-take-le, drop-set-lt, drop-at, drop-drop, getD-take, getD-set-other}
 use lib.IntN.{ℤ, pos}
 use mir.Facts.{and-yes, yes-and, or-no, T-not, not-T, T-not-not, eqb-yes, yes-eqb, eqb-no, ltb-yes, leb-no}
-use Rattle.meaning.specs.Lists.{every, keep, place, _∈_, Ascending, Before}
+use Rattle.meaning.specs.Lists.{every, keep, putInOrder, _∈_, Ascending, Before}
 use Rattle.meaning.specs.Limits.{cellCount, maxObjects, validId, fitsWord}
 use Rattle.meaning.specs.Schema.{ObjectType, Relationship, Schema, knownType, knownRelationship, cellsOf, under, sourceType, targetType}
 use Rattle.meaning.specs.Register.{Object, Link, Register, objectKey, linkKey, objectAt, present, isUnder, cellAt, sameLink, hasLink, startsAt, isZero, objectFits, linkFits}
@@ -21,7 +21,7 @@ use Rattle.meaning.specs.Events.{Event, insert, delete, set, join, part,
 use Rattle.meaning.specs.Events.{_when_, firstMet, linked, needsType, typeNeeded, strictlyAbove, strictlyUnder, hasCell, checks, eventRefusal, knownEvent}
 use Rattle.meaning.specs.Reach.{stepAt, joined, parted, setsCell, insertsInto, specialisesInto, deletesFrom, generalisesFrom}
 use Rattle.meaning.proofs.Lists.{not-and-left, not-sub, decide, first-absent, first-keep, first-map, every-drop, every-take, every-append, every-replicate, every-set, holds-some, cond-yes, cond-no, any-none, keep-in, keep-from, length-keep, ascending-keep, ascending-map}
-use Rattle.meaning.proofs.Order.{first-place, length-place, place-from, place-other, place-has, place-ascending}
+use Rattle.meaning.proofs.Order.{first-put, length-put, put-from, put-other, put-has, put-ascending}
 use Rattle.meaning.proofs.Schemas.{TypesFit, under-trans, under-cells}
 use Rattle.meaning.proofs.Registers.{RegisterFits, object-parts, object-whole, object-at, ascending-found, under-present, same-link, link-in, link-has, link-parts, link-whole}
 
@@ -155,23 +155,23 @@ module _ (g : Register) (id : ℕ) where
 
   inserted-at : (S : Schema) (t : ℕ) → Ascending (Before objectKey) (g .objects) → T (not (present g id)) → objectAt (apply S (insert id t) g) id ≡ some (newObject id t)
   unfolding apply present
-  inserted-at S t a absent = ascending-found (apply S (insert id t) g) (place-ascending objectKey 1 (λ o. refl) new (g .objects) a) placed
+  inserted-at S t a absent = ascending-found (apply S (insert id t) g) (put-ascending objectKey 1 (λ o. refl) new (g .objects) a) placed
     where
       new : Object
       new = newObject id t
 
-      placed : new ∈ place objectKey new (g .objects)
+      placed : new ∈ putInOrder objectKey new (g .objects)
       placed =
-          let z = place-has objectKey 1 (λ o. refl) new (g .objects) in
+          let z = put-has objectKey 1 (λ o. refl) new (g .objects) in
           ⊎-elim (λ (q : z .0 ≡ new). Memᴰ·cast (sym q) (z .1))
           (λ (m : z .0 ∈ g .objects).
           absurd
           (T-not (present g id) (rw (← ap (λ k. getD k 0 0) (z .2), ascending-found g a m) tt) absent))
-          (place-from objectKey new (g .objects) (z .1))
+          (put-from objectKey new (g .objects) (z .1))
 
   inserted-other : (S : Schema) (t x : ℕ) → T (not (eqb id x)) → objectAt (apply S (insert id t) g) x ≡ objectAt g x
   unfolding apply objectAt
-  inserted-other S t x n = first-place (λ o. eqb (o .id) x) objectKey (newObject id t) (g .objects) n
+  inserted-other S t x n = first-put (λ o. eqb (o .id) x) objectKey (newObject id t) (g .objects) n
 
   deleted-at : (S : Schema) → objectAt (apply S (delete id) g) id ≡ none
   unfolding apply objectAt
@@ -299,7 +299,7 @@ module _ (S : Schema) (types-fit : TypesFit (S .types)) (lent : Lent) (g : Regis
 
   objects-ascend-after : (e : Event) → Ascending (Before objectKey) ((apply S e g) .objects)
   unfolding apply
-  objects-ascend-after (insert id t) = place-ascending objectKey 1 (λ o. refl) (newObject id t) (g .objects) (fits .objects-ascend)
+  objects-ascend-after (insert id t) = put-ascending objectKey 1 (λ o. refl) (newObject id t) (g .objects) (fits .objects-ascend)
   objects-ascend-after (delete id) = ascending-keep (Before objectKey) (λ o. not (eqb (o .id) id)) (g .objects) (fits .objects-ascend)
   objects-ascend-after (set id k v) = amended-ascends g id (withCell k v) (λ o. refl) (fits .objects-ascend)
   objects-ascend-after (join r a b) = fits .objects-ascend
@@ -365,7 +365,7 @@ module _ (S : Schema) (types-fit : TypesFit (S .types)) (lent : Lent) (g : Regis
   links-ascend-after (insert id t) = fits .links-ascend
   links-ascend-after (delete id) = fits .links-ascend
   links-ascend-after (set id k v) = fits .links-ascend
-  links-ascend-after (join r a b) = place-ascending linkKey 3 (λ l. refl) (linkOf r a b) (g .links) (fits .links-ascend)
+  links-ascend-after (join r a b) = put-ascending linkKey 3 (λ l. refl) (linkOf r a b) (g .links) (fits .links-ascend)
   links-ascend-after (part r a b) = ascending-keep (Before linkKey) (λ l. not (sameLink (linkOf r a b) l)) (g .links) (fits .links-ascend)
   links-ascend-after (special id t) = fits .links-ascend
   links-ascend-after (general id t) = fits .links-ascend
@@ -387,7 +387,7 @@ module _ (S : Schema) (types-fit : TypesFit (S .types)) (lent : Lent) (g : Regis
       ⊎-elim
       (λ (q : l ≡ linkOf r a b). subst (λ k. T (linkFits S (apply S (join r a b) g) k)) (sym q) (new-link-fits r a b ok))
       (λ (n : l ∈ g .links). old-link-fits (join r a b) ok l n)
-      (place-from linkKey (linkOf r a b) (g .links) m)
+      (put-from linkKey (linkOf r a b) (g .links) m)
   links-fit-after (part r a b) ok l m = old-link-fits (part r a b) ok l (keep-from (λ l. not (sameLink (linkOf r a b) l)) (g .links) m .0)
   links-fit-after (special id t) ok l m = old-link-fits (special id t) ok l m
   links-fit-after (general id t) ok l m = old-link-fits (general id t) ok l m
@@ -409,7 +409,7 @@ module _ (S : Schema) (types-fit : TypesFit (S .types)) (lent : Lent) (g : Regis
   link-stays (insert id t) ok r x l s n h = h
   link-stays (delete id) ok r x l s n h = h
   link-stays (set id k v) ok r x l s n h = h
-  link-stays (join q a b) ok r x l s n h = link-has (apply S (join q a b) g) l (place-other linkKey (linkOf q a b) (g .links) (link-in g l h))
+  link-stays (join q a b) ok r x l s n h = link-has (apply S (join q a b) g) l (put-other linkKey (linkOf q a b) (g .links) (link-in g l h))
   link-stays (part q a b) ok r x l s n h =
       link-has (apply S (part q a b) g) l
       (keep-in (λ l. not (sameLink (linkOf q a b) l)) (link-in g l h)
@@ -428,7 +428,7 @@ module _ (S : Schema) (types-fit : TypesFit (S .types)) (lent : Lent) (g : Regis
       (λ (e : l ≡ linkOf q a b).
       absurd (T-not (startsAt r x (linkOf q a b) && test (linkOf q a b)) (subst (λ k. T (startsAt r x k && test k)) e (yes-and (startsAt r x l) (test l) s u)) n))
       (λ (m : l ∈ g .links). link-has g l m)
-      (place-from linkKey (linkOf q a b) (g .links) (link-in (apply S (join q a b) g) l h))
+      (put-from linkKey (linkOf q a b) (g .links) (link-in (apply S (join q a b) g) l h))
   link-was (part q a b) ok r x test l s u n h =
       link-has g l (keep-from (λ l. not (sameLink (linkOf q a b) l)) (g .links) (link-in (apply S (part q a b) g) l h) .0)
   link-was (special id t) ok r x test l s u n h = h
@@ -485,7 +485,7 @@ module _ (S : Schema) (types-fit : TypesFit (S .types)) (lent : Lent) (g : Regis
   unfolding apply checks knownEvent
   objects-limit (insert id t) ok h =
       let room = leb-no {a = min maxObjects (lent .objects)} {b = length (g .objects)} (clear S lent g (insert id t) ok .1 .1 .0) in
-      let grown = length-place objectKey (newObject id t) (g .objects) in
+      let grown = length-put objectKey (newObject id t) (g .objects) in
       omega (arith, room, grown)
   objects-limit (delete id) ok h = le-trans (length-keep (λ o. not (eqb (o .id) id)) (g .objects)) h
   objects-limit (set id k v) ok h = rw (length-map (g .objects) (λ o. cond (eqb (o .id) id) (withCell k v o) o)) h

@@ -12,7 +12,7 @@ use Rattle.meaning.specs.Register.{Link, Register, present, hasLink, sta
 use Rattle.meaning.specs.Forms.{truth, collection, Connective, and, or, xor, implies, Quantifier, forall, exists, Form, compare, negate, connect, quantify, kind, role, all, select, bind, variable}
 use Rattle.meaning.specs.Meaning.{connected, quantified, meaning}
 use Rattle.meaning.specs.Events.{Event, Lent, after}
-use Rattle.meaning.specs.Reach.{stepAt, Change, changeBy, someStep, insertsInto, Direction, up, down, opposite, through, firstPart, secondPart, sourceOf, roleMoves, moves, roleOfSelf, quietQuantifier, quietConnective, quietly, inserted}
+use Rattle.meaning.specs.Reach.{stepAt, Change, changeBy, someStep, insertsInto, Direction, up, down, opposite, through, firstTruth, secondTruth, sourceOf, roleMoves, moves, roleOfSelf, quietQuantifier, quietConnective, quietly, inserted}
 use Rattle.meaning.proofs.Lists.{or-left, or-right, no-or, not-and-left, not-and-right, not-not, any-cases, every-of, keep-from}
 use Rattle.meaning.proofs.Schemas.{TypesFit}
 use Rattle.meaning.proofs.Registers.{RegisterFits, far-from, near-present}
@@ -35,9 +35,9 @@ connective-quiet : (o : Connective) (w : Bool) (a b : Bool) (qa qb : Bool → Bo
     → ((v : Bool) → T (qa v) → T (not (ma (against v))) → Is v a)
     → ((v : Bool) → T (qb v) → T (not (mb (against v))) → Is v b)
     → T (quietConnective o w qa qb)
-    → T (not (through _||_ (firstPart o) ma (against w) || through _||_ (secondPart o) mb (against w)))
+    → T (not (through _||_ (firstTruth o) ma (against w) || through _||_ (secondTruth o) mb (against w)))
     → Is w (connected o a b)
-unfolding quietConnective connected firstPart secondPart
+unfolding quietConnective connected firstTruth secondTruth
 connective-quiet and true a b qa qb ma mb f g q n =
     let qs = and-yes (qa true) (qb true) q in let ns = or-no (ma down) (mb down) n in
     yes-and a b (f true (qs .0) (ns .0)) (g true (qs .1) (ns .1))

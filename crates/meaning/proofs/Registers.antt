@@ -12,7 +12,7 @@ use Rattle.meaning.specs.Limits.{cellCount, validId, fitsWord}
 use Rattle.meaning.specs.Schema.{ObjectType, Schema, knownType, knownRelationship, cellsOf, relationshipOf, forward, sourceType, targetType, farType, under}
 use Rattle.meaning.specs.Register.{Object, Link, Register, objectKey, linkKey, objectAt, present, isUnder, instances, sameLink, hasLink, nearEnd, farEnd, startsAt, farEnds, isZero, cellsFit, objectFits, faultyObject, linkFits, faultyLink, objectFault, linkFault}
 use Rattle.meaning.proofs.Lists.{first-only, ascending-one, holds-some, any-of, any-cases, keep-in, keep-from, first-some, ascending-keep, map-in, map-from, ascending-map}
-use Rattle.meaning.proofs.Order.{before-one, before-last, before-first, before-irreflexive, same-eq, same-refl, rows-fit, fits-rows}
+use Rattle.meaning.proofs.Order.{before-one, before-last, before-first, before-irreflexive, same-list-eq, same-list-refl, rows-fit, fits-rows}
 
 pub record RegisterFits (S : Schema) (g : Register) : Type 0 where
   pub objects-ascend : Ascending (Before objectKey) (g .objects)
@@ -89,7 +89,7 @@ under-present types g x t u = rw (holds-some (λ o. under types (o .type) t) (ob
 
 pub same-link : (l k : Link) → T (sameLink l k) → l ≡ k
 same-link l k t =
-    let e = same-eq (linkKey l) (linkKey k) t in
+    let e = same-list-eq (linkKey l) (linkKey k) t in
     λ i. record { relationship = getD (e i) 0 0; source = getD (e i) 1 0; target = getD (e i) 2 0 }
 
 pub link-in : (g : Register) (l : Link) → T (hasLink g l) → l ∈ g .links
@@ -98,7 +98,7 @@ link-in g l t = let r = any-cases (sameLink l) (g .links) t in Memᴰ·cast (sam
 
 pub link-has : (g : Register) (l : Link) → l ∈ g .links → T (hasLink g l)
 unfolding hasLink
-link-has g l m = any-of (sameLink l) m (same-refl (linkKey l))
+link-has g l m = any-of (sameLink l) m (same-list-refl (linkKey l))
 
 -- ---- collections
 

@@ -7,17 +7,17 @@ use mathlib.Core.List.{List, [], _∷_, _++_, foldr, List·Memᴰ·head, List·M
 use lib.Dec.{T, ltb, eqb}
 use lib.ListN.{length, getD}
 use mir.Facts.{and-yes, or-yes, T-not, not-T, ltb-yes}
-use Rattle.meaning.specs.Lists.{any, place, _∈_, Ascending, Before}
+use Rattle.meaning.specs.Lists.{any, putInOrder, _∈_, Ascending, Before}
 use Rattle.meaning.specs.Schema.{ObjectType, Relationship, Schema, cellsOf, hasParent, under, relationshipOf}
 use Rattle.meaning.specs.Register.{Link, Register, objectAt, isUnder, nearEnd, startsAt, hasLink}
 use Rattle.meaning.specs.Forms.{Sort, truth, collection, Form, compare, negate, connect, quantify, kind, num, cell, size, sum, combine, role, all, select, bind, variable, memberType, wellTyped, Rule}
 use Rattle.meaning.specs.Meaning.{meaning}
 use Rattle.meaning.specs.Events.{Event, insert, delete, set, join, part, special, general, linkOf, strictlyAbove, strictlyUnder}
 use Rattle.meaning.specs.Reach.{Step, stepAt, Change, someStep, Kind, inserts, sets, joins, parts, specials, generals, among, setsCell, insertsInto, specialisesInto, deletesFrom, generalisesFrom, anyone, Direction, up, down, opposite, Passing, same}
-use Rattle.meaning.specs.Reach.{reversed, either, through, leftOf, rightOf, firstPart, secondPart, sourceOf, secondTerm, roleMoves, allMoves, cellMoves, kindMoves, moves, quiet, inserted, specialised, broughtIn, selected}
-use Rattle.meaning.specs.EventList.{EventType, insertOf, deleteOf, setOf, joinOf, partOf, specialOf, generalOf, wordsOf, whereParent, roleLists, allLists, kindLists, lists, contextLists, eventList, occurs, touched}
+use Rattle.meaning.specs.Reach.{reversed, either, through, leftOf, rightOf, firstTruth, secondTruth, sourceOf, secondTerm, roleMoves, allMoves, cellMoves, kindMoves, moves, quiet, inserted, specialised, broughtIn, selected}
+use Rattle.meaning.specs.EventList.{EventType, insertOf, deleteOf, setOf, joinOf, partOf, specialOf, generalOf, eventTypeWords, whereParent, roleLists, allLists, kindLists, lists, contextLists, eventList, occurs, touched}
 use Rattle.meaning.proofs.Lists.{holds-some, or-left, or-right, decide, cond-yes, cond-no, any-of, any-cases, keep-from}
-use Rattle.meaning.proofs.Order.{place-other, place-has, place-ascending}
+use Rattle.meaning.proofs.Order.{put-other, put-has, put-ascending}
 use Rattle.meaning.proofs.Schemas.{TypesFit, under-refl, under-linear, under-top}
 use Rattle.meaning.proofs.Variables.{Each, each-at, each-bind}
 use Rattle.meaning.proofs.Effects.{EventFits}
@@ -91,8 +91,8 @@ ofWords w =
     let kinds = insertOf t ∷ deleteOf t ∷ setOf t (getD w 2 0) ∷ joinOf t ∷ partOf t ∷ specialOf t ∷ generalOf t ∷ [] in
     getD kinds (getD w 0 0) (insertOf t)
 
-of-words : (e : EventType) → ofWords (wordsOf e) ≡ e
-unfolding ofWords wordsOf
+of-words : (e : EventType) → ofWords (eventTypeWords e) ≡ e
+unfolding ofWords eventTypeWords
 of-words (insertOf t) = refl
 of-words (deleteOf t) = refl
 of-words (setOf t k) = refl
@@ -101,8 +101,8 @@ of-words (partOf r) = refl
 of-words (specialOf t) = refl
 of-words (generalOf t) = refl
 
-pub three-words : (e : EventType) → length (wordsOf e) ≡ 3
-unfolding wordsOf
+pub three-words : (e : EventType) → length (eventTypeWords e) ≡ 3
+unfolding eventTypeWords
 three-words (insertOf t) = refl
 three-words (deleteOf t) = refl
 three-words (setOf t k) = refl
@@ -111,17 +111,17 @@ three-words (partOf r) = refl
 three-words (specialOf t) = refl
 three-words (generalOf t) = refl
 
-placed-ascends : (l : List EventType) → Ascending (Before wordsOf) (foldr (place wordsOf) [] l)
+placed-ascends : (l : List EventType) → Ascending (Before eventTypeWords) (foldr (putInOrder eventTypeWords) [] l)
 placed-ascends [] = tt
-placed-ascends (x ∷ xs) = place-ascending wordsOf 3 three-words x (foldr (place wordsOf) [] xs) (placed-ascends xs)
+placed-ascends (x ∷ xs) = put-ascending eventTypeWords 3 three-words x (foldr (putInOrder eventTypeWords) [] xs) (placed-ascends xs)
 
-placed : {e : EventType} {l : List EventType} → e ∈ l → e ∈ foldr (place wordsOf) [] l
+placed : {e : EventType} {l : List EventType} → e ∈ l → e ∈ foldr (putInOrder eventTypeWords) [] l
 placed {e} (List·Memᴰ·head {x = x} {xs = xs} q) =
-    let z = place-has wordsOf 3 three-words x (foldr (place wordsOf) [] xs) in
+    let z = put-has eventTypeWords 3 three-words x (foldr (putInOrder eventTypeWords) [] xs) in
     Memᴰ·cast (q ∙ sym (of-words x) ∙ ap ofWords (sym (z .2)) ∙ of-words (z .0)) (z .1)
-placed (List·Memᴰ·tail {x = x} {xs = xs} m) = place-other wordsOf x (foldr (place wordsOf) [] xs) (placed m)
+placed (List·Memᴰ·tail {x = x} {xs = xs} m) = put-other eventTypeWords x (foldr (putInOrder eventTypeWords) [] xs) (placed m)
 
-pub event-list-ascends : (S : Schema) (r : Rule) → Ascending (Before wordsOf) (eventList S r)
+pub event-list-ascends : (S : Schema) (r : Rule) → Ascending (Before eventTypeWords) (eventList S r)
 unfolding eventList
 event-list-ascends S r = placed-ascends (lists S (r .body) (r .context ∷ []) down ++ contextLists S r)
 
@@ -283,7 +283,7 @@ module _ (c : Change) where
     unfolding wellTyped moves lists
     moves-listed (compare o a b) vs ts v w = parts-listed (leftOf o) (rightOf o) a b vs ts (moves-listed a vs ts v) (moves-listed b vs ts v) w
     moves-listed (negate a) vs ts v w = through-listed reversed a vs ts (moves-listed a vs ts v w)
-    moves-listed (connect o a b) vs ts v w = parts-listed (firstPart o) (secondPart o) a b vs ts (moves-listed a vs ts v) (moves-listed b vs ts v) w
+    moves-listed (connect o a b) vs ts v w = parts-listed (firstTruth o) (secondTruth o) a b vs ts (moves-listed a vs ts v) (moves-listed b vs ts v) w
     moves-listed (quantify q k b) vs ts v w = body-listed (sourceOf q) k b vs ts v (moves-listed k vs ts v) (moves-listed b) w
     moves-listed (kind x u) vs ts v w = kind-listed (variable vs x) u
     moves-listed (num n) vs ts v w = λ d t. absurd t

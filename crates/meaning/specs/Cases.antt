@@ -19,28 +19,29 @@ use Rattle.meaning.specs.Answers.{Answer, accepted, brokenAt, refused, b
 
 -- a batch for a book and a register, or a rule by itself
 pub data Given : Type 0 where
-  batch : Book → Register → List Event → Given
-  rule : Schema → Rule → Given
+  batchFor : Book → Register → List Event → Given
+  ruleFor : Schema → Rule → Given
 
 -- the answer, the pairs and the register that a batch check leaves; or whether a rule is refused, and its event list
-pub data Shown : Type 0 where
-  outcome : Outcome → Shown
-  listing : Option Refusal → List EventType → Shown
+pub data Result : Type 0 where
+  outcome : Outcome → Result
+  listing : Option Refusal → List EventType → Result
 
 pub record Case : Type 0 where
   pub given : Given
-  pub expected : Shown
+  pub expected : Result
 
 -- tables to document 01's limits, and words for the list without end
 unfoldable pub everything : Lent
 everything = record { objects = 1024; links = 4096; words = 100000 }
 
-abbrev pub bookOf : Schema → Rule → Book
-bookOf S r = record { schema = S; rules = r ∷ [] }
+-- a book of one rule
+abbrev pub oneRule : Schema → Rule → Book
+oneRule S r = record { schema = S; rules = r ∷ [] }
 
-unfoldable pub shown : Given → Shown
-shown (batch k g es) = outcome (batchCheck k everything g es)
-shown (rule S r) = listing (bookRefusal (bookOf S r)) (eventList S r)
+unfoldable pub resultOf : Given → Result
+resultOf (batchFor k g es) = outcome (batchCheck k everything g es)
+resultOf (ruleFor S r) = listing (bookRefusal (oneRule S r)) (eventList S r)
 
 -- ---- Book A
 
@@ -88,7 +89,7 @@ withTwelve = parkA (object 12 0 [] ∷ []) (pos 25) linkA
 -- a batch for a book of one rule, and its answer, its pairs and the register that it leaves
 abbrev caseBy : Schema → Rule → Register → List Event → Answer → List Pair → Register → Case
 caseBy S r g es answer pairs left =
-    record { given = batch (bookOf S r) g es; expected = outcome (record { answer = answer; pairs = pairs; register = left }) }
+    record { given = batchFor (oneRule S r) g es; expected = outcome (record { answer = answer; pairs = pairs; register = left }) }
 
 abbrev caseA : List Event → Answer → List Pair → Register → Case
 caseA es answer pairs left = caseBy schemaA sumRule registerA es answer pairs left
@@ -107,7 +108,7 @@ shop =
 
 -- a rule of the shop, which is not refused, and its event list
 abbrev caseOf : Rule → List EventType → Case
-caseOf r es = record { given = rule shop r; expected = listing none es }
+caseOf r es = record { given = ruleFor shop r; expected = listing none es }
 
 -- self.shipment->forAll(sh | sh.plannedShipDate <= self.paymentDate + 30)
 abbrev validShipDate : Rule

@@ -16,10 +16,10 @@ use Rattle.meaning.specs.Forms.{truth, number, Comparison, Form, formCou
 use Rattle.meaning.specs.Meaning.{compared, meaning, bookHolds}
 use Rattle.meaning.specs.Events.{Event, Lent, Refusal, after, batchRefusal}
 use Rattle.meaning.specs.Reach.{Change, changeBy, Direction, leftOf, rightOf, selected, Pair, pairKey, pairSelected, selectedPairs}
-use Rattle.meaning.specs.EventList.{wordsOf, eventList, touched}
+use Rattle.meaning.specs.EventList.{eventTypeWords, eventList, touched}
 use Rattle.meaning.specs.Answers.{accepted, brokenAt, refused, refusal, pairBroken, firstBroken, fullCheck, checkRefusal, Outcome, batchCheck}
 use Rattle.meaning.specs.Unmoved.{Unmoved, Through}
-use Rattle.meaning.specs.Cases.{Case, shown, table}
+use Rattle.meaning.specs.Cases.{Case, resultOf, table}
 
 -- ---- what the claims speak of
 
@@ -72,7 +72,7 @@ Untouched =
 
 -- "Order: the events' order above, then numbers, none twice"
 abbrev pub EventListAscends : Type 0
-EventListAscends = (k : Book) (r : Rule) → Ascending (Before wordsOf) (eventList (k .schema) r)
+EventListAscends = (k : Book) (r : Rule) → Ascending (Before eventTypeWords) (eventList (k .schema) r)
 
 -- ---- 3: the list
 
@@ -118,7 +118,7 @@ ComparisonsUnmoved =
 
 -- "Cases (a) to (m) are proved about the written meanings as one table with one theorem."
 abbrev pub CasesHold : Type 0
-CasesHold = map (λ (c : Case). shown (c .given)) table ≡ map (λ (c : Case). c .expected) table
+CasesHold = map (λ (c : Case). resultOf (c .given)) table ≡ map (λ (c : Case). c .expected) table
 
 -- ---- 8: the full check
 

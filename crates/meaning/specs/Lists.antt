@@ -60,12 +60,12 @@ before [] ys = false
 before (x ∷ xs) [] = false
 before (x ∷ xs) (y ∷ ys) = ltb x y || (eqb x y && before xs ys)
 
--- the same key
-abbrev pub same : List ℕ → List ℕ → Bool
-same [] [] = true
-same [] (y ∷ ys) = false
-same (x ∷ xs) [] = false
-same (x ∷ xs) (y ∷ ys) = eqb x y && same xs ys
+-- the two lists of numbers are one, as keys and as names
+abbrev pub sameList : List ℕ → List ℕ → Bool
+sameList [] [] = true
+sameList [] (y ∷ ys) = false
+sameList (x ∷ xs) [] = false
+sameList (x ∷ xs) (y ∷ ys) = eqb x y && sameList xs ys
 
 module _ {A : Type 0} (key : A → List ℕ) where
   -- the first comes before the second, by their keys
@@ -78,8 +78,8 @@ module _ {A : Type 0} (key : A → List ℕ) where
   ascends (some p) x = before (key p) (key x)
 
   -- Into its place in an ascending list. What is there already is not put in twice.
-  abbrev pub place : A → List A → List A
-  place x [] = x ∷ []
-  place x (y ∷ ys) =
+  abbrev pub putInOrder : A → List A → List A
+  putInOrder x [] = x ∷ []
+  putInOrder x (y ∷ ys) =
       cond (before (key x) (key y)) (x ∷ y ∷ ys)
-      (cond (before (key y) (key x)) (y ∷ place x ys) (y ∷ ys))
+      (cond (before (key y) (key x)) (y ∷ putInOrder x ys) (y ∷ ys))

@@ -47,18 +47,18 @@ pub data Kind : Type 0 where
   inserts deletes sets joins parts specials generals : Kind
 
 -- "place in that order from 0"
-abbrev pub placeOf : Kind → ℕ
-placeOf inserts = 0
-placeOf deletes = 1
-placeOf sets = 2
-placeOf joins = 3
-placeOf parts = 4
-placeOf specials = 5
-placeOf generals = 6
+abbrev pub kindPlace : Kind → ℕ
+kindPlace inserts = 0
+kindPlace deletes = 1
+kindPlace sets = 2
+kindPlace joins = 3
+kindPlace parts = 4
+kindPlace specials = 5
+kindPlace generals = 6
 
 -- the two are one kind
 abbrev pub sameKind : Kind → Kind → Bool
-sameKind j k = eqb (placeOf j) (placeOf k)
+sameKind j k = eqb (kindPlace j) (kindPlace k)
 
 -- The event is one of that kind, and the test holds of the numbers that it names, in their order and 0 after the last.
 abbrev pub among : Kind → (ℕ → ℕ → ℕ → Bool) → Event → Bool
@@ -149,17 +149,17 @@ rightOf ge = reversed
 rightOf gt = reversed
 
 -- "`and`, `or` as either part; `implies` reverses its left; `xor` either way by any movement of a part."
-unfoldable pub firstPart : Connective → Passing
-firstPart and = same
-firstPart or = same
-firstPart xor = either
-firstPart implies = reversed
+unfoldable pub firstTruth : Connective → Passing
+firstTruth and = same
+firstTruth or = same
+firstTruth xor = either
+firstTruth implies = reversed
 
-unfoldable pub secondPart : Connective → Passing
-secondPart and = same
-secondPart or = same
-secondPart xor = either
-secondPart implies = same
+unfoldable pub secondTruth : Connective → Passing
+secondTruth and = same
+secondTruth or = same
+secondTruth xor = either
+secondTruth implies = same
 
 -- "`forall` may turn false by gain, ..; true by loss, ... `exists`: false by loss .., true by gain"
 unfoldable pub sourceOf : Quantifier → Passing
@@ -210,7 +210,7 @@ kindMoves c u t down = someStep c (generalisesFrom (c .schema .types) t (eqb u))
 unfoldable pub moves : {s : Sort} → Change → Form s → List ℕ → Direction → Bool
 moves c (compare o a b) vs d = through _||_ (leftOf o) (moves c a vs) d || through _||_ (rightOf o) (moves c b vs) d
 moves c (negate a) vs d = through _||_ reversed (moves c a vs) d
-moves c (connect o a b) vs d = through _||_ (firstPart o) (moves c a vs) d || through _||_ (secondPart o) (moves c b vs) d
+moves c (connect o a b) vs d = through _||_ (firstTruth o) (moves c a vs) d || through _||_ (secondTruth o) (moves c b vs) d
 moves c (quantify q k b) vs d =
     through _||_ (sourceOf q) (moves c k vs) d || any (λ x. moves c b (bind vs x) d) (meaning (c .schema .types) (c .end) k vs)
 moves c (kind v t) vs d = kindMoves c (variable vs v) t d
