@@ -3,7 +3,7 @@ use Prim.Native.Nat.{ℕ, zero, suc, _≤_, zero-le, suc-le-suc}
 use mathlib.Core.Path.{_≡_, refl, sym, ap, subst, _∙_}
 use mathlib.Core.Logic.{_⊎_, inl, inr, ⊎-elim, _↔_}
 use mathlib.Core.Bool.{Bool, true, false, _&&_, _||_, not, cond}
-use mathlib.Core.List.{List, [], _∷_, _++_, map, List·Memᴰ·head, List·Memᴰ·tail, List·Memᴰ·not-nil, List·Memᴰ·cases-cons, List·Memᴰ·append-cases}
+use mathlib.Core.List.{List, [], _∷_, _++_, map, List·Memᴰ·head, List·Memᴰ·tail, List·Memᴰ·not-nil, List·Memᴰ·cases-cons, List·Memᴰ·append-cases, Memᴰ·of-map}
 use mathlib.Core.Option.{Option, none, some, Option·map, Option·none-ne-some, Option·some-injective}
 use native.Mathlib.Nat.{le-trans, le-suc}
 use lib.Dec.{T}
@@ -236,25 +236,13 @@ module _ {A : Type 0} where
   )
 
 module _ {A B : Type 0} (f : A → B) where
-  pub map-in : {x : A} {l : List A} → x ∈ l → f x ∈ map f l
-  map-in (List·Memᴰ·head e) = List·Memᴰ·head (ap f e)
-  map-in (List·Memᴰ·tail m) = List·Memᴰ·tail (map-in m)
-
-  pub map-from : (l : List A) {y : B} → y ∈ map f l → (x : A) × x ∈ l × (y ≡ f x)
-  map-from [] m = absurd (List·Memᴰ·not-nil m)
-  map-from (x ∷ xs) {y} m = step (λ n. map-from xs n) (List·Memᴰ·cases-cons m)
-    where
-      step : (y ∈ map f xs → (z : A) × z ∈ xs × (y ≡ f z)) → (y ≡ f x) ⊎ (y ∈ map f xs) → (z : A) × z ∈ (x ∷ xs) × (y ≡ f z)
-      step below (inl e) = (x, List·Memᴰ·head refl, e)
-      step below (inr n) = let r = below n in (r .0, List·Memᴰ·tail (r .1), r .2)
-
   -- a map that keeps the relation between members keeps the order
   pub ascending-map : (R : A → A → Type 0) (Q : B → B → Type 0) (l : List A) → ((x y : A) → x ∈ l → y ∈ l → R x y → Q (f x) (f y)) → Ascending R l → Ascending Q (map f l)
   ascending-map R Q [] h a = tt
   ascending-map R Q (x ∷ xs) h a = (
     λ y m.
-        let r = map-from xs m in
-        subst (Q (f x)) (sym (r .2)) (h x (r .0) (List·Memᴰ·head refl) (List·Memᴰ·tail (r .1)) (a .0 (r .0) (r .1))),
+        let r = Memᴰ·of-map f xs m in
+        subst (Q (f x)) (r .2) (h x (r .0) (List·Memᴰ·head refl) (List·Memᴰ·tail (r .1)) (a .0 (r .0) (r .1))),
     ascending-map R Q xs (λ z y m n. h z y (List·Memᴰ·tail m) (List·Memᴰ·tail n)) (a .1),
   )
 

@@ -3,7 +3,7 @@
 use Prim.Native.Nat.{ℕ, zero, suc, _+_, _≤_, _<_}
 use mathlib.Core.Path.{_≡_, refl, sym, ap, subst}
 use mathlib.Core.Logic.{⊎-elim}
-use mathlib.Core.List.{List, [], _∷_, map, List·Memᴰ·not-nil, Memᴰ·cast, Memᴰ·append-left, Memᴰ·append-right, List·Memᴰ·append-cases}
+use mathlib.Core.List.{Memᴰ·map, Memᴰ·of-map, List, [], _∷_, map, List·Memᴰ·not-nil, Memᴰ·cast, Memᴰ·append-left, Memᴰ·append-right, List·Memᴰ·append-cases}
 use mathlib.Core.Option.{some, Option·none-ne-some, Option·some-injective}
 use native.Mathlib.Nat.{add-zero, zero-add}
 use native.Mathlib.Omega.{arith}
@@ -14,7 +14,7 @@ use Rattle.meaning.specs.Register.{Register, objectKey, isUnder, instanc
 use Rattle.meaning.specs.Forms.{Rule, Book}
 use Rattle.meaning.specs.Reach.{Change, selected, Pair, pairOf, pairKey, pairsFrom, contextPairs, ofRule, pairSelected, selectedPairs}
 use Rattle.meaning.specs.Lists.{_∈_, Ascending, Before}
-use Rattle.meaning.proofs.Lists.{some-holds, keep-in, map-in, map-from, ascending-keep, ascending-map, ascending-append}
+use Rattle.meaning.proofs.Lists.{some-holds, keep-in, ascending-keep, ascending-map, ascending-append}
 use Rattle.meaning.proofs.Order.{before-head, before-tail}
 use Rattle.meaning.proofs.Touched.{selected-cases}
 use Rattle.meaning.proofs.Registers.{RegisterFits, instance-in, instances-ascend}
@@ -25,7 +25,7 @@ module _ (types : List ObjectType) (g : Register) where
   unfolding pairsFrom
   rules-from n [] m = absurd (List·Memᴰ·not-nil m)
   rules-from n (r ∷ rs) m =
-      ⊎-elim (λ k. omega (arith, ap (λ (q : Pair). q .rule) (map-from (pairOf n) (instances types g (r .context)) k .2)))
+      ⊎-elim (λ k. omega (arith, ap (λ (q : Pair). q .rule) (Memᴰ·of-map (pairOf n) (instances types g (r .context)) k .2)))
       (λ k. omega (arith, rules-from (suc n) rs k))
       (List·Memᴰ·append-cases (map (pairOf n) (instances types g (r .context))) m)
 
@@ -33,7 +33,7 @@ module _ (types : List ObjectType) (g : Register) where
   unfolding pairsFrom
   pairs-in n [] i {r} e m = absurd (Option·none-ne-some r e)
   pairs-in n (q ∷ rs) zero {r} e {x} m =
-      let n-first = map-in (pairOf n) (subst (λ a. x ∈ instances types g (a .context)) (sym (Option·some-injective q r e)) m) in
+      let n-first = Memᴰ·map (pairOf n) (subst (λ a. x ∈ instances types g (a .context)) (sym (Option·some-injective q r e)) m) in
       Memᴰ·append-left (pairsFrom types g (suc n) rs) (Memᴰ·cast (ap (λ a. pairOf a x) (add-zero n)) n-first)
   pairs-in n (q ∷ rs) (suc i) e {x} m =
       Memᴰ·append-right (map (pairOf n) (instances types g (q .context)))
@@ -47,7 +47,7 @@ module _ (types : List ObjectType) (g : Register) where
       (ascending-map (pairOf n) _<_ (Before pairKey) (instances types g (r .context)) (λ x y m k h. before-tail n n (x ∷ []) (y ∷ []) refl (before-head x y [] [] h)) (instances-ascend types g a (r .context)))
       (pairs-from-ascend a (suc n) rs)
       (λ x y m k.
-      let first = map-from (pairOf n) (instances types g (r .context)) m in
+      let first = Memᴰ·of-map (pairOf n) (instances types g (r .context)) m in
       before-head (x .rule) (y .rule) (x .id ∷ []) (y .id ∷ [])
       (omega (arith, ap (λ (p : Pair). p .rule) (first .2), rules-from (suc n) rs k)))
 

@@ -23,10 +23,11 @@ use Rattle.meaning.specs.Cases.{Case, resultOf, table}
 
 -- ---- what the claims speak of
 
--- the register after the batch, and the batch as the reach rules look at it
+-- the register after the batch
 abbrev pub endOf : Book → Register → List Event → Register
 endOf k g es = after (k .schema) g es
 
+-- the batch, as the reach rules look at it
 abbrev pub changeOf : Book → Register → List Event → Change
 changeOf k g es = changeBy (k .schema) g es
 
@@ -34,6 +35,7 @@ changeOf k g es = changeBy (k .schema) g es
 abbrev pub NotRefused : Book → Lent → Register → List Event → Type 0
 NotRefused k lent g es = (refusal k g ≡ none) × (batchRefusal (k .schema) lent g es ≡ none)
 
+-- a claim about each of them
 abbrev pub ForEach : (Book → Register → List Event → Type 0) → Type 0
 ForEach claim = (k : Book) (lent : Lent) (g : Register) (es : List Event) → NotRefused k lent g es → claim k g es
 
@@ -51,13 +53,15 @@ NothingPassedOver =
     (λ k g es.
     (p : Pair) → T (pairBroken k (endOf k g es) p) → T (not (pairSelected k (changeOf k g es) p)) → T (pairBroken k g p))
 
--- Demand 3: "If every rule holds in the register before the batch, the batch check's answer is that of a full check of the register
--- after the batch: accepted, or the same first broken pair." First of the listed pairs, whatever room there is for them.
+-- If every rule holds before the batch, the answer by the selected pairs is the full check's of the register after it. It is not asked that
+-- there is room for the pairs.
 abbrev pub Agreement : Type 0
 Agreement =
     ForEach
     (λ k g es. T (bookHolds k g) → firstBroken k (endOf k g es) (selectedPairs k (changeOf k g es)) ≡ fullCheck k (endOf k g es))
 
+-- Demand 3: "If every rule holds in the register before the batch, the batch check's answer is that of a full check of the register
+-- after the batch: accepted, or the same first broken pair."
 abbrev pub BatchAgreement : Type 0
 BatchAgreement = ForEachOutcome (λ k g es outcome. T (bookHolds k g) → outcome .answer ≡ fullCheck k (endOf k g es))
 
@@ -76,10 +80,11 @@ EventListAscends = (k : Book) (r : Rule) → Ascending (Before eventTypeWords) (
 
 -- ---- 3: the list
 
--- Demand 3: "the batch check's list names a pair exactly when document 01's reach rules select it, each once, ascending"
+-- Demand 3: "the batch check's list names a pair exactly when document 01's reach rules select it"
 abbrev pub ListSelects : Type 0
 ListSelects = ForEach (λ k g es. (p : Pair) → (p ∈ selectedPairs k (changeOf k g es)) ↔ T (pairSelected k (changeOf k g es) p))
 
+-- "each once, ascending", by rule and then id
 abbrev pub ListAscends : Type 0
 ListAscends = ForEach (λ k g es. Ascending (Before pairKey) (selectedPairs k (changeOf k g es)))
 
@@ -122,20 +127,21 @@ CasesHold = map (λ (c : Case). resultOf (c .given)) table ≡ map (λ (c : Case
 
 -- ---- 8: the full check
 
--- "A full check answers the first broken pair, lowest rule and then lowest id, or accepted." Demand 2: "A full check names the first
--- broken pair of rule and object, or none if none is broken." An answer is a refusal exactly when one is met,
+-- The full check answers a refusal exactly when that refusal of the book or the register is met.
 abbrev pub FullCheckRefused : Type 0
 FullCheckRefused =
     (k : Book) (g : Register) (r : Refusal) → (fullCheck k g ≡ refused (r .number) (r .place)) ↔ (refusal k g ≡ some r)
 
--- a pair exactly when that pair is broken and none before it is,
+-- "A full check answers the first broken pair, lowest rule and then lowest id": a pair exactly when that pair is broken and none before it
+-- is.
 abbrev pub FullCheckBroken : Type 0
 FullCheckBroken =
     (k : Book) (g : Register) (p : Pair)
     → (fullCheck k g ≡ brokenAt (p .rule) (p .id))
     ↔ ((refusal k g ≡ none) × T (pairBroken k g p) × ((q : Pair) → Before pairKey q p → T (not (pairBroken k g q))))
 
--- and accepted exactly when every rule holds.
+-- Demand 2: "A full check names the first broken pair of rule and object, or none if none is broken." Not refused, it accepts exactly when
+-- every rule holds.
 abbrev pub FullCheckAccepted : Type 0
 FullCheckAccepted = (k : Book) (g : Register) → (fullCheck k g ≡ accepted) ↔ ((refusal k g ≡ none) × T (bookHolds k g))
 
@@ -148,11 +154,12 @@ BatchRefused =
     → checkRefusal k lent g es ≡ some r
     → batchCheck k lent g es ≡ record { answer = refused (r .number) (r .place); pairs = []; register = g }
 
--- the list is that of claims 1 to 3
+-- The batch check lists the pairs that claims 1 to 3 speak of.
 abbrev pub BatchLists : Type 0
 BatchLists = ForEachOutcome (λ k g es outcome. outcome .pairs ≡ selectedPairs k (changeOf k g es))
 
--- Demand 3: "The batch check's answer comes from the listed pairs alone, the first of them broken after the batch,
+-- Demand 3: "The batch check's answer comes from the listed pairs alone, the first of them broken after the batch": a pair exactly when
+-- it is listed and broken there, and none listed before it is.
 abbrev pub BatchBroken : Type 0
 BatchBroken =
     ForEachOutcome
@@ -163,7 +170,7 @@ BatchBroken =
     × T (pairBroken k (endOf k g es) p)
     × ((q : Pair) → q ∈ outcome .pairs → Before pairKey q p → T (not (pairBroken k (endOf k g es) q)))))
 
--- else accepted, whatever held before."
+-- "else accepted, whatever held before": exactly when no listed pair is broken after the batch.
 abbrev pub BatchAccepted : Type 0
 BatchAccepted =
     ForEachOutcome
