@@ -9,7 +9,7 @@ use lib.Dec.{T, ltb, leb, eqb}
 use borrow.Author.Tests.{lt-ltb, le-leb}
 use Rattle.meaning.specs.Forms.{Sort, truth, number, collection}
 use Rattle.tables.specs.Codes.{Operator, comparing, negating, connecting, quantifying, kindOf, literal, cellOf, sizeOf, sumOf, combining, roleOf, allOf, selecting, operatorOf, shapeOf}
-use Rattle.tables.specs.Bodies.{BodyRow, Part, sortOf, sameSort, Reading, formOf, startOf, reads, partsFit, fieldsFit, readingOf, ending, firstPart, secondPart}
+use Rattle.tables.specs.Bodies.{BodyRow, Part, sortOf, sameSort, RowsRead, formOf, startOf, reads, partsFit, fieldsFit, readingOf, ending, firstPart, secondPart}
 use Rattle.tables.proofs.Readings.{Agree, ending-step}
 use Rattle.book.specs.Marks.{sortCode, mark, firstSort, secondSort, serves}
 
@@ -45,7 +45,7 @@ fields-test (suc (suc n)) r = simp (le-leb 2 (suc (suc n)) (omega arith)) (one (
 
 -- ---- marks
 
-mark-agree : {a b : Reading} → Agree a b → mark a ≡ mark b
+mark-agree : {a b : RowsRead} → Agree a b → mark a ≡ mark b
 unfolding mark
 mark-agree {a} {b} e = by-sound (a .sound) (b .sound) (e .sounds) (e .forms)
   where
@@ -54,7 +54,7 @@ mark-agree {a} {b} e = by-sound (a .sound) (b .sound) (e .sounds) (e .forms)
     by-sound false y e f = ap (λ z. cond z (sortCode (sortOf (b .form))) 3) e
 
 -- a part is of the sort that is wanted just where its mark is that sort's
-pub reads-mark : (s : Sort) (r : Reading) → reads s r ≡ eqb (sortCode s) (mark r)
+pub reads-mark : (s : Sort) (r : RowsRead) → reads s r ≡ eqb (sortCode s) (mark r)
 unfolding mark
 reads-mark s r = by-sound s (r .sound) (sortOf (r .form))
   where

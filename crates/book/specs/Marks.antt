@@ -8,7 +8,7 @@ use lib.ListN.{getD}
 use Rattle.meaning.specs.Limits.{maxForms}
 use Rattle.meaning.specs.Forms.{Sort, truth, number, collection}
 use Rattle.tables.specs.Codes.{Shape}
-use Rattle.tables.specs.Bodies.{BodyRow, bodyRow, sortOf, Reading, ending}
+use Rattle.tables.specs.Bodies.{BodyRow, bodyRow, sortOf, RowsRead, ending}
 
 -- the rows of a rule's body
 abbrev pub bodyOf : List ℕ → ℕ → ℕ → BodyRow
@@ -21,7 +21,7 @@ sortCode number = 1
 sortCode collection = 2
 
 -- the sort of what is read; 3 where it is no form
-unfoldable pub mark : Reading → ℕ
+unfoldable pub mark : RowsRead → ℕ
 mark r = cond (r .sound) (sortCode (sortOf (r .form))) 3
 
 -- the sorts of an operator's first and second part; 3 where it has none. An operator of one part has the second.

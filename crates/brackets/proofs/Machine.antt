@@ -19,17 +19,17 @@ use Rattle.text.specs.Entries.{rule, onlyEnd, bodyIn}
 use Rattle.text.proofs.Bodies.{form-spelled}
 use Rattle.brackets.specs.declared.BodyFound.{BodyFound}
 use Rattle.brackets.specs.Brackets.{bodyHeld, bodyAt}
-use Rattle.brackets.specs.Steps.{refused, lackOf, openedBy, filledBy, closedBy, noBody}
+use Rattle.brackets.specs.Steps.{noForm, lackOf, openedBy, filledBy, closedBy, noBody}
 
 unfoldable pub run : List Token → List ℕ → ℕ → BodyFound
 run [] [] n = record { good = true; forms = n }
 run [] (w ∷ s) n = noBody
 run (begin k ∷ ts) [] n = noBody
-run (begin k ∷ ts) (w ∷ s) n = cond (eqb (openedBy w k) refused) noBody (run ts (openedBy w k ∷ (w - 4) ∷ s) (n + 1))
+run (begin k ∷ ts) (w ∷ s) n = cond (eqb (openedBy w k) noForm) noBody (run ts (openedBy w k ∷ (w - 4) ∷ s) (n + 1))
 run (item v ∷ ts) [] n = noBody
-run (item v ∷ ts) (w ∷ s) n = cond (eqb (filledBy w v) refused) noBody (run ts (filledBy w v ∷ s) n)
+run (item v ∷ ts) (w ∷ s) n = cond (eqb (filledBy w v) noForm) noBody (run ts (filledBy w v ∷ s) n)
 run (end ∷ ts) [] n = noBody
-run (end ∷ ts) (w ∷ s) n = cond (eqb (closedBy w) refused) noBody (run ts s n)
+run (end ∷ ts) (w ∷ s) n = cond (eqb (closedBy w) noForm) noBody (run ts s n)
 
 -- ---- what operators lack
 
@@ -94,12 +94,12 @@ named-few name m e = go (leb firstOperator name) e
 
 -- ---- a token at an open form
 
-either : (b : Bool) → cond b refused refused ≡ refused
+either : (b : Bool) → cond b noForm noForm ≡ noForm
 either true = refl
 either false = refl
 
 -- no form in one that lacks no part, no field in one that lacks a part or no field, no end of one that lacks anything
-pub open-not : (w k : ℕ) → w < 4 → openedBy w k ≡ refused
+pub open-not : (w k : ℕ) → w < 4 → openedBy w k ≡ noForm
 unfolding openedBy
 open-not w k h = rw (lt-leb 4 w h)
 
@@ -107,28 +107,28 @@ pub open-is : (w k : ℕ) → 4 ≤ w → openedBy w k ≡ lackOf (needNamed k)
 unfolding openedBy
 open-is w k h = rw (le-leb 4 w h)
 
-pub fill-not : (w v : ℕ) → 4 ≤ w → filledBy w v ≡ refused
+pub fill-not : (w v : ℕ) → 4 ≤ w → filledBy w v ≡ noForm
 unfolding filledBy
 fill-not w v h = rw (lt-leb w 3 (omega arith))
 
-pub fill-none : (v : ℕ) → filledBy 0 v ≡ refused
+pub fill-none : (v : ℕ) → filledBy 0 v ≡ noForm
 unfolding filledBy
 fill-none v = either (isWord v)
 
-pub fill-is : (n v : ℕ) → n ≤ 2 → filledBy (suc n) v ≡ cond (isWord v) n refused
+pub fill-is : (n v : ℕ) → n ≤ 2 → filledBy (suc n) v ≡ cond (isWord v) n noForm
 unfolding filledBy
 fill-is n v h = rw (le-leb (suc n) 3 (omega arith))
 
-pub close-not : (w : ℕ) → 1 ≤ w → closedBy w ≡ refused
+pub close-not : (w : ℕ) → 1 ≤ w → closedBy w ≡ noForm
 close-not zero h = absurd (omega arith)
 close-not (suc n) h = refl
 
 -- by an operator's name, or another
-pub open-below : (w name : ℕ) → name < firstOperator → openedBy w name ≡ refused
+pub open-below : (w name : ℕ) → name < firstOperator → openedBy w name ≡ noForm
 unfolding openedBy needNamed
 open-below w name h = rw (lt-leb firstOperator name h) (either (leb 4 w))
 
-pub open-above : (w name : ℕ) → 34 < name → openedBy w name ≡ refused
+pub open-above : (w name : ℕ) → 34 < name → openedBy w name ≡ noForm
 unfolding openedBy needNamed
 open-above w name h = rw (le-leb firstOperator name (omega arith), need-none (name - firstOperator) (omega arith)) (either (leb 4 w))
 
@@ -136,7 +136,7 @@ pub open-word : (w name : ℕ) → 4 ≤ w → firstOperator ≤ name → name �
 unfolding openedBy needNamed
 open-word w name h k l = rw (le-leb 4 w h, le-leb firstOperator name k) (lack-word (name - firstOperator) (omega arith))
 
-pub fill-large : (w v : ℕ) → 4294967295 < v → filledBy w v ≡ refused
+pub fill-large : (w v : ℕ) → 4294967295 < v → filledBy w v ≡ noForm
 unfolding filledBy
 fill-large w v h = rw (le-ltb v dash (omega arith)) (either (leb w 3))
 
@@ -165,9 +165,9 @@ close-run (suc f) (item v ∷ ts) s n h = rw (fill-is f v (omega arith)) (go (is
     same none = refl
     same (some c) = refl
 
-    go : (b : Bool) → run ts (f ∷ s) n ≡ afterClose (closeIn f ts) s n → cond (eqb (cond b f refused) refused) noBody (run ts (cond b f refused ∷ s) n)
+    go : (b : Bool) → run ts (f ∷ s) n ≡ afterClose (closeIn f ts) s n → cond (eqb (cond b f noForm) noForm) noBody (run ts (cond b f noForm ∷ s) n)
         ≡ afterClose (cond b (Option·map (λ c. record { fields = v ∷ c .fields; rest = c .rest }) (closeIn f ts)) none) s n
-    go true e = rw (ne-eqb f refused (λ q. omega arith)) (e ∙ same (closeIn f ts))
+    go true e = rw (ne-eqb f noForm (λ q. omega arith)) (e ∙ same (closeIn f ts))
     go false e = refl
 
 -- ---- a whole form
@@ -233,12 +233,12 @@ form-run (suc fuel) (end ∷ ts) w s n h k = rw (close-not w (omega arith))
 form-run (suc fuel) (begin name ∷ ts) w s n h k = rw (open-is w name k) (go (λ l. form-run fuel l) (needNamed name) refl)
   where
     go : ((l : List Token) (w : ℕ) (s : List ℕ) (n : ℕ) → length l ≤ fuel → 4 ≤ w → run l (w ∷ s) n ≡ afterForm (formIn fuel l) ((w - 4) ∷ s) n)
-        → (o : Option Need) → needNamed name ≡ o → cond (eqb (lackOf o) refused) noBody (run ts (lackOf o ∷ (w - 4) ∷ s) (n + 1))
+        → (o : Option Need) → needNamed name ≡ o → cond (eqb (lackOf o) noForm) noBody (run ts (lackOf o ∷ (w - 4) ∷ s) (n + 1))
         ≡ afterForm (bind o (λ m. partsIn (λ rest. formIn fuel rest) (name - firstOperator) (m .parts) (m .fields) ts)) ((w - 4) ∷ s) n
     go right none e = refl
     go right (some m) e =
         let few = named-few name m e in
-        rw (ne-eqb (4 * m .parts + m .fields) refused (λ q. omega arith))
+        rw (ne-eqb (4 * m .parts + m .fields) noForm (λ q. omega arith))
         (parts-run (λ rest. formIn fuel rest) fuel right (rest-short fuel) (name - firstOperator) (m .parts) (m .fields) ts ((w - 4) ∷ s) n (few .0) (few .1) (omega arith))
 
 -- ---- a body

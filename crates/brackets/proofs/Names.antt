@@ -11,7 +11,7 @@ use borrow.Author.Tests.{le-leb, lt-leb, leb-true, eq-eqb, ne-eqb, eqb-true, eqb
 use lib.Dec.{eqb, leb}
 use lib.ListN.{length, getD, take, drop}
 use lib.Seq.{drop-cons}
-use Rattle.meaning.specs.Lists.{every, same}
+use Rattle.meaning.specs.Lists.{every, sameList}
 use Rattle.lexical.proofs.Runs.{both}
 use Rattle.text.specs.Names.{names, nameCount, nameOf, isLetter, placeFrom, placeOf}
 use Rattle.text.proofs.Names.{name-letters, name-found}
@@ -51,7 +51,7 @@ power-more end i v b h k s t =
     rw (n, pow-succ') (omega arith)
 
 -- letters that pack to one number are the same
-pub packed-same : (a b : List ℕ) → every isLetter a ≡ true → every isLetter b ≡ true → eqb (packed b) (packed a) ≡ same a b
+pub packed-same : (a b : List ℕ) → every isLetter a ≡ true → every isLetter b ≡ true → eqb (packed b) (packed a) ≡ sameList a b
 unfolding packed
 packed-same [] [] e f = refl
 packed-same [] (y ∷ b) e f =
@@ -68,7 +68,7 @@ packed-same (x ∷ a) (y ∷ b) e f =
     go (eqb x y) (eqb (packed b) (packed a)) refl refl h g (packed-same a b (k .1) (l .1))
   where
     go : (p q : Bool) → eqb x y ≡ p → eqb (packed b) (packed a) ≡ q → (97 ≤ x) × (x ≤ 122) → (97 ≤ y) × (y ≤ 122)
-        → eqb (packed b) (packed a) ≡ same a b → eqb (y + 256 * packed b) (x + 256 * packed a) ≡ (eqb x y && same a b)
+        → eqb (packed b) (packed a) ≡ sameList a b → eqb (y + 256 * packed b) (x + 256 * packed a) ≡ (eqb x y && sameList a b)
     go true true m n h g i =
         let u = eqb-true x y m in
         let v = eqb-true (packed b) (packed a) n in
@@ -100,7 +100,7 @@ unfolding nameWords
 word-at k h = mapped packed names [] 0 k (within k h)
 
 -- the search from a name on
-pub place-step : (l : List ℕ) (k : ℕ) → k < nameCount → placeFrom l k (drop k names) ≡ cond (same l (nameOf k)) (some k) (placeFrom l (k + 1) (drop (k + 1) names))
+pub place-step : (l : List ℕ) (k : ℕ) → k < nameCount → placeFrom l k (drop k names) ≡ cond (sameList l (nameOf k)) (some k) (placeFrom l (k + 1) (drop (k + 1) names))
 place-step l k h = rw (add-one, drop-cons names k [] (within k h))
 
 pub place-one : (l : List ℕ) (k : ℕ) → every isLetter l ≡ true → k < nameCount

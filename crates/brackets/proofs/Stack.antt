@@ -18,7 +18,7 @@ use Rattle.brackets.specs.declared.Found.{Found}
 use Rattle.brackets.specs.declared.Found.the-variants.{Begin, Item, End, Bad}
 use Rattle.brackets.specs.declared.BodyFound.{BodyFound}
 use Rattle.brackets.specs.Brackets.{foundAt, bodyAt}
-use Rattle.brackets.specs.Steps.{refused, openedBy, filledBy, closedBy, lackingAfter, noBody, endedAt}
+use Rattle.brackets.specs.Steps.{noForm, openedBy, filledBy, closedBy, lackingAfter, noBody, endedAt}
 use Rattle.brackets.proofs.Tokens.{Stands, found-stands, found-bad, tokens-more}
 use Rattle.brackets.proofs.Machine.{run, runOn, body-run, open-not}
 
@@ -53,38 +53,38 @@ run-bad o w s n (inr e) = rw e
 
 -- a token that may not stand there
 module _ (w : ℕ) (s : List ℕ) (n : ℕ) where
-  begin-refused : (k : ℕ) (o : Option (List Token)) → openedBy w k ≡ refused → runOn (Option·map (λ ts. begin k ∷ ts) o) (w ∷ s) n ≡ noBody
+  begin-refused : (k : ℕ) (o : Option (List Token)) → openedBy w k ≡ noForm → runOn (Option·map (λ ts. begin k ∷ ts) o) (w ∷ s) n ≡ noBody
   unfolding run
   begin-refused k none e = refl
   begin-refused k (some ts) e = rw e
 
-  item-refused : (v : ℕ) (o : Option (List Token)) → filledBy w v ≡ refused → runOn (Option·map (λ ts. item v ∷ ts) o) (w ∷ s) n ≡ noBody
+  item-refused : (v : ℕ) (o : Option (List Token)) → filledBy w v ≡ noForm → runOn (Option·map (λ ts. item v ∷ ts) o) (w ∷ s) n ≡ noBody
   unfolding run
   item-refused v none e = refl
   item-refused v (some ts) e = rw e
 
-  end-refused : (o : Option (List Token)) → closedBy w ≡ refused → runOn (Option·map (λ ts. end ∷ ts) o) (w ∷ s) n ≡ noBody
+  end-refused : (o : Option (List Token)) → closedBy w ≡ noForm → runOn (Option·map (λ ts. end ∷ ts) o) (w ∷ s) n ≡ noBody
   unfolding run
   end-refused none e = refl
   end-refused (some ts) e = rw e
 
   -- and one that may
-  begin-taken : (k : ℕ) (o : Option (List Token)) → openedBy w k ≢ refused → runOn (Option·map (λ ts. begin k ∷ ts) o) (w ∷ s) n ≡ runOn o (openedBy w k ∷ (w - 4) ∷ s) (n + 1)
+  begin-taken : (k : ℕ) (o : Option (List Token)) → openedBy w k ≢ noForm → runOn (Option·map (λ ts. begin k ∷ ts) o) (w ∷ s) n ≡ runOn o (openedBy w k ∷ (w - 4) ∷ s) (n + 1)
   unfolding run
   begin-taken k none e = refl
-  begin-taken k (some ts) e = rw (ne-eqb (openedBy w k) refused e)
+  begin-taken k (some ts) e = rw (ne-eqb (openedBy w k) noForm e)
 
-  item-taken : (v : ℕ) (o : Option (List Token)) → filledBy w v ≢ refused → runOn (Option·map (λ ts. item v ∷ ts) o) (w ∷ s) n ≡ runOn o (filledBy w v ∷ s) n
+  item-taken : (v : ℕ) (o : Option (List Token)) → filledBy w v ≢ noForm → runOn (Option·map (λ ts. item v ∷ ts) o) (w ∷ s) n ≡ runOn o (filledBy w v ∷ s) n
   unfolding run
   item-taken v none e = refl
-  item-taken v (some ts) e = rw (ne-eqb (filledBy w v) refused e)
+  item-taken v (some ts) e = rw (ne-eqb (filledBy w v) noForm e)
 
-  end-taken : (o : Option (List Token)) → closedBy w ≢ refused → runOn (Option·map (λ ts. end ∷ ts) o) (w ∷ s) n ≡ runOn o s n
+  end-taken : (o : Option (List Token)) → closedBy w ≢ noForm → runOn (Option·map (λ ts. end ∷ ts) o) (w ∷ s) n ≡ runOn o s n
   unfolding run
   end-taken none e = refl
-  end-taken (some ts) e = rw (ne-eqb (closedBy w) refused e)
+  end-taken (some ts) e = rw (ne-eqb (closedBy w) noForm e)
 
-pub opened-lacks : (w k after : ℕ) → after ≡ openedBy w k → after ≢ refused → 4 ≤ w
+pub opened-lacks : (w k after : ℕ) → after ≡ openedBy w k → after ≢ noForm → 4 ≤ w
 opened-lacks w k after e q = go (leb 4 w) refl
   where
     go : (b : Bool) → leb 4 w ≡ b → 4 ≤ w
@@ -123,7 +123,7 @@ pub begin-room : (t : List ℕ) (i k next depth : ℕ) → Stands t i (begin k) 
 begin-room t i k next depth s h d = let b = s .takes in let n = s .inside in (omega arith, omega arith)
 
 module _ (t : List ℕ) (i : ℕ) (outer : List ℕ) (depth lacks forms : ℕ) (answer : BodyFound) (r : Running t i outer depth lacks forms answer) where
-  pub running-refused : (f : Found) → f ≡ foundAt i (tokenIn (drop i t)) → lackingAfter lacks f ≡ refused → answer ≡ noBody
+  pub running-refused : (f : Found) → f ≡ foundAt i (tokenIn (drop i t)) → lackingAfter lacks f ≡ noForm → answer ≡ noBody
   running-refused (Begin k next) e q =
       let s = found-stands t i (Begin k next) (begin k) e refl in
       sym (r .gives) ∙ rw (s .tokens) (begin-refused lacks (under outer depth) forms k (tokensIn (drop next t)) q)
@@ -135,7 +135,7 @@ module _ (t : List ℕ) (i : ℕ) (outer : List ℕ) (depth lacks forms : ℕ) (
       sym (r .gives) ∙ rw (s .tokens) (end-refused lacks (under outer depth) forms (tokensIn (drop next t)) q)
   running-refused Bad e q = sym (r .gives) ∙ run-bad (tokensIn (drop i t)) lacks (under outer depth) forms (found-bad t i e)
 
-  pub running-begin : (k next after : ℕ) → Stands t i (begin k) next → length t ≤ maxText → after ≡ openedBy lacks k → after ≢ refused
+  pub running-begin : (k next after : ℕ) → Stands t i (begin k) next → length t ≤ maxText → after ≡ openedBy lacks k → after ≢ noForm
       → Running t next (set outer depth (lacks - 4)) (depth + 1) after (forms + 1) answer
   running-begin k next after s h e q =
       let b = begin-room t i k next depth s h (r .deep) in
@@ -150,7 +150,7 @@ module _ (t : List ℕ) (i : ℕ) (outer : List ℕ) (depth lacks forms : ℕ) (
             (sym (begin-taken lacks (under outer depth) forms k (tokensIn (drop next t)) (λ z. q (e ∙ z))) ∙ rw (← s .tokens) (r .gives));
       }
 
-  pub running-item : (v next after : ℕ) → Stands t i (item v) next → after ≡ filledBy lacks v → after ≢ refused → Running t next outer depth after forms answer
+  pub running-item : (v next after : ℕ) → Stands t i (item v) next → after ≡ filledBy lacks v → after ≢ noForm → Running t next outer depth after forms answer
   running-item v next after s e q =
       let n = s .further in
       let d = r .deep in
@@ -162,7 +162,7 @@ module _ (t : List ℕ) (i : ℕ) (outer : List ℕ) (depth lacks forms : ℕ) (
         gives = rw e (sym (item-taken lacks (under outer depth) forms v (tokensIn (drop next t)) (λ z. q (e ∙ z))) ∙ rw (← s .tokens) (r .gives));
       }
 
-  pub running-end : (next after : ℕ) → Stands t i end next → after ≡ closedBy lacks → after ≢ refused → 1 ≤ depth → Running t next outer (depth - 1) (getD outer (depth - 1) 0) forms answer
+  pub running-end : (next after : ℕ) → Stands t i end next → after ≡ closedBy lacks → after ≢ noForm → 1 ≤ depth → Running t next outer (depth - 1) (getD outer (depth - 1) 0) forms answer
   running-end next after s e q h =
       let n = s .further in
       let d = r .deep in
@@ -176,7 +176,7 @@ module _ (t : List ℕ) (i : ℕ) (outer : List ℕ) (depth lacks forms : ℕ) (
             (sym (end-taken lacks (under outer depth) forms (tokensIn (drop next t)) (λ z. q (e ∙ z))) ∙ rw (← s .tokens) (r .gives));
       }
 
-  pub running-done : (next after : ℕ) → Stands t i end next → after ≡ closedBy lacks → after ≢ refused → depth < 1 → answer ≡ endedAt (drop next t) forms
+  pub running-done : (next after : ℕ) → Stands t i end next → after ≡ closedBy lacks → after ≢ noForm → depth < 1 → answer ≡ endedAt (drop next t) forms
   unfolding under
   running-done next after s e q h =
       let z : depth ≡ 0 = omega arith in

@@ -18,35 +18,35 @@ packed (b ∷ l) = b + 256 * packed l
 -- ---- an open form, by what it lacks: four times how many parts, and how many fields
 
 -- no form lacks so much
-abbrev pub refused : ℕ
-refused = 255
+abbrev pub noForm : ℕ
+noForm = 255
 
 abbrev pub lackOf : Option Need → ℕ
-lackOf none = refused
+lackOf none = noForm
 lackOf (some n) = 4 * n .parts + n .fields
 
 -- a form of a name, in one that lacks a part
 unfoldable pub openedBy : ℕ → ℕ → ℕ
-openedBy lacks name = cond (leb 4 lacks) (lackOf (needNamed name)) refused
+openedBy lacks name = cond (leb 4 lacks) (lackOf (needNamed name)) noForm
 
 -- a field, in one that lacks a field and no part
 abbrev pub oneLess : ℕ → ℕ
-oneLess zero = refused
+oneLess zero = noForm
 oneLess (suc n) = n
 
 unfoldable pub filledBy : ℕ → ℕ → ℕ
-filledBy lacks value = cond (leb lacks 3) (cond (isWord value) (oneLess lacks) refused) refused
+filledBy lacks value = cond (leb lacks 3) (cond (isWord value) (oneLess lacks) noForm) noForm
 
 -- a closed bracket, of one that lacks nothing
 abbrev pub closedBy : ℕ → ℕ
 closedBy zero = 0
-closedBy (suc n) = refused
+closedBy (suc n) = noForm
 
 abbrev pub lackingAfter : ℕ → Found → ℕ
 lackingAfter lacks (Begin name next) = openedBy lacks name
 lackingAfter lacks (Item value next) = filledBy lacks value
 lackingAfter lacks (End next) = closedBy lacks
-lackingAfter lacks Bad = refused
+lackingAfter lacks Bad = noForm
 
 abbrev pub noBody : BodyFound
 noBody = record { good = false; forms = 0 }

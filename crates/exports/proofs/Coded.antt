@@ -12,7 +12,7 @@ use Rattle.tables.specs.Refusals.{verdictOf}
 use Rattle.tables.specs.declared.Verdict.the-variants.{Clear, Refused}
 use Rattle.full.specs.Answers.{answerOf}
 use Rattle.full.specs.declared.Answer.the-variants as Answers
-use Rattle.exports.specs.Coded.{coded, wordsOf, readWords}
+use Rattle.exports.specs.Coded.{coded, answerWords, readWords}
 
 pub coded-clear : (o : Option Refusal) → Clear ≡ verdictOf o → coded o ≡ 0
 unfolding coded
@@ -24,20 +24,20 @@ unfolding coded
 coded-refused none e = cc
 coded-refused (some r) e = cc
 
-pub words-accepted : (a : Answer) → Answers.Accepted ≡ answerOf a → 0 ∷ 0 ∷ 0 ∷ [] ≡ wordsOf a
-unfolding wordsOf
+pub words-accepted : (a : Answer) → Answers.Accepted ≡ answerOf a → 0 ∷ 0 ∷ 0 ∷ [] ≡ answerWords a
+unfolding answerWords
 words-accepted accepted e = refl
 words-accepted (brokenAt rule id) e = cc
 words-accepted (refused number place) e = cc
 
-pub words-broken : (a : Answer) {rule id : ℕ} → Answers.Broken rule id ≡ answerOf a → 1 ∷ rule ∷ id ∷ [] ≡ wordsOf a
-unfolding wordsOf
+pub words-broken : (a : Answer) {rule id : ℕ} → Answers.Broken rule id ≡ answerOf a → 1 ∷ rule ∷ id ∷ [] ≡ answerWords a
+unfolding answerWords
 words-broken accepted e = cc
 words-broken (brokenAt rule id) e = cc
 words-broken (refused number place) e = cc
 
-pub words-refused : (a : Answer) {number place : ℕ} → Answers.Refused number place ≡ answerOf a → 2 ∷ number ∷ place ∷ [] ≡ wordsOf a
-unfolding wordsOf
+pub words-refused : (a : Answer) {number place : ℕ} → Answers.Refused number place ≡ answerOf a → 2 ∷ number ∷ place ∷ [] ≡ answerWords a
+unfolding answerWords
 words-refused accepted e = cc
 words-refused (brokenAt rule id) e = cc
 words-refused (refused number place) e = cc

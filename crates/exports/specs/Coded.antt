@@ -21,10 +21,10 @@ coded none = 0
 coded (some r) = (r .number) * 2 ^ 32 + r .place
 
 -- an answer as three words: 0 accepted; 1, rule, id; 2, number, place
-unfoldable pub wordsOf : Answer → List ℕ
-wordsOf accepted = 0 ∷ 0 ∷ 0 ∷ []
-wordsOf (brokenAt rule id) = 1 ∷ rule ∷ id ∷ []
-wordsOf (Answers.refused number place) = 2 ∷ number ∷ place ∷ []
+unfoldable pub answerWords : Answer → List ℕ
+answerWords accepted = 0 ∷ 0 ∷ 0 ∷ []
+answerWords (brokenAt rule id) = 1 ∷ rule ∷ id ∷ []
+answerWords (Answers.refused number place) = 2 ∷ number ∷ place ∷ []
 
 -- what a text meets that is read into lent tables
 abbrev pub lentReading : List ℕ → List ℕ → List ℕ → List ℕ → List ℕ → List ℕ → List ℕ → List ℕ → Reading

@@ -10,7 +10,7 @@ ghost use Rattle.full.specs.Answers.{lentAnswer};
 ghost use Rattle.text.specs.Names.{typeName, relationshipName, ruleName, objectName, linkName};
 ghost use Rattle.text.specs.Entries.{eventSection, tableOf, bodiesOf};
 ghost use Rattle.reader.specs.Reads.{tableAfter};
-ghost use Rattle.exports.specs.Coded.{coded, countsOf, wordsOf, lentReading, readWords};
+ghost use Rattle.exports.specs.Coded.{coded, countsOf, answerWords, lentReading, readWords};
 
 // Refusals 2, 6, 3, 4 and 5 of a lent book and register: a refusal's number times 2^32 plus its place, or 0.
 #[no_mangle]
@@ -67,7 +67,7 @@ pub extern "C" fn checker_full_check(
     links: &[u32],
     answer: &mut [u32; 3],
 )
-    ensures { λ r. ⌜ now (answer .exit) ≡ wordsOf (lentAnswer (lentTables (countsOf «types_used» «relationships_used» «rules_used» «objects_used» «links_used») (now (types .entry)) (now (relationships .entry)) (now (rules .entry)) (now (bodies .entry)) (now (objects .entry)) (now (links .entry)))) ⌝ }
+    ensures { λ r. ⌜ now (answer .exit) ≡ answerWords (lentAnswer (lentTables (countsOf «types_used» «relationships_used» «rules_used» «objects_used» «links_used») (now (types .entry)) (now (relationships .entry)) (now (rules .entry)) (now (bodies .entry)) (now (objects .entry)) (now (links .entry)))) ⌝ }
 {
     let n = Counts {
         types: types_used,

@@ -2,39 +2,25 @@
 use Prim.Native.Nat.{ℕ, _<_}
 use mathlib.Core.Path.{_≡_, sym, subst}
 use mathlib.Core.Logic.{⊎-elim}
-use mathlib.Core.Bool.{Bool, _&&_, _||_, not}
+use mathlib.Core.Bool.{Bool, not}
 use mathlib.Core.List.{List}
 use mathlib.Core.Option.{none}
-use lib.Dec.{T, eqb, eqb→eq}
-use mir.Facts.{and-yes, yes-and, and-no, T-not, not-T}
+use lib.Dec.{T, eqb}
+use mir.Facts.{and-no, T-not, not-T}
 use Rattle.meaning.specs.Schema.{ObjectType, Relationship, Schema, cellsOf, farType}
-use Rattle.meaning.specs.Register.{Link, Register, present, isUnder, cellAt, instances, sameLink, hasLink, farEnd, startsAt, farEnds}
+use Rattle.meaning.specs.Register.{Link, Register, present, isUnder, cellAt, instances, hasLink, farEnd, startsAt, farEnds}
 use Rattle.meaning.specs.Forms.{truth}
 use Rattle.meaning.specs.Events.{Event, Lent, apply, after, eventRefusal}
-use Rattle.meaning.specs.Reach.{Change, changeBy, someStep, subject, linkNamed, joins, parts, sets, insertsInto, specialisesInto, deletesFrom, generalisesFrom, Direction, up, down, roleMoves, bringsIn, takesOut, allMoves, cellMoves, kindMoves, inserted, specialised}
-use Rattle.meaning.specs.Lists.{any}
-use Rattle.meaning.proofs.Lists.{_∈_, or-left, or-right, any-map}
+use Rattle.meaning.specs.Reach.{stepAt, Change, changeBy, someStep, inserts, deletes, specials, generals, joined, parted, setsCell, insertsInto, specialisesInto, deletesFrom}
+use Rattle.meaning.specs.Reach.{generalisesFrom, bringsIn, takesOut, anyone, Direction, up, down, roleMoves, allMoves, cellMoves, kindMoves, inserted, specialised}
+use Rattle.meaning.specs.Lists.{_∈_}
+use Rattle.meaning.proofs.Lists.{or-left, or-right}
 use Rattle.meaning.proofs.Schemas.{TypesFit}
-use Rattle.meaning.proofs.Registers.{RegisterFits, same-link, under-present, instance-in, instance-from, far-in, far-from, far-under}
+use Rattle.meaning.proofs.Registers.{RegisterFits, under-present, instance-in, instance-from, far-in, far-from, far-under}
 use Rattle.meaning.proofs.Effects.{link-stays, link-was, under-stays, under-was, cell-same, insert-absent, delete-absent}
-use Rattle.meaning.proofs.Monotone.{Unmoved}
+use Rattle.meaning.specs.Unmoved.{Unmoved}
 use Rattle.meaning.proofs.Movement.{UnmovedKept, Leaves}
-use Rattle.meaning.proofs.Steps.{Throughout, EachStep, Unrefused, at-start, at-end, throughout-map, throughout-both, each-side, each-both, each-map, unchanged, forwards, backwards, no-step, fits-throughout, each-fit}
-
--- the event did so to the object x
-abbrev pub about : (Register → Event → Bool) → ℕ → Register → Event → Bool
-about did x g e = did g e && eqb (subject e) x
-
--- the event did so to the link l
-abbrev pub names : (Event → Bool) → Link → Register → Event → Bool
-names did l g e = did e && sameLink l (linkNamed e)
-
--- what no step did, no step did that does more
-some-narrow : (c : Change) (did narrower : Register → Event → Bool) → ((g : Register) (e : Event) → T (narrower g e) → T (did g e)) → T (not (someStep c did)) → T (not (someStep c narrower))
-unfolding someStep
-some-narrow c did narrower f n =
-    not-T (any (λ s. narrower (s .met) (s .event)) (c .steps))
-    (λ t. T-not (any (λ s. did (s .met) (s .event)) (c .steps)) (any-map (λ s. narrower (s .met) (s .event)) (λ s. did (s .met) (s .event)) (c .steps) (λ s m. f (s .met) (s .event)) t) n)
+use Rattle.meaning.proofs.Steps.{among-whom, holds-at, none-map, Throughout, EachStep, Unrefused, at-start, at-end, throughout-map, throughout-both, each-side, each-both, each-map, unchanged, forwards, backwards, no-step, fits-throughout, each-fit}
 
 module _ (S : Schema) (types-fit : TypesFit (S .types)) (lent : Lent) (g : Register) (fits : RegisterFits S g) (es : List Event) (ok : Unrefused S lent g es) where
   abbrev types : List ObjectType
@@ -65,14 +51,6 @@ module _ (S : Schema) (types-fit : TypesFit (S .types)) (lent : Lent) (g : Regis
 
   -- ---- roles
 
-  not-joined : (l : Link) → T (not (someStep c (names joins l))) → T (hasLink (after S g es) l) → Linked l
-  not-joined l n h =
-      held (λ g′. T (hasLink g′ l)) _ (λ g′ f e o. link-was S types-fit lent g′ f e o l) (no-step S (names joins l) g es n) h
-
-  not-parted : (l : Link) → T (not (someStep c (names parts l))) → T (hasLink g l) → Linked l
-  not-parted l n h =
-      persists (λ g′. T (hasLink g′ l)) _ (λ g′ f e o. link-stays S types-fit lent g′ f e o l) (no-step S (names parts l) g es n) h
-
   link-kept : (r x : ℕ) (l : Link) → T (startsAt r x l) → Linked l → Kept (farEnd r l) (farType relationships r)
   link-kept r x l s h =
       throughout-map S _ _ (λ g′ k. far-under S g′ (k .0) r x l (k .1) s) g es
@@ -82,26 +60,14 @@ module _ (S : Schema) (types-fit : TypesFit (S .types)) (lent : Lent) (g : Regis
   pub no-gain : (r x : ℕ) → T (not (roleMoves c r x up)) → (l : Link) → T (startsAt r x l) → T (hasLink (after S g es) l) → Linked l
   unfolding roleMoves
   no-gain r x n l s h =
-      not-joined l
-      (some-narrow c (λ g′ e. joins e && (startsAt r x (linkNamed e) && hasLink (after S g es) (linkNamed e))) (names joins l)
-      (λ g′ e t.
-      let ts = and-yes (joins e) (sameLink l (linkNamed e)) t in
-      yes-and (joins e) _ (ts .0)
-      (yes-and (startsAt r x (linkNamed e)) _ (subst (λ k. T (startsAt r x k)) (same-link l (linkNamed e) (ts .1)) s) (subst (λ k. T (hasLink (after S g es) k)) (same-link l (linkNamed e) (ts .1)) h)))
-      n)
-      h
+      held (λ g′. T (hasLink g′ l)) _ (λ g′ f e o. link-was S types-fit lent g′ f e o r x (hasLink (after S g es)) l s h)
+      (no-step S (joined r x (hasLink (after S g es))) g es n) h
 
   -- with no loss, a link that was there is there all the while
   no-loss : (r x : ℕ) → T (not (roleMoves c r x down)) → (l : Link) → T (startsAt r x l) → T (hasLink g l) → Linked l
   unfolding roleMoves
   no-loss r x n l s h =
-      not-parted l
-      (some-narrow c (λ g′ e. parts e && startsAt r x (linkNamed e)) (names parts l)
-      (λ g′ e t.
-      let ts = and-yes (parts e) (sameLink l (linkNamed e)) t in
-      yes-and (parts e) _ (ts .0) (subst (λ k. T (startsAt r x k)) (same-link l (linkNamed e) (ts .1)) s))
-      n)
-      h
+      persists (λ g′. T (hasLink g′ l)) _ (λ g′ f e o. link-stays S types-fit lent g′ f e o r x l s) (no-step S (parted r x) g es n) h
 
   role-end : (r x y : ℕ) → T (not (roleMoves c r x up)) → y ∈ farEnds (after S g es) r x → y ∈ farEnds g r x × Kept y (farType relationships r)
   role-end r x y n m =
@@ -130,32 +96,31 @@ module _ (S : Schema) (types-fit : TypesFit (S .types)) (lent : Lent) (g : Regis
   unfolding inserted specialised
   not-brought-in x t ni ns u =
       held (λ g′. T (isUnder types g′ x t)) _ (λ g′ f e o k. under-was S types-fit lent g′ f e o x t (k .0) (k .1))
-      (each-both S _ _ g es (no-step S (about (insertsInto S t) x) g es ni) (no-step S (about (specialisesInto S t) x) g es ns)) u
+      (each-both S _ _ g es (no-step S (insertsInto types t (eqb x)) g es ni) (no-step S (specialisesInto types t (eqb x)) g es ns)) u
 
   -- an object under t, whom no delete and no general took out of t, stays under t all the while
-  not-taken-out : (x t : ℕ) → T (not (someStep c (about (deletesFrom S t) x))) → T (not (someStep c (about (generalisesFrom S t) x))) → T (isUnder types g x t) → Kept x t
+  not-taken-out : (x t : ℕ) → T (not (someStep c (deletesFrom types t (eqb x)))) → T (not (someStep c (generalisesFrom types t (eqb x)))) → T (isUnder types g x t) → Kept x t
   not-taken-out x t nd ng u =
       persists (λ g′. T (isUnder types g′ x t)) _ (λ g′ f e o k. under-stays S types-fit lent g′ f e o x t (k .0) (k .1))
-      (each-both S _ _ g es (no-step S (about (deletesFrom S t) x) g es nd) (no-step S (about (generalisesFrom S t) x) g es ng)) u
+      (each-both S _ _ g es (no-step S (deletesFrom types t (eqb x)) g es nd) (no-step S (generalisesFrom types t (eqb x)) g es ng)) u
 
   all-end : (t x : ℕ) → T (not (allMoves c t up)) → T (isUnder types (after S g es) x t) → Kept x t
-  unfolding allMoves bringsIn inserted specialised
-  all-end t x n u = not-brought-in x t (narrowed (insertsInto S t) (λ g′ e i. or-left (insertsInto S t g′ e) (specialisesInto S t g′ e) i)) (narrowed (specialisesInto S t) (λ g′ e i. or-right (insertsInto S t g′ e) (specialisesInto S t g′ e) i)) u
-    where
-      narrowed : (did : Register → Event → Bool) → ((g′ : Register) (e : Event) → T (did g′ e) → T (insertsInto S t g′ e || specialisesInto S t g′ e)) → T (not (someStep c (about did x)))
-      narrowed did f =
-          some-narrow c _ (about did x)
-          (λ g′ e h.
-          let hs = and-yes (did g′ e) (eqb (subject e) x) h in
-          yes-and (insertsInto S t g′ e || specialisesInto S t g′ e) _ (f g′ e (hs .0)) (subst (λ y. T (isUnder types (after S g es) y t)) (sym (eqb→eq (subject e) x (hs .1))) u))
-          n
+  unfolding allMoves inserted specialised
+  all-end t x n u =
+      let there : ℕ → Bool = λ y. isUnder types (after S g es) y t in
+      let came = holds-at there x u in
+      not-brought-in x t
+      (none-map c _ (bringsIn types t there) (λ s i. or-left (insertsInto types t there s) _ (among-whom inserts _ (eqb x) there came (s .event) i)) n)
+      (none-map c _ (bringsIn types t there) (λ s i. or-right (insertsInto types t there s) _ (among-whom specials _ (eqb x) there came (s .event) i)) n)
+      u
 
   all-start : (t x : ℕ) → T (not (allMoves c t down)) → T (isUnder types g x t) → Kept x t
-  unfolding allMoves takesOut
+  unfolding allMoves
   all-start t x n u =
+      let went = holds-at anyone x tt in
       not-taken-out x t
-      (some-narrow c _ (about (deletesFrom S t) x) (λ g′ e h. or-left (deletesFrom S t g′ e) (generalisesFrom S t g′ e) (and-yes (deletesFrom S t g′ e) (eqb (subject e) x) h .0)) n)
-      (some-narrow c _ (about (generalisesFrom S t) x) (λ g′ e h. or-right (deletesFrom S t g′ e) (generalisesFrom S t g′ e) (and-yes (generalisesFrom S t g′ e) (eqb (subject e) x) h .0)) n)
+      (none-map c _ (takesOut types t anyone) (λ s i. or-left (deletesFrom types t anyone s) _ (among-whom deletes _ (eqb x) anyone went (s .event) i)) n)
+      (none-map c _ (takesOut types t anyone) (λ s i. or-right (deletesFrom types t anyone s) _ (among-whom generals _ (eqb x) anyone went (s .event) i)) n)
       u
 
   end-register : RegisterFits S (after S g es)
@@ -185,7 +150,7 @@ module _ (S : Schema) (types-fit : TypesFit (S .types)) (lent : Lent) (g : Regis
       unchanged S (λ g′. cellAt g′ x k) g es
       (each-map S _ _ (λ g′ e q. cell-same S types-fit lent g′ (q .0 .0) e (q .0 .1) x t k l (q .1 .0 .0) (q .1 .0 .1) (q .1 .1)) g es
       (each-both S _ _ g es (each-fit S types-fit lent g es fits ok)
-      (each-both S _ _ g es (kept-sides x t h) (no-step S (λ g′ e. sets k e && eqb (subject e) x) g es n))))
+      (each-both S _ _ g es (kept-sides x t h) (no-step S (setsCell (eqb x) k) g es n))))
 
   -- ---- kinds: an object that is kept is neither inserted nor deleted
 
@@ -193,14 +158,14 @@ module _ (S : Schema) (types-fit : TypesFit (S .types)) (lent : Lent) (g : Regis
   unfolding specialised
   not-special-in x u t h n e =
       held (λ g′. T (isUnder types g′ x t)) _
-      (λ g′ f e o k. under-was S types-fit lent g′ f e o x t (not-T (about (insertsInto S t) x g′ e) (λ i. T-not (present g′ x) (under-present types g′ x u (k .0 .0)) (insert-absent S types-fit lent g′ f e o x t i))) (k .1))
-      (each-both S _ _ g es (kept-sides x u h) (no-step S (about (specialisesInto S t) x) g es n)) e
+      (λ g′ f e o k. under-was S types-fit lent g′ f e o x t (not-T (insertsInto types t (eqb x) (stepAt g′ e)) (λ i. T-not (present g′ x) (under-present types g′ x u (k .0 .0)) (insert-absent S types-fit lent g′ f e o x t i))) (k .1))
+      (each-both S _ _ g es (kept-sides x u h) (no-step S (specialisesInto types t (eqb x)) g es n)) e
 
-  not-general-out : (x u t : ℕ) → Kept x u → T (not (someStep c (about (generalisesFrom S t) x))) → T (isUnder types g x t) → Kept x t
+  not-general-out : (x u t : ℕ) → Kept x u → T (not (someStep c (generalisesFrom types t (eqb x)))) → T (isUnder types g x t) → Kept x t
   not-general-out x u t h n e =
       persists (λ g′. T (isUnder types g′ x t)) _
-      (λ g′ f e o k. under-stays S types-fit lent g′ f e o x t (not-T (about (deletesFrom S t) x g′ e) (λ i. T-not (present (apply S e g′) x) (under-present types (apply S e g′) x u (k .0 .1)) (delete-absent S types-fit lent g′ f e o x t i))) (k .1))
-      (each-both S _ _ g es (kept-sides x u h) (no-step S (about (generalisesFrom S t) x) g es n)) e
+      (λ g′ f e o k. under-stays S types-fit lent g′ f e o x t (not-T (deletesFrom types t (eqb x) (stepAt g′ e)) (λ i. T-not (present (apply S e g′) x) (under-present types (apply S e g′) x u (k .0 .1)) (delete-absent S types-fit lent g′ f e o x t i))) (k .1))
+      (each-both S _ _ g es (kept-sides x u h) (no-step S (generalisesFrom types t (eqb x)) g es n)) e
 
   kind-leaf : (d : Direction) (x u t : ℕ) → Kept x u → T (not (kindMoves c x t d)) → Unmoved truth d (isUnder types g x t) (isUnder types (after S g es) x t)
   unfolding kindMoves specialised

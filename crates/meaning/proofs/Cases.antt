@@ -1,185 +1,25 @@
--- Document 01's marked cases (a) to (m), with the row of NotTooPendingSales and cases of our own beyond them, as one table and
--- one theorem, `cases-hold`, that the prover computes. What no agreement with the full check can refuse, a pair or an event
--- type too many, is refused here.
-use Prim.Native.Nat.{ℕ, _-_}
-use mathlib.Core.Path.{_≡_, refl}
-use mathlib.Core.List.{List, [], _∷_, _++_, map}
-use mathlib.Core.Option.{none, some}
-use lib.ListN.{length, replicate}
-use lib.IntN.{ℤ, pos}
-use Rattle.meaning.specs.Limits.{cellCount, validId, fitsWord}
-use Rattle.meaning.specs.Schema.{ObjectType, Relationship, Schema, knownType, knownRelationship, typeAt, parentOf, cellsOf, hasParent, climbs, under, knownRole, relationshipAt, sourceType, targetType, nearType, farType, parentFits, faultyType, faultyRelationship, typeFault, relationshipFault}
-use Rattle.meaning.specs.Register.{Object, Register, objectAt, present, isUnder, cellAt, instances, hasLink, farEnds, cellsFit, objectFits, faultyObject, linkFits, faultyLink, objectFault, linkFault}
-use Rattle.meaning.specs.Forms.{truth, le, ge, gt, and, or, forall, add, Form, compare, connect, quantify, kind, num, cell, size, sum, combine, role, all, select, formCount, memberType, wellTyped, Rule, Book, faultyRule, ruleFault}
+-- Theorem 7: the table of cases, computed. Each definition on the way is opened.
+use mathlib.Core.Path.{refl}
+use Rattle.meaning.specs.Limits.{validId, fitsWord}
+use Rattle.meaning.specs.Schema.{knownType, knownRelationship, typeAt, parentOf, cellsOf, hasParent, climbs, under, knownRole, relationshipAt, sourceType, targetType, nearType, farType, parentFits, faultyType, faultyRelationship, typeFault, relationshipFault}
+use Rattle.meaning.specs.Register.{objectAt, present, isUnder, cellAt, instances, hasLink, farEnds, cellsFit, objectFits, faultyObject, linkFits, faultyLink, objectFault, linkFault}
+use Rattle.meaning.specs.Forms.{formCount, memberType, wellTyped, faultyRule, ruleFault}
 use Rattle.meaning.specs.Meaning.{compared, connected, quantified, combined, total, meaning, broken}
-use Rattle.meaning.specs.Events.{Event, insert, delete, set, join, part, special, general, Lent, linkOf, apply, after, firstMet, linked, needsType, typeNeeded, strictlyAbove, strictlyUnder, hasCell, checks, eventRefusal, refusalFrom, batchRefusal, knownEvent}
-use Rattle.meaning.specs.Reach.{stepsOf, someStep, leftOf, rightOf, firstPart, secondPart, sourceOf, secondTerm, roleMoves, bringsIn, takesOut, allMoves, cellMoves, kindMoves, moves, roleOfSelf, quietQuantifier, quietConnective, quietly, quiet, inserted, specialised, broughtIn, selected, Pair, pairOf, pairsFrom, contextPairs, ofRule, selectedPairs}
-use Rattle.meaning.specs.EventList.{EventType, insertOf, setOf, joinOf, partOf, specialOf, wordsOf, whereParent, roleLists, allLists, kindLists, lists, contextLists, eventList}
-use Rattle.meaning.specs.Answers.{Answer, accepted, brokenAt, refused, refusalAt, bookRefusal, registerRefusal, refusal, foundAnswer, firstBroken, unlessRefused, listRefusal, checkRefusal, registerLeft, outcomeOf, outcomeUnless, batchCheck}
+use Rattle.meaning.specs.Events.{apply, after, firstMet, linked, needsType, typeNeeded, strictlyAbove, strictlyUnder, hasCell, checks, eventRefusal, refusalFrom, batchRefusal, knownEvent}
+use Rattle.meaning.specs.Reach.{stepsOf, someStep, leftOf, rightOf, firstTruth, secondTruth, sourceOf, secondTerm, roleMoves, allMoves, cellMoves, kindMoves, moves, roleOfSelf, quietQuantifier}
+use Rattle.meaning.specs.Reach.{quietConnective, quietly, quiet, inserted, specialised, broughtIn, selected, pairsFrom, contextPairs, ofRule, selectedPairs}
+use Rattle.meaning.specs.EventList.{eventTypeWords, whereParent, roleLists, allLists, kindLists, lists, contextLists, eventList}
+use Rattle.meaning.specs.Answers.{refusalAt, bookRefusal, registerRefusal, refusal, foundAnswer, firstBroken, unlessRefused, listRefusal, checkRefusal, registerLeft, outcomeOf, outcomeUnless, batchCheck}
+use Rattle.meaning.specs.Cases.{everything, resultOf, table}
+use Rattle.meaning.specs.Claims.{CasesHold}
 
--- ---- what a case gives and what it must show
-
-data Given : Type 0 where
-  batch : Book → Register → List Event → Given
-  rule : Schema → Rule → Given
-
-data Shown : Type 0 where
-  answer : Answer → List Pair → Shown
-  listing : List EventType → Shown
-
-record Case : Type 0 where
-  given : Given
-  expected : Shown
-
--- tables to document 01's limits, and words for the list without end
-everything : Lent
-everything = record { objects = 1024; links = 4096; words = 100000 }
-
-shown : Given → Shown
-shown (batch k g es) = let o = batchCheck k everything g es in answer (o .answer) (o .pairs)
-shown (rule S r) = listing (eventList S r)
-
--- ---- Book A
-
-abbrev top : ℕ → ObjectType
-top n = record { parent = none; cells = n }
-
-abbrev below : ℕ → ℕ → ObjectType
-below p n = record { parent = some p; cells = n }
-
-abbrev from-to : ℕ → ℕ → Relationship
-from-to s t = record { source = s; target = t }
-
-abbrev object : ℕ → ℕ → List ℤ → Object
-object id t cells = record { id = id; type = t; cells = cells ++ replicate (cellCount - length cells) (pos 0) }
-
-abbrev schemaA : Schema
-schemaA = record { types = top 1 ∷ top 1 ∷ []; relationships = from-to 0 1 ∷ [] }
-
-abbrev sumRule : Rule
-sumRule = record { context = 0; body = compare le (sum (role 0 0) 0) (cell 0 0) }
-
--- the body of case (g)
-abbrev eachFits : Form truth
-eachFits = compare le (cell 1 0) (cell 0 0)
-
-abbrev eachRule : Rule
-eachRule = record { context = 0; body = quantify forall (role 0 0) eachFits }
-
-abbrev bookOf : Schema → Rule → Book
-bookOf S r = record { schema = S; rules = r ∷ [] }
-
-abbrev registerA : Register
-registerA =
-    record {
-      objects = object 10 0 (pos 30 ∷ []) ∷ object 11 0 (pos 30 ∷ []) ∷ object 20 1 (pos 25 ∷ []) ∷ [];
-      links = linkOf 0 10 20 ∷ [];
-    }
-
-abbrev caseA : List Event → Answer → List Pair → Case
-caseA es a ps = record { given = batch (bookOf schemaA sumRule) registerA es; expected = answer a ps }
-
-abbrev caseBy : Schema → Rule → Register → List Event → Answer → List Pair → Case
-caseBy S r g es a ps = record { given = batch (bookOf S r) g es; expected = answer a ps }
-
--- ---- the schema of document 000's figure 1.1, as far as its rules go
-
--- types: 0 Sale (amount, paymentDate), 1 Shipment (plannedShipDate), 2 Product (price, maxDiscount),
--- 3 RestrictedProduct, 4 Category (maxPendingAmount), 5 Customer
--- relationships: 0 DeliveredIn, of Sale to Shipment; 1 BelongsTo, of Customer to Category; 2 Purchases, of Customer to Sale
-abbrev shop : Schema
-shop =
-    record {
-      types = top 2 ∷ top 1 ∷ top 2 ∷ below 2 2 ∷ top 1 ∷ top 0 ∷ [];
-      relationships = from-to 0 1 ∷ from-to 5 4 ∷ from-to 5 0 ∷ [];
-    }
-
-abbrev caseOf : Rule → List EventType → Case
-caseOf r es = record { given = rule shop r; expected = listing es }
-
--- self.shipment->forAll(sh | sh.plannedShipDate <= self.paymentDate + 30)
-abbrev validShipDate : Rule
-validShipDate =
-    record { context = 0; body = quantify forall (role 0 0) (compare le (cell 1 0) (combine add (cell 0 1) (num (pos 30)))) }
-
--- self.price > 0 and self.maxDiscount <= 60
-abbrev correctProduct : Rule
-correctProduct =
-    record { context = 2; body = connect and (compare gt (cell 0 0) (num (pos 0))) (compare le (cell 0 1) (num (pos 60))) }
-
--- self.customer->size() >= 3
-abbrev atLeastThreeCustomers : Rule
-atLeastThreeCustomers = record { context = 4; body = compare ge (size (role 0 3)) (num (pos 3)) }
-
--- RestrictedProduct.allInstances()->size() <= 20
-abbrev numberOfRestrictedProducts : Rule
-numberOfRestrictedProducts = record { context = 3; body = compare le (size (all 3)) (num (pos 20)) }
-
--- self.customer->forAll(c | c.sale->select(s | s.paymentDate > now)->collect(amount)->sum() <= self.maxPendingAmount)
-abbrev notTooPendingSales : Rule
-notTooPendingSales =
-    record {
-      context = 4;
-      body =
-          quantify forall (role 0 3)
-          (compare le (sum (select (role 1 4) (compare gt (cell 2 1) (num (pos 1000)))) 0) (cell 0 0));
-    }
-
--- ---- beyond (m): what the reach rules must not select, and what they must though agreement does not ask for it
-
--- forall over a select of a role of self is not quiet
-abbrev selectRule : Rule
-selectRule = record { context = 0; body = quantify forall (select (role 0 0) (compare gt (cell 1 0) (num (pos 0)))) eachFits }
-
--- a type and one below it; a rule that asks the one below
-abbrev schemaK : Schema
-schemaK = record { types = top 1 ∷ below 0 1 ∷ []; relationships = from-to 0 0 ∷ [] }
-
-abbrev registerK : Register
-registerK = record { objects = object 10 1 [] ∷ object 11 1 [] ∷ []; links = [] }
-
-abbrev kindRule : Rule
-kindRule = record { context = 0; body = kind 0 1 }
-
--- quiet, and yet a set of its cell may turn it false
-abbrev quietOrCell : Rule
-quietOrCell =
-    record { context = 0; body = connect or (quantify forall (role 0 0) (compare le (cell 1 0) (num (pos 0)))) (compare le (cell 0 0) (num (pos 5))) }
-
--- a rule on the type below: a special into it selects though the body is quiet
-abbrev quietBelow : Rule
-quietBelow = record { context = 1; body = quantify forall (role 0 0) (compare le (cell 1 0) (num (pos 0))) }
-
-abbrev registerS : Register
-registerS = record { objects = object 10 0 [] ∷ object 11 1 (pos 7 ∷ []) ∷ []; links = linkOf 0 10 11 ∷ [] }
-
-table : List Case
-table =
-    -- (a) to (f)
-    caseA (set 20 0 (pos 31) ∷ []) (brokenAt 0 10) (pairOf 0 10 ∷ [])
-    ∷ caseA (set 20 0 (pos 30) ∷ []) accepted (pairOf 0 10 ∷ [])
-    ∷ caseA [] accepted []
-    ∷ caseA (part 0 10 20 ∷ []) accepted (pairOf 0 10 ∷ [])
-    ∷ caseA (part 0 10 20 ∷ join 0 10 20 ∷ []) accepted (pairOf 0 10 ∷ [])
-    ∷ caseA (insert 12 0 ∷ []) accepted (pairOf 0 12 ∷ [])
-    -- (g) to (i)
-    ∷ caseBy schemaA eachRule registerA (insert 12 0 ∷ []) accepted []
-    ∷ caseA (delete 20 ∷ []) (refused 12 0) []
-    ∷ caseA (join 0 10 20 ∷ []) (refused 9 0) []
-    -- (j) to (m), and NotTooPendingSales
-    ∷ caseOf validShipDate (setOf 0 1 ∷ setOf 1 0 ∷ joinOf 0 ∷ [])
-    ∷ caseOf correctProduct (insertOf 2 ∷ setOf 2 0 ∷ setOf 2 1 ∷ [])
-    ∷ caseOf atLeastThreeCustomers (insertOf 4 ∷ partOf 1 ∷ [])
-    ∷ caseOf numberOfRestrictedProducts (insertOf 3 ∷ specialOf 3 ∷ [])
-    ∷ caseOf notTooPendingSales (setOf 0 0 ∷ setOf 0 1 ∷ setOf 4 0 ∷ joinOf 1 ∷ joinOf 2 ∷ partOf 2 ∷ [])
-    -- beyond (m)
-    ∷ caseBy schemaA selectRule registerA (insert 12 0 ∷ []) accepted (pairOf 0 12 ∷ [])
-    ∷ caseBy schemaK kindRule registerK (general 10 0 ∷ special 10 1 ∷ []) accepted (pairOf 0 10 ∷ [])
-    ∷ caseBy schemaK quietOrCell registerK (set 10 0 (pos 3) ∷ delete 10 ∷ insert 10 1 ∷ []) accepted (pairOf 0 10 ∷ [])
-    ∷ caseBy schemaK quietOrCell registerK (delete 10 ∷ insert 10 1 ∷ []) accepted []
-    ∷ caseBy schemaK quietBelow registerS (special 10 1 ∷ []) (brokenAt 0 10) (pairOf 0 10 ∷ [])
-    ∷ []
-
-cases-hold : map (λ (c : Case). shown (c .given)) table ≡ map (λ (c : Case). c .expected) table
-unfolding table shown everything validId fitsWord knownType knownRelationship typeAt parentOf cellsOf hasParent climbs under knownRole relationshipAt sourceType targetType nearType farType parentFits faultyType faultyRelationship typeFault relationshipFault objectAt present isUnder cellAt instances hasLink farEnds cellsFit objectFits faultyObject linkFits faultyLink objectFault linkFault formCount memberType wellTyped faultyRule ruleFault compared connected quantified combined total meaning broken apply after firstMet linked needsType typeNeeded strictlyAbove strictlyUnder hasCell knownEvent checks eventRefusal refusalFrom batchRefusal stepsOf someStep leftOf rightOf firstPart secondPart sourceOf secondTerm roleMoves bringsIn takesOut allMoves cellMoves kindMoves moves roleOfSelf quietQuantifier quietConnective quietly quiet inserted specialised broughtIn selected pairsFrom contextPairs ofRule selectedPairs wordsOf whereParent roleLists allLists kindLists lists contextLists eventList refusalAt bookRefusal registerRefusal refusal foundAnswer firstBroken unlessRefused listRefusal checkRefusal registerLeft outcomeOf outcomeUnless batchCheck
+pub cases-hold : CasesHold
+unfolding table resultOf everything validId fitsWord knownType knownRelationship typeAt parentOf cellsOf hasParent climbs under knownRole relationshipAt
+    sourceType targetType nearType farType parentFits faultyType faultyRelationship typeFault relationshipFault objectAt present isUnder cellAt
+    instances hasLink farEnds cellsFit objectFits faultyObject linkFits faultyLink objectFault linkFault formCount memberType wellTyped faultyRule
+    ruleFault compared connected quantified combined total meaning broken apply after firstMet linked needsType typeNeeded strictlyAbove strictlyUnder
+    hasCell knownEvent checks eventRefusal refusalFrom batchRefusal stepsOf someStep leftOf rightOf firstTruth secondTruth sourceOf secondTerm roleMoves
+    allMoves cellMoves kindMoves moves roleOfSelf quietQuantifier quietConnective quietly quiet inserted specialised broughtIn selected pairsFrom
+    contextPairs ofRule selectedPairs eventTypeWords whereParent roleLists allLists kindLists lists contextLists eventList refusalAt bookRefusal
+    registerRefusal refusal foundAnswer firstBroken unlessRefused listRefusal checkRefusal registerLeft outcomeOf outcomeUnless batchCheck
 cases-hold = refl

@@ -3,7 +3,7 @@
 use Prim.Native.Nat.{ℕ, _≤_, _<_}
 use mathlib.Core.Path.{sym, subst}
 use mathlib.Core.Bool.{true}
-use mathlib.Core.List.{List, map}
+use mathlib.Core.List.{List, map, Memᴰ·map}
 use native.Mathlib.Nat.{lt-irrefl, lt-trans}
 use lib.Dec.{T}
 use lib.ListN.{length, length-map}
@@ -11,8 +11,9 @@ use Rattle.meaning.specs.Schema.{ObjectType, Schema, farType}
 use Rattle.meaning.specs.Register.{Object, Register, objectKey, objectAt, present, farEnd, farEnds}
 use Rattle.meaning.specs.Forms.{collection, Form, role, all, select, bind, variable}
 use Rattle.meaning.specs.Meaning.{meaning}
-use Rattle.meaning.proofs.Lists.{_∈_, holds-some, keep-from, Ascending, ascending-keep, ascending-shorter, map-in, ascending-map}
-use Rattle.meaning.proofs.Order.{Before, before-one}
+use Rattle.meaning.specs.Lists.{_∈_, Ascending, Before}
+use Rattle.meaning.proofs.Lists.{holds-some, keep-from, ascending-keep, ascending-shorter, ascending-map}
+use Rattle.meaning.proofs.Order.{before-one}
 use Rattle.meaning.proofs.Registers.{RegisterFits, object-at, under-present, instance-from, instances-ascend, far-from, far-ends-ascend, far-under}
 
 abbrev idOf : Object → ℕ
@@ -22,7 +23,7 @@ id-in : (g : Register) (x : ℕ) → T (present g x) → x ∈ map idOf (g .obje
 unfolding present
 id-in g x t =
     let r = object-at g x (holds-some (λ o. true) (objectAt g x) t .1) in
-    subst (λ y. y ∈ map idOf (g .objects)) (r .1) (map-in idOf (r .0))
+    subst (λ y. y ∈ map idOf (g .objects)) (r .1) (Memᴰ·map idOf (r .0))
 
 -- what the collections of a register rest on: objects ascend, and the ends of its links ascend and are there
 pub record Gathered (g : Register) : Type 0 where

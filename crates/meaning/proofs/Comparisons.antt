@@ -7,7 +7,8 @@ use Rattle.meaning.specs.Forms.{truth, number, Comparison, le, lt, eq, n
 use Rattle.meaning.specs.Meaning.{compared}
 use Rattle.meaning.specs.Reach.{Direction, up, down, either, leftOf, rightOf}
 use Rattle.meaning.proofs.Integers.{≤ℤ-trans, ≤ℤ-antisym, ltZ-not-leZ}
-use Rattle.meaning.proofs.Monotone.{Below, Unmoved, Through, exchanged, not-below}
+use Rattle.meaning.specs.Unmoved.{Below, Unmoved, Through}
+use Rattle.meaning.proofs.Monotone.{exchanged, not-below}
 
 leZ-below : {a a′ b b′ : ℤ} → Below number a′ a → Below number b b′ → Below truth (leZ a b) (leZ a′ b′)
 leZ-below h k t = (≤ℤ-trans h (≤ℤ-trans (leZ-yes t) k)) .le

@@ -13,16 +13,17 @@ use lib.ListN.{length, getD, take, drop, replicate, length-append, length-replic
 use lib.Seq.{length-take-le, drop-set-lt, drop-at, drop-drop, getD-take, getD-set-other}
 use lib.IntN.{ℤ, pos}
 use mir.Facts.{and-yes, yes-and, or-no, T-not, not-T, T-not-not, eqb-yes, yes-eqb, eqb-no, ltb-yes, leb-no}
-use Rattle.meaning.specs.Lists.{every, keep, place}
+use Rattle.meaning.specs.Lists.{every, keep, putInOrder, _∈_, Ascending, Before}
 use Rattle.meaning.specs.Limits.{cellCount, maxObjects, validId, fitsWord}
 use Rattle.meaning.specs.Schema.{ObjectType, Relationship, Schema, knownType, knownRelationship, cellsOf, under, sourceType, targetType}
-use Rattle.meaning.specs.Register.{Object, Link, Register, objectKey, linkKey, objectAt, present, isUnder, cellAt, sameLink, hasLink, isZero, objectFits, linkFits}
-use Rattle.meaning.specs.Events.{Event, insert, delete, set, join, part, special, general, Lent, linkOf, newObject, clearedFrom, withCell, withType, withHigherType, amended, apply, Check, _when_, firstMet, linked, needsType, typeNeeded, strictlyAbove, strictlyUnder, hasCell, checks, eventRefusal, knownEvent}
-use Rattle.meaning.specs.Reach.{subject, linkNamed, joins, parts, sets, insertsInto, specialisesInto, deletesFrom, generalisesFrom}
-use Rattle.meaning.proofs.Lists.{_∈_, Ascending, not-sub, decide, first-absent, first-keep, first-map, every-drop, every-take, every-append, every-replicate, every-set, holds-some, cond-yes, cond-no, any-none, keep-in, keep-from, length-keep, ascending-keep, ascending-map}
-use Rattle.meaning.proofs.Order.{Before, same-refl, same-swap, first-place, length-place, place-from, place-other, place-has, place-ascending}
+use Rattle.meaning.specs.Register.{Object, Link, Register, objectKey, linkKey, objectAt, present, isUnder, cellAt, sameLink, hasLink, startsAt, isZero, objectFits, linkFits}
+use Rattle.meaning.specs.Events.{Event, insert, delete, set, join, part, special, general, Lent, linkOf, newObject, clearedFrom, withCell, withType, withHigherType, amended, apply, Check}
+use Rattle.meaning.specs.Events.{_when_, firstMet, linked, needsType, typeNeeded, strictlyAbove, strictlyUnder, hasCell, checks, eventRefusal, knownEvent}
+use Rattle.meaning.specs.Reach.{stepAt, joined, parted, setsCell, insertsInto, specialisesInto, deletesFrom, generalisesFrom}
+use Rattle.meaning.proofs.Lists.{not-and-left, not-sub, decide, first-absent, first-keep, first-map, every-drop, every-take, every-append, every-replicate, every-set, holds-some, cond-yes, cond-no, any-none, keep-in, keep-from, length-keep, ascending-keep, ascending-map}
+use Rattle.meaning.proofs.Order.{first-put, length-put, put-from, put-other, put-has, put-ascending}
 use Rattle.meaning.proofs.Schemas.{TypesFit, under-trans, under-cells}
-use Rattle.meaning.proofs.Registers.{RegisterFits, object-parts, object-whole, object-at, ascending-found, under-present, link-in, link-has, link-parts, link-whole}
+use Rattle.meaning.proofs.Registers.{RegisterFits, object-parts, object-whole, object-at, ascending-found, under-present, same-link, link-in, link-has, link-parts, link-whole}
 
 -- ---- refusals that are not met
 
@@ -71,13 +72,9 @@ and-rest : (a b : Bool) → T a → T (not (a && b)) → T (not b)
 and-rest true b t n = n
 and-rest false b t n = absurd t
 
-eqb-swap : (a b : ℕ) → T (eqb a b) → T (eqb b a)
-eqb-swap a b t = yes-eqb {a = b} {b = a} (sym (eqb-yes {a = a} {b = b} t))
-
 -- a test of an event that names x, where the object asked for is x
-at-self : (b : Bool) (x : ℕ) → T (not (b && eqb x x)) → T (not b)
-at-self true x n = T-not (eqb x x) (eqb-refl x) n
-at-self false x n = tt
+at-self : (b : Bool) (x : ℕ) → T (not (eqb x x && b)) → T (not b)
+at-self b x n = and-rest (eqb x x) b (eqb-refl x) n
 
 -- ---- cells
 
@@ -158,23 +155,23 @@ module _ (g : Register) (id : ℕ) where
 
   inserted-at : (S : Schema) (t : ℕ) → Ascending (Before objectKey) (g .objects) → T (not (present g id)) → objectAt (apply S (insert id t) g) id ≡ some (newObject id t)
   unfolding apply present
-  inserted-at S t a absent = ascending-found (apply S (insert id t) g) (place-ascending objectKey 1 (λ o. refl) new (g .objects) a) placed
+  inserted-at S t a absent = ascending-found (apply S (insert id t) g) (put-ascending objectKey 1 (λ o. refl) new (g .objects) a) placed
     where
       new : Object
       new = newObject id t
 
-      placed : new ∈ place objectKey new (g .objects)
+      placed : new ∈ putInOrder objectKey new (g .objects)
       placed =
-          let z = place-has objectKey 1 (λ o. refl) new (g .objects) in
+          let z = put-has objectKey 1 (λ o. refl) new (g .objects) in
           ⊎-elim (λ (q : z .0 ≡ new). Memᴰ·cast (sym q) (z .1))
           (λ (m : z .0 ∈ g .objects).
           absurd
           (T-not (present g id) (rw (← ap (λ k. getD k 0 0) (z .2), ascending-found g a m) tt) absent))
-          (place-from objectKey new (g .objects) (z .1))
+          (put-from objectKey new (g .objects) (z .1))
 
   inserted-other : (S : Schema) (t x : ℕ) → T (not (eqb id x)) → objectAt (apply S (insert id t) g) x ≡ objectAt g x
   unfolding apply objectAt
-  inserted-other S t x n = first-place (λ o. eqb (o .id) x) objectKey (newObject id t) (g .objects) n
+  inserted-other S t x n = first-put (λ o. eqb (o .id) x) objectKey (newObject id t) (g .objects) n
 
   deleted-at : (S : Schema) → objectAt (apply S (delete id) g) id ≡ none
   unfolding apply objectAt
@@ -269,11 +266,11 @@ module _ (S : Schema) (types-fit : TypesFit (S .types)) (lent : Lent) (g : Regis
 
   -- ---- types
 
-  pub under-stays : (e : Event) → eventRefusal S lent g e ≡ none → (x t : ℕ) → T (not (deletesFrom S t g e && eqb (subject e) x)) → T (not (generalisesFrom S t g e && eqb (subject e) x)) → T (isUnder types g x t) → T (isUnder types (apply S e g) x t)
+  pub under-stays : (e : Event) → eventRefusal S lent g e ≡ none → (x t : ℕ) → T (not (deletesFrom types t (eqb x) (stepAt g e))) → T (not (generalisesFrom types t (eqb x) (stepAt g e))) → T (isUnder types g x t) → T (isUnder types (apply S e g) x t)
   unfolding isUnder
   under-stays e ok x t nd ng u = step (fate e ok x) nd ng
     where
-      step : {f : Event} {h : Register} → Fate S g h x f → T (not (deletesFrom S t g f && eqb (subject f) x)) → T (not (generalisesFrom S t g f && eqb (subject f) x)) → T (isUnder types h x t)
+      step : {f : Event} {h : Register} → Fate S g h x f → T (not (deletesFrom types t (eqb x) (stepAt g f))) → T (not (generalisesFrom types t (eqb x) (stepAt g f))) → T (isUnder types h x t)
       step (kept q) nd ng = rw q u
       step (came i k a b) nd ng = absurd (T-not (present g x) (under-present types g x t u) a)
       step (went b) nd ng = absurd (T-not (isUnder types g x t) u (at-self (isUnder types g x t) x nd))
@@ -282,11 +279,11 @@ module _ (S : Schema) (types-fit : TypesFit (S .types)) (lent : Lent) (g : Regis
       step (raised {o} {t = s} k l a b) nd ng =
           rw b (T-not-not (under types s t) (and-rest (isUnder types g x t) (not (under types s t)) u (at-self (isUnder types g x t && not (under types s t)) x ng)))
 
-  pub under-was : (e : Event) → eventRefusal S lent g e ≡ none → (x t : ℕ) → T (not (insertsInto S t g e && eqb (subject e) x)) → T (not (specialisesInto S t g e && eqb (subject e) x)) → T (isUnder types (apply S e g) x t) → T (isUnder types g x t)
+  pub under-was : (e : Event) → eventRefusal S lent g e ≡ none → (x t : ℕ) → T (not (insertsInto types t (eqb x) (stepAt g e))) → T (not (specialisesInto types t (eqb x) (stepAt g e))) → T (isUnder types (apply S e g) x t) → T (isUnder types g x t)
   unfolding isUnder
   under-was e ok x t ni ns u = step (fate e ok x) ni ns u
     where
-      step : {f : Event} {h : Register} → Fate S g h x f → T (not (insertsInto S t g f && eqb (subject f) x)) → T (not (specialisesInto S t g f && eqb (subject f) x)) → T (isUnder types h x t) → T (isUnder types g x t)
+      step : {f : Event} {h : Register} → Fate S g h x f → T (not (insertsInto types t (eqb x) (stepAt g f))) → T (not (specialisesInto types t (eqb x) (stepAt g f))) → T (isUnder types h x t) → T (isUnder types g x t)
       step (kept q) ni ns u = rw q at u
       step (came {t = s} i k a b) ni ns u = absurd (T-not (under types s t) (rw b at u) (at-self (under types s t) x ni))
       step (went b) ni ns u = absurd (rw b at u)
@@ -302,7 +299,7 @@ module _ (S : Schema) (types-fit : TypesFit (S .types)) (lent : Lent) (g : Regis
 
   objects-ascend-after : (e : Event) → Ascending (Before objectKey) ((apply S e g) .objects)
   unfolding apply
-  objects-ascend-after (insert id t) = place-ascending objectKey 1 (λ o. refl) (newObject id t) (g .objects) (fits .objects-ascend)
+  objects-ascend-after (insert id t) = put-ascending objectKey 1 (λ o. refl) (newObject id t) (g .objects) (fits .objects-ascend)
   objects-ascend-after (delete id) = ascending-keep (Before objectKey) (λ o. not (eqb (o .id) id)) (g .objects) (fits .objects-ascend)
   objects-ascend-after (set id k v) = amended-ascends g id (withCell k v) (λ o. refl) (fits .objects-ascend)
   objects-ascend-after (join r a b) = fits .objects-ascend
@@ -326,7 +323,7 @@ module _ (S : Schema) (types-fit : TypesFit (S .types)) (lent : Lent) (g : Regis
 
   -- the event does not take object x out of type t
   abbrev Leaves : Event → ℕ → ℕ → Type 0
-  Leaves e x t = T (not (deletesFrom S t g e && eqb (subject e) x)) × T (not (generalisesFrom S t g e && eqb (subject e) x))
+  Leaves e x t = T (not (deletesFrom types t (eqb x) (stepAt g e))) × T (not (generalisesFrom types t (eqb x) (stepAt g e)))
 
   -- a link holds its ends in their types: refusal 12
   link-holds : (e : Event) → eventRefusal S lent g e ≡ none → (l : Link) → l ∈ g .links → Leaves e (l .source) (sourceType relationships (l .relationship)) × Leaves e (l .target) (targetType relationships (l .relationship))
@@ -334,10 +331,7 @@ module _ (S : Schema) (types-fit : TypesFit (S .types)) (lent : Lent) (g : Regis
   link-holds (insert id t) ok l m = ((tt, tt), (tt, tt))
   link-holds (delete id) ok l m =
       let n = or-no (eqb (l .source) id) (eqb (l .target) id) (any-none (λ l. eqb (l .source) id || eqb (l .target) id) (clear S lent g (delete id) ok .1 .1 .0) m) in
-      ((not-of (l .source) (sourceType relationships (l .relationship)) (n .0), tt), (not-of (l .target) (targetType relationships (l .relationship)) (n .1), tt))
-    where
-      not-of : (x s : ℕ) → T (not (eqb x id)) → T (not (isUnder types g id s && eqb id x))
-      not-of x s n = not-sub (isUnder types g id s && eqb id x) (eqb x id) (λ y. eqb-swap id x (and-yes (isUnder types g id s) (eqb id x) y .1)) n
+      ((not-and-left (eqb (l .source) id) _ (n .0), tt), (not-and-left (eqb (l .target) id) _ (n .1), tt))
   link-holds (set id k v) ok l m = ((tt, tt), (tt, tt))
   link-holds (join r a b) ok l m = ((tt, tt), (tt, tt))
   link-holds (part r a b) ok l m = ((tt, tt), (tt, tt))
@@ -349,12 +343,12 @@ module _ (S : Schema) (types-fit : TypesFit (S .types)) (lent : Lent) (g : Regis
       needs : ℕ → ℕ → Bool
       needs x s = eqb x id && not (under types t s)
 
-      not-out : (x s : ℕ) → T (not (needs x s)) → T (not (isUnder types g id s && not (under types t s) && eqb id x))
+      not-out : (x s : ℕ) → T (not (needs x s)) → T (not (eqb x id && (isUnder types g id s && not (under types t s))))
       not-out x s n =
-          not-sub (isUnder types g id s && not (under types t s) && eqb id x) (needs x s)
+          not-sub (eqb x id && (isUnder types g id s && not (under types t s))) (needs x s)
           (λ y.
-          let p = and-yes (isUnder types g id s && not (under types t s)) (eqb id x) y in
-          yes-and (eqb x id) (not (under types t s)) (eqb-swap id x (p .1)) (and-yes (isUnder types g id s) (not (under types t s)) (p .0) .1))
+          let p = and-yes (eqb x id) _ y in
+          yes-and (eqb x id) (not (under types t s)) (p .0) (and-yes (isUnder types g id s) (not (under types t s)) (p .1) .1))
           n
 
   old-link-fits : (e : Event) → eventRefusal S lent g e ≡ none → (l : Link) → l ∈ g .links → T (linkFits S (apply S e g) l)
@@ -371,7 +365,7 @@ module _ (S : Schema) (types-fit : TypesFit (S .types)) (lent : Lent) (g : Regis
   links-ascend-after (insert id t) = fits .links-ascend
   links-ascend-after (delete id) = fits .links-ascend
   links-ascend-after (set id k v) = fits .links-ascend
-  links-ascend-after (join r a b) = place-ascending linkKey 3 (λ l. refl) (linkOf r a b) (g .links) (fits .links-ascend)
+  links-ascend-after (join r a b) = put-ascending linkKey 3 (λ l. refl) (linkOf r a b) (g .links) (fits .links-ascend)
   links-ascend-after (part r a b) = ascending-keep (Before linkKey) (λ l. not (sameLink (linkOf r a b) l)) (g .links) (fits .links-ascend)
   links-ascend-after (special id t) = fits .links-ascend
   links-ascend-after (general id t) = fits .links-ascend
@@ -393,7 +387,7 @@ module _ (S : Schema) (types-fit : TypesFit (S .types)) (lent : Lent) (g : Regis
       ⊎-elim
       (λ (q : l ≡ linkOf r a b). subst (λ k. T (linkFits S (apply S (join r a b) g) k)) (sym q) (new-link-fits r a b ok))
       (λ (n : l ∈ g .links). old-link-fits (join r a b) ok l n)
-      (place-from linkKey (linkOf r a b) (g .links) m)
+      (put-from linkKey (linkOf r a b) (g .links) m)
   links-fit-after (part r a b) ok l m = old-link-fits (part r a b) ok l (keep-from (λ l. not (sameLink (linkOf r a b) l)) (g .links) m .0)
   links-fit-after (special id t) ok l m = old-link-fits (special id t) ok l m
   links-fit-after (general id t) ok l m = old-link-fits (general id t) ok l m
@@ -409,41 +403,44 @@ module _ (S : Schema) (types-fit : TypesFit (S .types)) (lent : Lent) (g : Regis
 
   -- ---- links
 
-  pub link-stays : (e : Event) → eventRefusal S lent g e ≡ none → (l : Link) → T (not (parts e && sameLink l (linkNamed e))) → T (hasLink g l) → T (hasLink (apply S e g) l)
+  -- a link of the role from x that the event does not part
+  pub link-stays : (e : Event) → eventRefusal S lent g e ≡ none → (r x : ℕ) (l : Link) → T (startsAt r x l) → T (not (parted r x (stepAt g e))) → T (hasLink g l) → T (hasLink (apply S e g) l)
   unfolding apply hasLink
-  link-stays (insert id t) ok l n h = h
-  link-stays (delete id) ok l n h = h
-  link-stays (set id k v) ok l n h = h
-  link-stays (join r a b) ok l n h = link-has (apply S (join r a b) g) l (place-other linkKey (linkOf r a b) (g .links) (link-in g l h))
-  link-stays (part r a b) ok l n h =
-      link-has (apply S (part r a b) g) l
-      (keep-in (λ l. not (sameLink (linkOf r a b) l)) (link-in g l h)
-      (not-sub (sameLink (linkOf r a b) l) (sameLink l (linkOf r a b)) (λ t. same-swap (linkKey (linkOf r a b)) (linkKey l) t) n))
-  link-stays (special id t) ok l n h = h
-  link-stays (general id t) ok l n h = h
+  link-stays (insert id t) ok r x l s n h = h
+  link-stays (delete id) ok r x l s n h = h
+  link-stays (set id k v) ok r x l s n h = h
+  link-stays (join q a b) ok r x l s n h = link-has (apply S (join q a b) g) l (put-other linkKey (linkOf q a b) (g .links) (link-in g l h))
+  link-stays (part q a b) ok r x l s n h =
+      link-has (apply S (part q a b) g) l
+      (keep-in (λ l. not (sameLink (linkOf q a b) l)) (link-in g l h)
+      (not-sub (sameLink (linkOf q a b) l) (startsAt r x (linkOf q a b)) (λ t. subst (λ k. T (startsAt r x k)) (sym (same-link (linkOf q a b) l t)) s) n))
+  link-stays (special id t) ok r x l s n h = h
+  link-stays (general id t) ok r x l s n h = h
 
-  pub link-was : (e : Event) → eventRefusal S lent g e ≡ none → (l : Link) → T (not (joins e && sameLink l (linkNamed e))) → T (hasLink (apply S e g) l) → T (hasLink g l)
+  -- a link of the role from x, of which the test holds, and that the event does not join
+  pub link-was : (e : Event) → eventRefusal S lent g e ≡ none → (r x : ℕ) (test : Link → Bool) (l : Link) → T (startsAt r x l) → T (test l) → T (not (joined r x test (stepAt g e))) → T (hasLink (apply S e g) l) → T (hasLink g l)
   unfolding apply hasLink
-  link-was (insert id t) ok l n h = h
-  link-was (delete id) ok l n h = h
-  link-was (set id k v) ok l n h = h
-  link-was (join r a b) ok l n h =
+  link-was (insert id t) ok r x test l s u n h = h
+  link-was (delete id) ok r x test l s u n h = h
+  link-was (set id k v) ok r x test l s u n h = h
+  link-was (join q a b) ok r x test l s u n h =
       ⊎-elim
-      (λ (q : l ≡ linkOf r a b). absurd (T-not (sameLink l (linkOf r a b)) (rw q (same-refl (linkKey (linkOf r a b)))) n))
+      (λ (e : l ≡ linkOf q a b).
+      absurd (T-not (startsAt r x (linkOf q a b) && test (linkOf q a b)) (subst (λ k. T (startsAt r x k && test k)) e (yes-and (startsAt r x l) (test l) s u)) n))
       (λ (m : l ∈ g .links). link-has g l m)
-      (place-from linkKey (linkOf r a b) (g .links) (link-in (apply S (join r a b) g) l h))
-  link-was (part r a b) ok l n h =
-      link-has g l (keep-from (λ l. not (sameLink (linkOf r a b) l)) (g .links) (link-in (apply S (part r a b) g) l h) .0)
-  link-was (special id t) ok l n h = h
-  link-was (general id t) ok l n h = h
+      (put-from linkKey (linkOf q a b) (g .links) (link-in (apply S (join q a b) g) l h))
+  link-was (part q a b) ok r x test l s u n h =
+      link-has g l (keep-from (λ l. not (sameLink (linkOf q a b) l)) (g .links) (link-in (apply S (part q a b) g) l h) .0)
+  link-was (special id t) ok r x test l s u n h = h
+  link-was (general id t) ok r x test l s u n h = h
 
   -- ---- cells
 
-  pub cell-same : (e : Event) → eventRefusal S lent g e ≡ none → (x t k : ℕ) → k < cellsOf types t → T (isUnder types g x t) → T (isUnder types (apply S e g) x t) → T (not (sets k e && eqb (subject e) x)) → cellAt (apply S e g) x k ≡ cellAt g x k
+  pub cell-same : (e : Event) → eventRefusal S lent g e ≡ none → (x t k : ℕ) → k < cellsOf types t → T (isUnder types g x t) → T (isUnder types (apply S e g) x t) → T (not (setsCell (eqb x) k (stepAt g e))) → cellAt (apply S e g) x k ≡ cellAt g x k
   unfolding isUnder cellAt
   cell-same e ok x t k h u v n = step (fate e ok x) v n
     where
-      step : {f : Event} {after : Register} → Fate S g after x f → T (isUnder types after x t) → T (not (sets k f && eqb (subject f) x)) → cellAt after x k ≡ cellAt g x k
+      step : {f : Event} {after : Register} → Fate S g after x f → T (isUnder types after x t) → T (not (setsCell (eqb x) k (stepAt g f))) → cellAt after x k ≡ cellAt g x k
       step (kept q) v n = rw (cellAt, q)
       step (came i j a b) v n = absurd (T-not (present g x) (under-present types g x t u) a)
       step (went b) v n = absurd (rw b at v)
@@ -457,10 +454,10 @@ module _ (S : Schema) (types-fit : TypesFit (S .types)) (lent : Lent) (g : Regis
   -- ---- objects
 
   -- only an absent object is inserted
-  pub insert-absent : (e : Event) → eventRefusal S lent g e ≡ none → (x t : ℕ) → T (insertsInto S t g e && eqb (subject e) x) → T (not (present g x))
+  pub insert-absent : (e : Event) → eventRefusal S lent g e ≡ none → (x t : ℕ) → T (insertsInto types t (eqb x) (stepAt g e)) → T (not (present g x))
   unfolding checks knownEvent
   insert-absent (insert id s) ok x t i =
-      subst (λ y. T (not (present g y))) (eqb-yes (and-yes (under types s t) (eqb id x) i .1)) (clear S lent g (insert id s) ok .1 .0)
+      rw (eqb-yes {a = x} {b = id} (and-yes (eqb x id) (under types s t) i .0)) (clear S lent g (insert id s) ok .1 .0)
   insert-absent (delete id) ok x t i = absurd i
   insert-absent (set id k v) ok x t i = absurd i
   insert-absent (join r a b) ok x t i = absurd i
@@ -469,11 +466,11 @@ module _ (S : Schema) (types-fit : TypesFit (S .types)) (lent : Lent) (g : Regis
   insert-absent (general id s) ok x t i = absurd i
 
   -- an object that is there after a delete of it is another's
-  pub delete-absent : (e : Event) → eventRefusal S lent g e ≡ none → (x t : ℕ) → T (deletesFrom S t g e && eqb (subject e) x) → T (not (present (apply S e g) x))
+  pub delete-absent : (e : Event) → eventRefusal S lent g e ≡ none → (x t : ℕ) → T (deletesFrom types t (eqb x) (stepAt g e)) → T (not (present (apply S e g) x))
   unfolding present
   delete-absent (insert id s) ok x t d = absurd d
   delete-absent (delete id) ok x t d =
-      subst (λ y. T (not (present (apply S (delete id) g) y))) (eqb-yes (and-yes (isUnder types g id t) (eqb id x) d .1)) gone
+      subst (λ y. T (not (present (apply S (delete id) g) y))) (sym (eqb-yes (and-yes (eqb x id) (isUnder types g id t) d .0))) gone
     where
       gone : T (not (present (apply S (delete id) g) id))
       gone = rw (deleted-at g id S) tt
@@ -488,7 +485,7 @@ module _ (S : Schema) (types-fit : TypesFit (S .types)) (lent : Lent) (g : Regis
   unfolding apply checks knownEvent
   objects-limit (insert id t) ok h =
       let room = leb-no {a = min maxObjects (lent .objects)} {b = length (g .objects)} (clear S lent g (insert id t) ok .1 .1 .0) in
-      let grown = length-place objectKey (newObject id t) (g .objects) in
+      let grown = length-put objectKey (newObject id t) (g .objects) in
       omega (arith, room, grown)
   objects-limit (delete id) ok h = le-trans (length-keep (λ o. not (eqb (o .id) id)) (g .objects)) h
   objects-limit (set id k v) ok h = rw (length-map (g .objects) (λ o. cond (eqb (o .id) id) (withCell k v o) o)) h

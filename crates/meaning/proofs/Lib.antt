@@ -16,5 +16,6 @@ pub mod Agreement
 pub mod Touched
 pub mod Pairs
 pub mod Bounds
+pub mod Answers
 pub mod Theorems
 pub mod Cases

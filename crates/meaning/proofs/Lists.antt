@@ -1,21 +1,17 @@
 -- Laws of the operations of specs/Lists: membership in what they make, and lists that ascend by a relation.
 use Prim.Native.Nat.{ℕ, zero, suc, _≤_, zero-le, suc-le-suc}
 use mathlib.Core.Path.{_≡_, refl, sym, ap, subst, _∙_}
-use mathlib.Core.Logic.{_⊎_, inl, inr, ⊎-elim}
+use mathlib.Core.Logic.{_⊎_, inl, inr, ⊎-elim, _↔_}
 use mathlib.Core.Bool.{Bool, true, false, _&&_, _||_, not, cond}
-use mathlib.Core.List.{List, [], _∷_, _++_, map, List·Memᴰ, List·Memᴰ·head, List·Memᴰ·tail, List·Memᴰ·not-nil, List·Memᴰ·cases-cons, List·Memᴰ·append-cases}
+use mathlib.Core.List.{List, [], _∷_, _++_, map, List·Memᴰ·head, List·Memᴰ·tail, List·Memᴰ·not-nil, List·Memᴰ·cases-cons, List·Memᴰ·append-cases, Memᴰ·of-map}
 use mathlib.Core.Option.{Option, none, some, Option·map, Option·none-ne-some, Option·some-injective}
 use native.Mathlib.Nat.{le-trans, le-suc}
 use lib.Dec.{T}
 use lib.ListN.{length, getD, take, drop, replicate, getElem?, set as replaceAt}
 use mir.Facts.{and-yes, yes-and, or-yes, T-not, not-T}
-use Rattle.meaning.specs.Lists.{any, every, keep, first, holds, firstOf}
+use Rattle.meaning.specs.Lists.{_∈_, any, every, keep, first, holds, firstOf, Ascending}
 
--- ---- membership
-
-infix 50 _∈_
-abbrev pub _∈_ : {A : Type 0} → A → List A → Type 0
-x ∈ l = List·Memᴰ x l
+-- ---- tests
 
 pub or-left : (a b : Bool) → T a → T (a || b)
 or-left true b t = tt
@@ -36,6 +32,10 @@ not-and-left false b t = tt
 pub not-and-right : (a b : Bool) → T (not b) → T (not (a && b))
 not-and-right true b t = t
 not-and-right false b t = tt
+
+pub and-map : (a b c : Bool) → (T b → T c) → T (a && b) → T (a && c)
+and-map true b c f t = f t
+and-map false b c f t = t
 
 pub not-not : (a : Bool) → T a → T (not (not a))
 not-not true t = tt
@@ -163,12 +163,12 @@ module _ {A : Type 0} where
   element-in (y ∷ ys) zero {x} e = List·Memᴰ·head (sym (Option·some-injective y x e))
   element-in (y ∷ ys) (suc n) e = List·Memᴰ·tail (element-in ys n e)
 
-  -- ---- ascending lists
+  -- what holds of the element at each place holds of every element
+  pub every-place : (p : A → Bool) (l : List A) → ((n : ℕ) (x : A) → getElem? l n ≡ some x → T (p x)) → T (every p l)
+  every-place p [] h = tt
+  every-place p (y ∷ ys) h = yes-and (p y) (every p ys) (h 0 y refl) (every-place p ys (λ n. h (suc n)))
 
-  -- each element stands in the relation to all that come after it
-  abbrev pub Ascending : (A → A → Type 0) → List A → Type 0
-  Ascending R [] = Unit {0}
-  Ascending R (x ∷ xs) = ((y : A) → y ∈ xs → R x y) × Ascending R xs
+  -- ---- ascending lists
 
   pub ascending-keep : (R : A → A → Type 0) (p : A → Bool) (l : List A) → Ascending R l → Ascending R (keep p l)
   ascending-keep R p [] a = tt
@@ -236,25 +236,13 @@ module _ {A : Type 0} where
   )
 
 module _ {A B : Type 0} (f : A → B) where
-  pub map-in : {x : A} {l : List A} → x ∈ l → f x ∈ map f l
-  map-in (List·Memᴰ·head e) = List·Memᴰ·head (ap f e)
-  map-in (List·Memᴰ·tail m) = List·Memᴰ·tail (map-in m)
-
-  pub map-from : (l : List A) {y : B} → y ∈ map f l → (x : A) × x ∈ l × (y ≡ f x)
-  map-from [] m = absurd (List·Memᴰ·not-nil m)
-  map-from (x ∷ xs) {y} m = step (λ n. map-from xs n) (List·Memᴰ·cases-cons m)
-    where
-      step : (y ∈ map f xs → (z : A) × z ∈ xs × (y ≡ f z)) → (y ≡ f x) ⊎ (y ∈ map f xs) → (z : A) × z ∈ (x ∷ xs) × (y ≡ f z)
-      step below (inl e) = (x, List·Memᴰ·head refl, e)
-      step below (inr n) = let r = below n in (r .0, List·Memᴰ·tail (r .1), r .2)
-
   -- a map that keeps the relation between members keeps the order
   pub ascending-map : (R : A → A → Type 0) (Q : B → B → Type 0) (l : List A) → ((x y : A) → x ∈ l → y ∈ l → R x y → Q (f x) (f y)) → Ascending R l → Ascending Q (map f l)
   ascending-map R Q [] h a = tt
   ascending-map R Q (x ∷ xs) h a = (
     λ y m.
-        let r = map-from xs m in
-        subst (Q (f x)) (sym (r .2)) (h x (r .0) (List·Memᴰ·head refl) (List·Memᴰ·tail (r .1)) (a .0 (r .0) (r .1))),
+        let r = Memᴰ·of-map f xs m in
+        subst (Q (f x)) (r .2) (h x (r .0) (List·Memᴰ·head refl) (List·Memᴰ·tail (r .1)) (a .0 (r .0) (r .1))),
     ascending-map R Q xs (λ z y m n. h z y (List·Memᴰ·tail m) (List·Memᴰ·tail n)) (a .1),
   )
 
@@ -325,3 +313,29 @@ module _ {A : Type 0} where
       (λ (j : x ∈ zs).
       ⊎-elim (λ (q : y ≡ z). absurd (h (subst (λ w. R w x) (sym q) (a .0 x j)))) (λ (k : y ∈ zs). ascending-one R zs (a .1) j k f h) (List·Memᴰ·cases-cons n))
       (List·Memᴰ·cases-cons m)
+
+  module _ (R : A → A → Type 0) (irreflexive : (x : A) → ¬ R x x) (transitive : (x y z : A) → R x y → R y z → R x z) (p : A → Bool) where
+    -- no element before the first that passes the test passes it
+    first-before : (l : List A) → Ascending R l → {x : A} → first p l ≡ some x → (y : A) → y ∈ l → R y x → T (not (p y))
+    first-before [] a e y m r = absurd (List·Memᴰ·not-nil m)
+    first-before (z ∷ zs) a {x} e y m r = step (p z) refl (λ q n. first-before zs (a .1) q y n r) e
+      where
+        step : (b : Bool) → p z ≡ b → (first p zs ≡ some x → y ∈ zs → T (not (p y))) → cond b (some z) (first p zs) ≡ some x → T (not (p y))
+        step true b below q =
+            let s : R y z = subst (R y) (sym (Option·some-injective z x q)) r in
+            ⊎-elim (λ (i : y ≡ z). absurd (irreflexive z (subst (λ w. R w z) i s))) (λ (n : y ∈ zs). absurd (irreflexive z (transitive z y z (a .0 y n) s))) (List·Memᴰ·cases-cons m)
+        step false b below q = ⊎-elim (λ (i : y ≡ z). rw (i, b) tt) (below q) (List·Memᴰ·cases-cons m)
+
+    -- the first of an ascending list that passes a test: it passes, and no element before it does
+    pub first-ascending : (l : List A) → Ascending R l → (x : A) → (first p l ≡ some x) ↔ (x ∈ l × T (p x) × ((y : A) → y ∈ l → R y x → T (not (p y))))
+    first-ascending l a x = (
+      λ e. let r = first-some p l e in (r .0, r .1, first-before l a e),
+      λ h. step (h .0) (h .1) (h .2) (first p l) refl,
+    )
+      where
+        step : x ∈ l → T (p x) → ((y : A) → y ∈ l → R y x → T (not (p y))) → (o : Option A) → first p l ≡ o → o ≡ some x
+        step m t least none e = absurd (T-not (p x) t (first-none p l e x m))
+        step m t least (some y) e =
+            let r = first-some p l e in
+            ap {B = Option A} some
+            (ascending-one R l a (r .0) m (λ y-x. T-not (p y) (r .1) (least y (r .0) y-x)) (λ x-y. T-not (p x) t (first-before l a e x m x-y)))

@@ -9,32 +9,15 @@ use native.Mathlib.Nat.{lt-irrefl, lt-trans}
 use lib.Dec.{T}
 use lib.ListN.{length}
 use lib.IntN.{ℤ, pos, ℤ-set}
-use lib.Signed.{_≤ℤ_, ≤ℤ-refl}
+use lib.Signed.{≤ℤ-refl}
 use mir.Facts.{and-yes, yes-and, or-yes, or-no, T-not, not-T}
-use Rattle.meaning.specs.Lists.{keep}
+use Rattle.meaning.specs.Lists.{keep, _∈_, Ascending}
 use Rattle.meaning.specs.Forms.{Sort, truth, number, collection, Connective, and, or, xor, implies, Quantifier, forall, exists, Arithmetic, add, sub}
 use Rattle.meaning.specs.Meaning.{Value, connected, quantified, combined, total}
-use Rattle.meaning.specs.Reach.{Direction, up, down, opposite, Passing, same, reversed, either, through, firstPart, secondPart, sourceOf, secondTerm}
-use Rattle.meaning.proofs.Lists.{_∈_, or-left, or-right, any-of, any-cases, every-of, every-at, keep-in, keep-from, Ascending, ascending-unique, ascending-shorter}
+use Rattle.meaning.specs.Reach.{Direction, up, down, opposite, Passing, same, reversed, either, through, firstTruth, secondTruth, sourceOf, secondTerm}
+use Rattle.meaning.specs.Unmoved.{Below, Unmoved, Through}
+use Rattle.meaning.proofs.Lists.{or-left, or-right, any-of, any-cases, every-of, every-at, keep-in, keep-from, ascending-unique, ascending-shorter}
 use Rattle.meaning.proofs.Integers.{pos-mono, add-mono, sub-mono}
-
--- One order for each sort: false ≤ true, the order of ℤ, inclusion.
-abbrev pub Below : (s : Sort) → Value s → Value s → Type 0
-Below truth a b = T a → T b
-Below number a b = a ≤ℤ b
-Below collection a b = (x : ℕ) → x ∈ a → x ∈ b
-
--- The value before and the value after, where the form does not move in direction d: what is not moved down has not fallen,
--- what is not moved up has not risen.
-abbrev pub Unmoved : (s : Sort) → Direction → Value s → Value s → Type 0
-Unmoved s down before after = Below s before after
-Unmoved s up before after = Below s after before
-
--- What is known of a part through which nothing moves the form in direction d.
-abbrev pub Through : Passing → (Direction → Type 0) → Direction → Type 0
-Through same P d = P d
-Through reversed P d = P (opposite d)
-Through either P d = P up × P down
 
 -- nothing moves through a part, as a test and as what follows from it
 pub through-none : (p : Passing) (moved : Direction → Bool) (P : Direction → Type 0) (d : Direction) → ((e : Direction) → T (not (moved e)) → P e) → T (not (through _||_ p moved d)) → Through p P d
@@ -72,8 +55,8 @@ pub negation-unmoved : (d : Direction) (a a′ : Bool) → Unmoved truth (opposi
 negation-unmoved up a a′ h = not-below a a′ h
 negation-unmoved down a a′ h = not-below a′ a h
 
-connective-below : (o : Connective) (a a′ b b′ : Bool) → Through (firstPart o) (λ e. Unmoved truth e a a′) down → Through (secondPart o) (λ e. Unmoved truth e b b′) down → Below truth (connected o a b) (connected o a′ b′)
-unfolding firstPart secondPart connected
+connective-below : (o : Connective) (a a′ b b′ : Bool) → Through (firstTruth o) (λ e. Unmoved truth e a a′) down → Through (secondTruth o) (λ e. Unmoved truth e b b′) down → Below truth (connected o a b) (connected o a′ b′)
+unfolding firstTruth secondTruth connected
 connective-below and a a′ b b′ h k = and-below a a′ b b′ h k
 connective-below or a a′ b b′ h k = or-below a a′ b b′ h k
 connective-below xor a a′ b b′ h k =
@@ -82,8 +65,8 @@ connective-below xor a a′ b b′ h k =
     (and-below (not a) (not a′) b b′ (not-below a′ a (h .0)) (k .1))
 connective-below implies a a′ b b′ h k = or-below (not a) (not a′) b b′ (not-below a′ a h) k
 
-pub connective-unmoved : (o : Connective) (d : Direction) (a a′ b b′ : Bool) → Through (firstPart o) (λ e. Unmoved truth e a a′) d → Through (secondPart o) (λ e. Unmoved truth e b b′) d → Unmoved truth d (connected o a b) (connected o a′ b′)
-connective-unmoved o up a a′ b b′ h k = connective-below o a′ a b′ b (exchanged truth (firstPart o) a a′ h) (exchanged truth (secondPart o) b b′ k)
+pub connective-unmoved : (o : Connective) (d : Direction) (a a′ b b′ : Bool) → Through (firstTruth o) (λ e. Unmoved truth e a a′) d → Through (secondTruth o) (λ e. Unmoved truth e b b′) d → Unmoved truth d (connected o a b) (connected o a′ b′)
+connective-unmoved o up a a′ b b′ h k = connective-below o a′ a b′ b (exchanged truth (firstTruth o) a a′ h) (exchanged truth (secondTruth o) b b′ k)
 connective-unmoved o down a a′ b b′ h k = connective-below o a a′ b b′ h k
 
 quantifier-below : (q : Quantifier) (p p′ : ℕ → Bool) (l l′ : List ℕ) → Through (sourceOf q) (λ e. Unmoved collection e l l′) down → ((x : ℕ) → x ∈ l → x ∈ l′ → Below truth (p x) (p′ x)) → Below truth (quantified q p l) (quantified q p′ l′)

@@ -10,16 +10,17 @@ use lib.IntN.{ℤ}
 use lib.Signed.{≤ℤ-refl}
 use lib.ListN.{length}
 use mir.Facts.{and-yes, or-no}
-use Rattle.meaning.specs.Lists.{any}
+use Rattle.meaning.specs.Lists.{any, _∈_}
 use Rattle.meaning.specs.Schema.{ObjectType, Relationship, Schema, cellsOf, under, knownType, knownRole, nearType, farType}
 use Rattle.meaning.specs.Register.{Register, isUnder, cellAt, instances, farEnds}
 use Rattle.meaning.specs.Forms.{Sort, truth, number, collection, Form, compare, negate, connect, quantify, kind, num, cell, size, sum, combine, role, all, select, bind, variable, memberType, wellTyped}
 use Rattle.meaning.specs.Meaning.{Value, meaning}
-use Rattle.meaning.specs.Reach.{Change, Direction, up, down, opposite, Passing, same, reversed, either, through, leftOf, rightOf, firstPart, secondPart, sourceOf, secondTerm, roleMoves, allMoves, cellMoves, kindMoves, moves}
-use Rattle.meaning.proofs.Lists.{_∈_, any-none, keep-from}
+use Rattle.meaning.specs.Reach.{Change, Direction, up, down, opposite, Passing, same, reversed, either, through, leftOf, rightOf, firstTruth, secondTruth, sourceOf, secondTerm, roleMoves, allMoves, cellMoves, kindMoves, moves}
+use Rattle.meaning.proofs.Lists.{any-none, keep-from}
 use Rattle.meaning.proofs.Variables.{Each, each-at, each-bind}
 use Rattle.meaning.proofs.Registers.{RegisterFits}
-use Rattle.meaning.proofs.Monotone.{Unmoved, Through, through-none, connective-unmoved, negation-unmoved, arithmetic-unmoved, quantifier-unmoved, select-unmoved, size-unmoved, sum-unmoved}
+use Rattle.meaning.specs.Unmoved.{Unmoved, Through}
+use Rattle.meaning.proofs.Monotone.{through-none, connective-unmoved, negation-unmoved, arithmetic-unmoved, quantifier-unmoved, select-unmoved, size-unmoved, sum-unmoved}
 use Rattle.meaning.proofs.Comparisons.{comparison-unmoved}
 use Rattle.meaning.proofs.Collections.{gathered, members-ascend}
 
@@ -101,7 +102,7 @@ module _ (c : Change) (first : Register) (Kept : ℕ → ℕ → Type 0) (leaves
   unmoved (negate a) ts vs w k d n = negation-unmoved d _ _ (unmoved a ts vs w k (opposite d) n)
   unmoved (connect o a b) ts vs w k d n =
       let ws = and-yes (wellTyped S ts a) (wellTyped S ts b) w in
-      let h = two-parts (firstPart o) (secondPart o) (moves c a vs) (moves c b vs) (Claim truth a vs) (Claim truth b vs) d (unmoved a ts vs (ws .0) k) (unmoved b ts vs (ws .1) k) n in
+      let h = two-parts (firstTruth o) (secondTruth o) (moves c a vs) (moves c b vs) (Claim truth a vs) (Claim truth b vs) d (unmoved a ts vs (ws .0) k) (unmoved b ts vs (ws .1) k) n in
       connective-unmoved o d _ _ _ _ (h .0) (h .1)
   unmoved (quantify q e b) ts vs w k d n =
       let ws = and-yes (wellTyped S ts e) (wellTyped S (bind ts (memberType relationships e)) b) w in

@@ -1,5 +1,5 @@
 -- The order of keys, once for objects, links, pairs and event types: `before` is a strict total order on keys of one length.
--- What `place` puts where, and what a table without a fault is.
+-- What `putInOrder` puts where, and what a table without a fault is.
 use Prim.Native.Nat.{ℕ, zero, suc, _+_, _≤_, _<_, suc-le-suc}
 use mathlib.Core.Path.{_≡_, refl, sym, ap, ap₂, subst, _∙_}
 use mathlib.Core.Logic.{_⊎_, inl, inr, ⊎-elim}
@@ -11,8 +11,8 @@ use native.Mathlib.Omega.{arith}
 use lib.Dec.{T, ltb, eqb, eqb-refl}
 use lib.ListN.{length, getElem?}
 use mir.Facts.{and-yes, yes-and, or-yes, T-not, not-T, T-not-not, ltb-yes, ltb-no, yes-ltb, eqb-yes, yes-eqb}
-use Rattle.meaning.specs.Lists.{first, before, same, ascends, place, faultFrom, firstFault}
-use Rattle.meaning.proofs.Lists.{_∈_, Ascending, or-left, or-right, decide, cond-no}
+use Rattle.meaning.specs.Lists.{first, Before, before, sameList, ascends, putInOrder, faultFrom, firstFault, _∈_, Ascending}
+use Rattle.meaning.proofs.Lists.{or-left, or-right, decide, cond-no}
 
 -- ---- keys
 
@@ -79,15 +79,15 @@ before-total (x ∷ xs) (y ∷ ys) e = step (lt-cases x y) (before-total xs ys (
     step (inr (inl p)) (inr (inl q)) = inr (inl (ap₂ _∷_ p q))
     step (inr (inl p)) (inr (inr t)) = inr (inr (before-tail y x ys xs (sym p) t))
 
-pub same-refl : (x : List ℕ) → T (same x x)
-same-refl [] = tt
-same-refl (x ∷ xs) = yes-and (eqb x x) (same xs xs) (eqb-refl x) (same-refl xs)
+pub same-list-refl : (x : List ℕ) → T (sameList x x)
+same-list-refl [] = tt
+same-list-refl (x ∷ xs) = yes-and (eqb x x) (sameList xs xs) (eqb-refl x) (same-list-refl xs)
 
-pub same-eq : (x y : List ℕ) → T (same x y) → x ≡ y
-same-eq [] [] t = refl
-same-eq [] (y ∷ ys) t = absurd t
-same-eq (x ∷ xs) [] t = absurd t
-same-eq (x ∷ xs) (y ∷ ys) t = let r = and-yes (eqb x y) (same xs ys) t in ap₂ _∷_ (eqb-yes (r .0)) (same-eq xs ys (r .1))
+pub same-list-eq : (x y : List ℕ) → T (sameList x y) → x ≡ y
+same-list-eq [] [] t = refl
+same-list-eq [] (y ∷ ys) t = absurd t
+same-list-eq (x ∷ xs) [] t = absurd t
+same-list-eq (x ∷ xs) (y ∷ ys) t = let r = and-yes (eqb x y) (sameList xs ys) t in ap₂ _∷_ (eqb-yes (r .0)) (same-list-eq xs ys (r .1))
 
 -- ---- tables
 
@@ -116,10 +116,7 @@ module _ {A : Type 0} where
   each-cons P x xs h rest y m = ⊎-elim (λ (e : y ≡ x). subst P (sym e) h) (rest y) (List·Memᴰ·cases-cons m)
 
 module _ {A : Type 0} (key : A → List ℕ) where
-  abbrev pub Before : A → A → Type 0
-  Before x y = T (before (key x) (key y))
-
-  ascends-after : (previous : Option A) (x y : A) → T (ascends key previous x) → Before x y → T (ascends key previous y)
+  ascends-after : (previous : Option A) (x y : A) → T (ascends key previous x) → Before key x y → T (ascends key previous y)
   ascends-after none x y s t = tt
   ascends-after (some p) x y s t = before-transitive (key p) (key x) (key y) s t
 
@@ -130,7 +127,7 @@ module _ {A : Type 0} (key : A → List ℕ) where
     abbrev faultyRow : ℕ → Option A → A → Bool
     faultyRow n previous x = not (goodRow previous x)
 
-    rows-from : (n : ℕ) (previous : Option A) (l : List A) → faultFrom faultyRow n previous l ≡ none → Ascending Before l × ((x : A) → x ∈ l → T (fits x)) × ((x : A) → x ∈ l → T (ascends key previous x))
+    rows-from : (n : ℕ) (previous : Option A) (l : List A) → faultFrom faultyRow n previous l ≡ none → Ascending (Before key) l × ((x : A) → x ∈ l → T (fits x)) × ((x : A) → x ∈ l → T (ascends key previous x))
     rows-from n previous [] e = (tt, (λ x m. absurd (List·Memᴰ·not-nil m)), (λ x m. absurd (List·Memᴰ·not-nil m)))
     rows-from n previous (x ∷ xs) e =
         let s = fault-step faultyRow n previous x xs e in
@@ -141,7 +138,7 @@ module _ {A : Type 0} (key : A → List ℕ) where
           each-cons (λ y. T (ascends key previous y)) x xs (row .0) (λ y m. ascends-after previous x y (row .0) (r .2 y m)),
         )
 
-    from-rows : (n : ℕ) (previous : Option A) (l : List A) → Ascending Before l → ((x : A) → x ∈ l → T (fits x)) → ((x : A) → x ∈ l → T (ascends key previous x)) → faultFrom faultyRow n previous l ≡ none
+    from-rows : (n : ℕ) (previous : Option A) (l : List A) → Ascending (Before key) l → ((x : A) → x ∈ l → T (fits x)) → ((x : A) → x ∈ l → T (ascends key previous x)) → faultFrom faultyRow n previous l ≡ none
     from-rows n previous [] a h p = refl
     from-rows n previous (x ∷ xs) a h p =
         let row = yes-and (ascends key previous x) (fits x) (p x (List·Memᴰ·head refl)) (h x (List·Memᴰ·head refl)) in
@@ -149,40 +146,40 @@ module _ {A : Type 0} (key : A → List ℕ) where
         ∙ from-rows (suc n) (some x) xs (a .1) (λ y m. h y (List·Memᴰ·tail m)) (a .0)
 
   -- a table that is checked for its order and each row by itself
-  pub rows-fit : (fits : A → Bool) (l : List A) → firstFault (λ n previous x. not (ascends key previous x && fits x)) l ≡ none → Ascending Before l × ((x : A) → x ∈ l → T (fits x))
+  pub rows-fit : (fits : A → Bool) (l : List A) → firstFault (λ n previous x. not (ascends key previous x && fits x)) l ≡ none → Ascending (Before key) l × ((x : A) → x ∈ l → T (fits x))
   rows-fit fits l e = let r = rows-from fits 0 none l e in (r .0, r .1)
 
-  pub fits-rows : (fits : A → Bool) (l : List A) → Ascending Before l → ((x : A) → x ∈ l → T (fits x)) → firstFault (λ n previous x. not (ascends key previous x && fits x)) l ≡ none
+  pub fits-rows : (fits : A → Bool) (l : List A) → Ascending (Before key) l → ((x : A) → x ∈ l → T (fits x)) → firstFault (λ n previous x. not (ascends key previous x && fits x)) l ≡ none
   fits-rows fits l a h = from-rows fits 0 none l a h (λ x m. tt)
 
   -- ---- place
 
-  pub place-from : (x : A) (l : List A) {y : A} → y ∈ place key x l → (y ≡ x) ⊎ (y ∈ l)
-  place-from x [] m = inl (List·Memᴰ·eq-of-singleton m)
-  place-from x (z ∷ zs) {y} m = step (before (key x) (key z)) (before (key z) (key x)) (λ n. place-from x zs n) m
+  pub put-from : (x : A) (l : List A) {y : A} → y ∈ putInOrder key x l → (y ≡ x) ⊎ (y ∈ l)
+  put-from x [] m = inl (List·Memᴰ·eq-of-singleton m)
+  put-from x (z ∷ zs) {y} m = step (before (key x) (key z)) (before (key z) (key x)) (λ n. put-from x zs n) m
     where
-      step : (b c : Bool) → (y ∈ place key x zs → (y ≡ x) ⊎ (y ∈ zs)) → y ∈ cond b (x ∷ z ∷ zs) (cond c (z ∷ place key x zs) (z ∷ zs)) → (y ≡ x) ⊎ (y ∈ (z ∷ zs))
+      step : (b c : Bool) → (y ∈ putInOrder key x zs → (y ≡ x) ⊎ (y ∈ zs)) → y ∈ cond b (x ∷ z ∷ zs) (cond c (z ∷ putInOrder key x zs) (z ∷ zs)) → (y ≡ x) ⊎ (y ∈ (z ∷ zs))
       step true c below n = List·Memᴰ·cases-cons n
       step false true below n =
           ⊎-elim (λ e. inr (List·Memᴰ·head e)) (λ k. ⊎-elim inl (λ j. inr (List·Memᴰ·tail j)) (below k)) (List·Memᴰ·cases-cons n)
       step false false below n = inr n
 
-  pub place-other : (x : A) (l : List A) {y : A} → y ∈ l → y ∈ place key x l
-  place-other x [] m = absurd (List·Memᴰ·not-nil m)
-  place-other x (z ∷ zs) {y} m = step (before (key x) (key z)) (before (key z) (key x)) (λ n. place-other x zs n)
+  pub put-other : (x : A) (l : List A) {y : A} → y ∈ l → y ∈ putInOrder key x l
+  put-other x [] m = absurd (List·Memᴰ·not-nil m)
+  put-other x (z ∷ zs) {y} m = step (before (key x) (key z)) (before (key z) (key x)) (λ n. put-other x zs n)
     where
-      step : (b c : Bool) → (y ∈ zs → y ∈ place key x zs) → y ∈ cond b (x ∷ z ∷ zs) (cond c (z ∷ place key x zs) (z ∷ zs))
+      step : (b c : Bool) → (y ∈ zs → y ∈ putInOrder key x zs) → y ∈ cond b (x ∷ z ∷ zs) (cond c (z ∷ putInOrder key x zs) (z ∷ zs))
       step true c below = List·Memᴰ·tail m
       step false true below = ⊎-elim List·Memᴰ·head (λ n. List·Memᴰ·tail (below n)) (List·Memᴰ·cases-cons m)
       step false false below = m
 
   module _ (width : ℕ) (one-width : (x : A) → length (key x) ≡ width) where
     -- what is placed is there, or something of the same key is
-    pub place-has : (x : A) (l : List A) → (z : A) × z ∈ place key x l × (key z ≡ key x)
-    place-has x [] = (x, List·Memᴰ·head refl, refl)
-    place-has x (y ∷ ys) = step (before (key x) (key y)) (before (key y) (key x)) refl refl (place-has x ys)
+    pub put-has : (x : A) (l : List A) → (z : A) × z ∈ putInOrder key x l × (key z ≡ key x)
+    put-has x [] = (x, List·Memᴰ·head refl, refl)
+    put-has x (y ∷ ys) = step (before (key x) (key y)) (before (key y) (key x)) refl refl (put-has x ys)
       where
-        step : (b c : Bool) → before (key x) (key y) ≡ b → before (key y) (key x) ≡ c → (z : A) × z ∈ place key x ys × (key z ≡ key x) → (z : A) × z ∈ cond b (x ∷ y ∷ ys) (cond c (y ∷ place key x ys) (y ∷ ys)) × (key z ≡ key x)
+        step : (b c : Bool) → before (key x) (key y) ≡ b → before (key y) (key x) ≡ c → (z : A) × z ∈ putInOrder key x ys × (key z ≡ key x) → (z : A) × z ∈ cond b (x ∷ y ∷ ys) (cond c (y ∷ putInOrder key x ys) (y ∷ ys)) × (key z ≡ key x)
         step true c p q below = (x, List·Memᴰ·head refl, refl)
         step false true p q below = (below .0, List·Memᴰ·tail (below .1), below .2)
         step false false p q below = (
@@ -191,36 +188,33 @@ module _ {A : Type 0} (key : A → List ℕ) where
           ⊎-elim (λ t. absurd (subst T p t)) (⊎-elim sym (λ t. absurd (subst T q t))) (before-total (key x) (key y) (one-width x ∙ sym (one-width y))),
         )
 
-    pub place-ascending : (x : A) (l : List A) → Ascending Before l → Ascending Before (place key x l)
-    place-ascending x [] a = ((λ y m. absurd (List·Memᴰ·not-nil m)), tt)
-    place-ascending x (y ∷ ys) a = step (before (key x) (key y)) (before (key y) (key x)) refl refl (place-ascending x ys (a .1))
+    pub put-ascending : (x : A) (l : List A) → Ascending (Before key) l → Ascending (Before key) (putInOrder key x l)
+    put-ascending x [] a = ((λ y m. absurd (List·Memᴰ·not-nil m)), tt)
+    put-ascending x (y ∷ ys) a = step (before (key x) (key y)) (before (key y) (key x)) refl refl (put-ascending x ys (a .1))
       where
-        step : (b c : Bool) → before (key x) (key y) ≡ b → before (key y) (key x) ≡ c → Ascending Before (place key x ys) → Ascending Before (cond b (x ∷ y ∷ ys) (cond c (y ∷ place key x ys) (y ∷ ys)))
+        step : (b c : Bool) → before (key x) (key y) ≡ b → before (key y) (key x) ≡ c → Ascending (Before key) (putInOrder key x ys) → Ascending (Before key) (cond b (x ∷ y ∷ ys) (cond c (y ∷ putInOrder key x ys) (y ∷ ys)))
         step true c p q r =
-            let h : Before x y = subst T (sym p) tt in
-            (each-cons (Before x) y ys h (λ z m. before-transitive (key x) (key y) (key z) h (a .0 z m)), a)
+            let h : Before key x y = subst T (sym p) tt in
+            (each-cons (Before key x) y ys h (λ z m. before-transitive (key x) (key y) (key z) h (a .0 z m)), a)
         step false true p q r =
-            (λ z m. ⊎-elim (λ (e : z ≡ x). subst (Before y) (sym e) (subst T (sym q) tt)) (a .0 z) (place-from x ys m), r)
+            (λ z m. ⊎-elim (λ (e : z ≡ x). subst (Before key y) (sym e) (subst T (sym q) tt)) (a .0 z) (put-from x ys m), r)
         step false false p q r = a
 
-pub same-swap : (x y : List ℕ) → T (same x y) → T (same y x)
-same-swap x y t = subst (λ z. T (same z x)) (same-eq x y t) (same-refl x)
-
 -- what is placed and fails the test is passed over
-pub first-place : {A : Type 0} (p : A → Bool) (key : A → List ℕ) (x : A) (l : List A) → T (not (p x)) → first p (place key x l) ≡ first p l
-first-place p key x [] n = cond-no (p x) (some x) none n
-first-place p key x (y ∷ ys) n = step (before (key x) (key y)) (before (key y) (key x)) (first-place p key x ys n)
+pub first-put : {A : Type 0} (p : A → Bool) (key : A → List ℕ) (x : A) (l : List A) → T (not (p x)) → first p (putInOrder key x l) ≡ first p l
+first-put p key x [] n = cond-no (p x) (some x) none n
+first-put p key x (y ∷ ys) n = step (before (key x) (key y)) (before (key y) (key x)) (first-put p key x ys n)
   where
-    step : (b c : Bool) → first p (place key x ys) ≡ first p ys → first p (cond b (x ∷ y ∷ ys) (cond c (y ∷ place key x ys) (y ∷ ys))) ≡ first p (y ∷ ys)
+    step : (b c : Bool) → first p (putInOrder key x ys) ≡ first p ys → first p (cond b (x ∷ y ∷ ys) (cond c (y ∷ putInOrder key x ys) (y ∷ ys))) ≡ first p (y ∷ ys)
     step true c below = cond-no (p x) (some x) (first p (y ∷ ys)) n
     step false true below = ap (cond (p y) (some y)) below
     step false false below = refl
 
-pub length-place : {A : Type 0} (key : A → List ℕ) (x : A) (l : List A) → length (place key x l) ≤ suc (length l)
-length-place key x [] = le-refl 1
-length-place key x (y ∷ ys) = step (before (key x) (key y)) (before (key y) (key x)) (length-place key x ys)
+pub length-put : {A : Type 0} (key : A → List ℕ) (x : A) (l : List A) → length (putInOrder key x l) ≤ suc (length l)
+length-put key x [] = le-refl 1
+length-put key x (y ∷ ys) = step (before (key x) (key y)) (before (key y) (key x)) (length-put key x ys)
   where
-    step : (b c : Bool) → length (place key x ys) ≤ suc (length ys) → length (cond b (x ∷ y ∷ ys) (cond c (y ∷ place key x ys) (y ∷ ys))) ≤ suc (suc (length ys))
+    step : (b c : Bool) → length (putInOrder key x ys) ≤ suc (length ys) → length (cond b (x ∷ y ∷ ys) (cond c (y ∷ putInOrder key x ys) (y ∷ ys))) ≤ suc (suc (length ys))
     step true c below = le-refl (suc (suc (length ys)))
     step false true below = suc-le-suc below
     step false false below = omega arith

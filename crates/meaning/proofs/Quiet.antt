@@ -4,21 +4,21 @@ use mathlib.Core.Path.{_≡_, refl, ap, subst}
 use mathlib.Core.Logic.{⊎-elim}
 use mathlib.Core.Bool.{Bool, true, false, _||_, not}
 use mathlib.Core.List.{List, [], _∷_}
-use lib.Dec.{T, eqb→eq}
+use lib.Dec.{T, eqb, eqb→eq}
 use mir.Facts.{and-yes, yes-and, or-yes, or-no, T-not, not-T}
-use Rattle.meaning.specs.Lists.{any}
+use Rattle.meaning.specs.Lists.{any, _∈_}
 use Rattle.meaning.specs.Schema.{Schema}
 use Rattle.meaning.specs.Register.{Link, Register, present, hasLink, startsAt, farEnds}
 use Rattle.meaning.specs.Forms.{truth, collection, Connective, and, or, xor, implies, Quantifier, forall, exists, Form, compare, negate, connect, quantify, kind, role, all, select, bind, variable}
 use Rattle.meaning.specs.Meaning.{connected, quantified, meaning}
 use Rattle.meaning.specs.Events.{Event, Lent, after}
-use Rattle.meaning.specs.Reach.{Change, changeBy, someStep, insertsInto, Direction, up, down, opposite, through, firstPart, secondPart, sourceOf, roleMoves, moves, roleOfSelf, quietQuantifier, quietConnective, quietly, inserted}
-use Rattle.meaning.proofs.Lists.{_∈_, or-left, or-right, no-or, not-and-left, not-and-right, not-not, any-cases, every-of, keep-from}
+use Rattle.meaning.specs.Reach.{stepAt, Change, changeBy, someStep, insertsInto, Direction, up, down, opposite, through, firstTruth, secondTruth, sourceOf, roleMoves, moves, roleOfSelf, quietQuantifier, quietConnective, quietly, inserted}
+use Rattle.meaning.proofs.Lists.{or-left, or-right, no-or, not-and-left, not-and-right, not-not, any-cases, every-of, keep-from}
 use Rattle.meaning.proofs.Schemas.{TypesFit}
 use Rattle.meaning.proofs.Registers.{RegisterFits, far-from, near-present}
 use Rattle.meaning.proofs.Effects.{insert-absent}
 use Rattle.meaning.proofs.Steps.{Throughout, Unrefused, throughout-map, throughout-both, each-side, each-both, each-map, step-none, fits-throughout, each-fit}
-use Rattle.meaning.proofs.Batches.{about, no-gain}
+use Rattle.meaning.proofs.Batches.{no-gain}
 
 -- the value is w
 abbrev Is : Bool → Bool → Type 0
@@ -31,8 +31,13 @@ against true = down
 against false = up
 
 -- what makes a connective quietly true or quietly false makes its value so
-connective-quiet : (o : Connective) (w : Bool) (a b : Bool) (qa qb : Bool → Bool) (ma mb : Direction → Bool) → ((v : Bool) → T (qa v) → T (not (ma (against v))) → Is v a) → ((v : Bool) → T (qb v) → T (not (mb (against v))) → Is v b) → T (quietConnective o w qa qb) → T (not (through _||_ (firstPart o) ma (against w) || through _||_ (secondPart o) mb (against w))) → Is w (connected o a b)
-unfolding quietConnective connected firstPart secondPart
+connective-quiet : (o : Connective) (w : Bool) (a b : Bool) (qa qb : Bool → Bool) (ma mb : Direction → Bool)
+    → ((v : Bool) → T (qa v) → T (not (ma (against v))) → Is v a)
+    → ((v : Bool) → T (qb v) → T (not (mb (against v))) → Is v b)
+    → T (quietConnective o w qa qb)
+    → T (not (through _||_ (firstTruth o) ma (against w) || through _||_ (secondTruth o) mb (against w)))
+    → Is w (connected o a b)
+unfolding quietConnective connected firstTruth secondTruth
 connective-quiet and true a b qa qb ma mb f g q n =
     let qs = and-yes (qa true) (qb true) q in let ns = or-no (ma down) (mb down) n in
     yes-and a b (f true (qs .0) (ns .0)) (g true (qs .1) (ns .1))
@@ -85,9 +90,9 @@ module _ (S : Schema) (types-fit : TypesFit (S .types)) (lent : Lent) (g : Regis
   not-linked : (r : ℕ) (l : Link) → T (startsAt r x l) → ¬ Throughout (λ g′. T (hasLink g′ l)) S g es
   unfolding inserted
   not-linked r l s h =
-      T-not (someStep c (about (insertsInto S t) x)) new
-      (step-none S (about (insertsInto S t) x) g es
-      (each-map S _ _ (λ g′ e k. not-T (about (insertsInto S t) x g′ e) (λ i. T-not (present g′ x) (k .1 .0) (insert-absent S types-fit lent g′ (k .0 .0) e (k .0 .1) x t i))) g es
+      T-not (someStep c (insertsInto (S .types) t (eqb x))) new
+      (step-none S (insertsInto (S .types) t (eqb x)) g es
+      (each-map S _ _ (λ g′ e k. not-T (insertsInto (S .types) t (eqb x) (stepAt g′ e)) (λ i. T-not (present g′ x) (k .1 .0) (insert-absent S types-fit lent g′ (k .0 .0) e (k .0 .1) x t i))) g es
       (each-both S _ _ g es (each-fit S types-fit lent g es fits ok)
       (each-side S (λ g′. T (present g′ x)) g es
       (throughout-map S _ _ (λ g′ k. near-present S g′ (k .0) r x l (k .1) s) g es

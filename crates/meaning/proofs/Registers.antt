@@ -2,17 +2,17 @@
 use Prim.Native.Nat.{ℕ, _<_}
 use mathlib.Core.Path.{_≡_, sym, subst, _∙_}
 use mathlib.Core.Bool.{Bool, true, false, _&&_, cond}
-use mathlib.Core.List.{List, [], _∷_, Memᴰ·cast}
+use mathlib.Core.List.{List, [], _∷_, Memᴰ·cast, Memᴰ·map, Memᴰ·of-map}
 use mathlib.Core.Option.{none, some}
 use lib.Dec.{T, eqb, eqb-refl}
 use lib.ListN.{length, getD, drop}
 use mir.Facts.{and-yes, yes-and, eqb-yes, yes-eqb}
-use Rattle.meaning.specs.Lists.{every, keep, before}
+use Rattle.meaning.specs.Lists.{every, keep, before, _∈_, Ascending, Before}
 use Rattle.meaning.specs.Limits.{cellCount, validId, fitsWord}
 use Rattle.meaning.specs.Schema.{ObjectType, Schema, knownType, knownRelationship, cellsOf, relationshipOf, forward, sourceType, targetType, farType, under}
 use Rattle.meaning.specs.Register.{Object, Link, Register, objectKey, linkKey, objectAt, present, isUnder, instances, sameLink, hasLink, nearEnd, farEnd, startsAt, farEnds, isZero, cellsFit, objectFits, faultyObject, linkFits, faultyLink, objectFault, linkFault}
-use Rattle.meaning.proofs.Lists.{_∈_, Ascending, first-only, ascending-one, holds-some, any-of, any-cases, keep-in, keep-from, first-some, ascending-keep, map-in, map-from, ascending-map}
-use Rattle.meaning.proofs.Order.{Before, before-one, before-last, before-first, before-irreflexive, same-eq, same-refl, rows-fit, fits-rows}
+use Rattle.meaning.proofs.Lists.{first-only, ascending-one, holds-some, any-of, any-cases, keep-in, keep-from, first-some, ascending-keep, ascending-map}
+use Rattle.meaning.proofs.Order.{before-one, before-last, before-first, before-irreflexive, same-list-eq, same-list-refl, rows-fit, fits-rows}
 
 pub record RegisterFits (S : Schema) (g : Register) : Type 0 where
   pub objects-ascend : Ascending (Before objectKey) (g .objects)
@@ -89,7 +89,7 @@ under-present types g x t u = rw (holds-some (λ o. under types (o .type) t) (ob
 
 pub same-link : (l k : Link) → T (sameLink l k) → l ≡ k
 same-link l k t =
-    let e = same-eq (linkKey l) (linkKey k) t in
+    let e = same-list-eq (linkKey l) (linkKey k) t in
     λ i. record { relationship = getD (e i) 0 0; source = getD (e i) 1 0; target = getD (e i) 2 0 }
 
 pub link-in : (g : Register) (l : Link) → T (hasLink g l) → l ∈ g .links
@@ -98,7 +98,7 @@ link-in g l t = let r = any-cases (sameLink l) (g .links) t in Memᴰ·cast (sam
 
 pub link-has : (g : Register) (l : Link) → l ∈ g .links → T (hasLink g l)
 unfolding hasLink
-link-has g l m = any-of (sameLink l) m (same-refl (linkKey l))
+link-has g l m = any-of (sameLink l) m (same-list-refl (linkKey l))
 
 -- ---- collections
 
@@ -107,14 +107,14 @@ unfolding isUnder instances
 instance-in types g x t u =
     let o = holds-some (λ o. under types (o .type) t) (objectAt g x) u in
     let r = object-at g x (o .1) in
-    Memᴰ·cast (sym (r .1)) (map-in (λ (o : Object). o .id) (keep-in (λ o. under types (o .type) t) (r .0) (o .2)))
+    Memᴰ·cast (sym (r .1)) (Memᴰ·map (λ (o : Object). o .id) (keep-in (λ o. under types (o .type) t) (r .0) (o .2)))
 
 pub instance-from : (types : List ObjectType) (g : Register) → Ascending (Before objectKey) (g .objects) → (x t : ℕ) → x ∈ instances types g t → T (isUnder types g x t)
 unfolding isUnder instances
 instance-from types g a x t m =
-    let o = map-from (λ (o : Object). o .id) (keep (λ o. under types (o .type) t) (g .objects)) m in
+    let o = Memᴰ·of-map (λ (o : Object). o .id) (keep (λ o. under types (o .type) t) (g .objects)) m in
     let k = keep-from (λ o. under types (o .type) t) (g .objects) (o .1) in
-    rw (o .2) (rw (ascending-found g a (k .0)) (k .1))
+    rw (← o .2) (rw (ascending-found g a (k .0)) (k .1))
 
 pub instances-ascend : (types : List ObjectType) (g : Register) → Ascending (Before objectKey) (g .objects) → (t : ℕ) → Ascending _<_ (instances types g t)
 unfolding instances
@@ -125,14 +125,14 @@ instances-ascend types g a t =
 
 pub far-in : (g : Register) (r u : ℕ) (l : Link) → T (hasLink g l) → T (startsAt r u l) → farEnd r l ∈ farEnds g r u
 unfolding farEnds
-far-in g r u l h s = map-in (farEnd r) (keep-in (startsAt r u) (link-in g l h) s)
+far-in g r u l h s = Memᴰ·map (farEnd r) (keep-in (startsAt r u) (link-in g l h) s)
 
 pub far-from : (g : Register) (r u x : ℕ) → x ∈ farEnds g r u → (l : Link) × T (hasLink g l) × T (startsAt r u l) × (x ≡ farEnd r l)
 unfolding farEnds
 far-from g r u x m =
-    let l = map-from (farEnd r) (keep (startsAt r u) (g .links)) m in
+    let l = Memᴰ·of-map (farEnd r) (keep (startsAt r u) (g .links)) m in
     let k = keep-from (startsAt r u) (g .links) (l .1) in
-    (l .0, link-has g (l .0) (k .0), k .1, l .2)
+    (l .0, link-has g (l .0) (k .0), k .1, sym (l .2))
 
 -- what a link of a role from u has
 starts : (r u : ℕ) (l : Link) → T (startsAt r u l) → (l .relationship ≡ relationshipOf r) × (nearEnd r l ≡ u)

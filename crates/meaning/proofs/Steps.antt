@@ -2,22 +2,52 @@
 use Prim.Native.Nat.{ℕ, suc, _≤_}
 use mathlib.Core.Path.{_≡_, refl, sym, subst, _∙_}
 use mathlib.Core.Logic.{⊎-elim}
-use mathlib.Core.Bool.{Bool, not}
+use mathlib.Core.Bool.{Bool, _&&_, not}
 use mathlib.Core.List.{List, [], _∷_, List·Memᴰ·not-nil, List·Memᴰ·cases-cons}
 use mathlib.Core.Option.{none, Option·map, map-eq-none-iff}
-use lib.Dec.{T}
+use lib.Dec.{T, eqb}
 use lib.ListN.{length}
-use mir.Facts.{or-no}
-use Rattle.meaning.specs.Lists.{any}
+use mir.Facts.{and-yes, yes-and, or-no, eqb-yes}
+use Rattle.meaning.specs.Lists.{any, _∈_}
 use Rattle.meaning.specs.Limits.{maxObjects}
 use Rattle.meaning.specs.Schema.{Schema}
 use Rattle.meaning.specs.Register.{Register}
-use Rattle.meaning.specs.Events.{Event, Lent, apply, after, eventRefusal, refusalFrom, batchRefusal}
-use Rattle.meaning.specs.Reach.{Step, Change, stepsOf, changeBy, someStep}
-use Rattle.meaning.proofs.Lists.{_∈_, no-or, first-of-none}
+use Rattle.meaning.specs.Events.{Event, insert, delete, set, join, part, special, general, Lent, apply, after, eventRefusal, refusalFrom, batchRefusal}
+use Rattle.meaning.specs.Reach.{Step, stepAt, Change, stepsOf, changeBy, someStep, Kind, inserts, deletes, sets, joins, parts, specials, generals, sameKind, among}
+use Rattle.meaning.proofs.Lists.{and-map, not-sub, no-or, any-map, first-of-none}
 use Rattle.meaning.proofs.Schemas.{TypesFit}
 use Rattle.meaning.proofs.Registers.{RegisterFits}
 use Rattle.meaning.proofs.Effects.{EventFits, event-fits, apply-fits, objects-limit}
+
+-- ---- what some step did
+
+-- an event of a kind of which one test holds, where another follows from it
+pub among-map : (which : Kind) (test wider : ℕ → ℕ → ℕ → Bool) → ((x y z : ℕ) → T (test x y z) → T (wider x y z)) → (e : Event) → T (among which test e) → T (among which wider e)
+among-map which test wider f (insert id t) = and-map (sameKind which inserts) _ _ (f id t 0)
+among-map which test wider f (delete id) = and-map (sameKind which deletes) _ _ (f id 0 0)
+among-map which test wider f (set id k v) = and-map (sameKind which sets) _ _ (f id k 0)
+among-map which test wider f (join r a b) = and-map (sameKind which joins) _ _ (f r a b)
+among-map which test wider f (part r a b) = and-map (sameKind which parts) _ _ (f r a b)
+among-map which test wider f (special id t) = and-map (sameKind which specials) _ _ (f id t 0)
+among-map which test wider f (general id t) = and-map (sameKind which generals) _ _ (f id t 0)
+
+-- what an event did to an object of which one test holds, where another follows from it
+pub among-whom : (which : Kind) (did : ℕ → ℕ → ℕ → Bool) (whom wider : ℕ → Bool) → ((x : ℕ) → T (whom x) → T (wider x)) → (e : Event) → T (among which (λ x y z. whom x && did x y z) e) → T (among which (λ x y z. wider x && did x y z) e)
+among-whom which did whom wider f =
+    among-map which _ _ (λ x y z t. let r = and-yes (whom x) (did x y z) t in yes-and (wider x) (did x y z) (f x (r .0)) (r .1))
+
+-- a test that holds of u holds of every number that is u
+pub holds-at : (whom : ℕ → Bool) (u : ℕ) → T (whom u) → (x : ℕ) → T (eqb u x) → T (whom x)
+holds-at whom u h x e = subst (λ y. T (whom y)) (eqb-yes e) h
+
+pub some-map : (c : Change) (did wider : Step → Bool) → ((s : Step) → T (did s) → T (wider s)) → T (someStep c did) → T (someStep c wider)
+unfolding someStep
+some-map c did wider f = any-map did wider (c .steps) (λ s m. f s)
+
+pub none-map : (c : Change) (did wider : Step → Bool) → ((s : Step) → T (did s) → T (wider s)) → T (not (someStep c wider)) → T (not (someStep c did))
+none-map c did wider f n = not-sub (someStep c did) (someStep c wider) (some-map c did wider f) n
+
+-- ---- every register on the way
 
 -- P holds of the register that each event meets, and of the one at the end.
 abbrev pub Throughout : (Register → Type 0) → Schema → Register → List Event → Type 0
@@ -100,24 +130,24 @@ module _ (S : Schema) where
   unchanged f g [] h = refl
   unchanged f g (e ∷ es) h = sym (h .0) ∙ unchanged f (apply S e g) es (h .1)
 
-  none-of : (did : Register → Event → Bool) (g : Register) (es : List Event) → T (not (any (λ s. did (s .met) (s .event)) (stepsOf S g es))) → EachStep (λ g′ e. T (not (did g′ e))) S g es
+  none-of : (did : Step → Bool) (g : Register) (es : List Event) → T (not (any did (stepsOf S g es))) → EachStep (λ g′ e. T (not (did (stepAt g′ e)))) S g es
   unfolding stepsOf
   none-of did g [] n = tt
   none-of did g (e ∷ es) n =
-      let h = or-no (did g e) (any (λ (s : Step). did (s .met) (s .event)) (stepsOf S (apply S e g) es)) n in
+      let h = or-no (did (stepAt g e)) (any did (stepsOf S (apply S e g) es)) n in
       (h .0, none-of did (apply S e g) es (h .1))
 
   -- what no step did
-  pub no-step : (did : Register → Event → Bool) (g : Register) (es : List Event) → T (not (someStep (changeBy S g es) did)) → EachStep (λ g′ e. T (not (did g′ e))) S g es
+  pub no-step : (did : Step → Bool) (g : Register) (es : List Event) → T (not (someStep (changeBy S g es) did)) → EachStep (λ g′ e. T (not (did (stepAt g′ e)))) S g es
   unfolding someStep
   no-step did g es n = none-of did g es n
 
-  none-in : (did : Register → Event → Bool) (g : Register) (es : List Event) → EachStep (λ g′ e. T (not (did g′ e))) S g es → T (not (any (λ s. did (s .met) (s .event)) (stepsOf S g es)))
+  none-in : (did : Step → Bool) (g : Register) (es : List Event) → EachStep (λ g′ e. T (not (did (stepAt g′ e)))) S g es → T (not (any did (stepsOf S g es)))
   unfolding stepsOf
   none-in did g [] h = tt
-  none-in did g (e ∷ es) h = no-or (did g e) _ (h .0) (none-in did (apply S e g) es (h .1))
+  none-in did g (e ∷ es) h = no-or (did (stepAt g e)) _ (h .0) (none-in did (apply S e g) es (h .1))
 
-  pub step-none : (did : Register → Event → Bool) (g : Register) (es : List Event) → EachStep (λ g′ e. T (not (did g′ e))) S g es → T (not (someStep (changeBy S g es) did))
+  pub step-none : (did : Step → Bool) (g : Register) (es : List Event) → EachStep (λ g′ e. T (not (did (stepAt g′ e)))) S g es → T (not (someStep (changeBy S g es) did))
   unfolding someStep
   step-none did g es h = none-in did g es h
 
@@ -147,5 +177,5 @@ module _ (S : Schema) where
   unfolding stepsOf
   steps-fit lent g [] u s m = absurd (List·Memᴰ·not-nil m)
   steps-fit lent g (e ∷ es) u s m =
-      ⊎-elim (λ (q : s ≡ record { event = e; met = g }). subst (StepFits S) (sym q) (event-fits S lent g e (u .0)))
+      ⊎-elim (λ (q : s ≡ stepAt g e). subst (StepFits S) (sym q) (event-fits S lent g e (u .0)))
       (λ n. steps-fit lent (apply S e g) es (u .1) s n) (List·Memᴰ·cases-cons m)

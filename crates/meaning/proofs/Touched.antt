@@ -6,21 +6,22 @@ use mathlib.Core.Bool.{Bool, false, _&&_, _||_, not, cond}
 use mathlib.Core.List.{List, [], _∷_, _++_, foldr, List·Memᴰ·head, List·Memᴰ·tail, Memᴰ·cast, Memᴰ·append-left, Memᴰ·append-right}
 use lib.Dec.{T, ltb, eqb}
 use lib.ListN.{length, getD}
-use mir.Facts.{and-yes, yes-and, or-yes, T-not, not-T, ltb-yes, eqb-yes}
-use Rattle.meaning.specs.Lists.{any, place}
+use mir.Facts.{and-yes, or-yes, T-not, not-T, ltb-yes}
+use Rattle.meaning.specs.Lists.{any, putInOrder, _∈_, Ascending, Before}
 use Rattle.meaning.specs.Schema.{ObjectType, Relationship, Schema, cellsOf, hasParent, under, relationshipOf}
 use Rattle.meaning.specs.Register.{Link, Register, objectAt, isUnder, nearEnd, startsAt, hasLink}
 use Rattle.meaning.specs.Forms.{Sort, truth, collection, Form, compare, negate, connect, quantify, kind, num, cell, size, sum, combine, role, all, select, bind, variable, memberType, wellTyped, Rule}
 use Rattle.meaning.specs.Meaning.{meaning}
-use Rattle.meaning.specs.Events.{Event, insert, delete, set, join, part, special, general, strictlyAbove, strictlyUnder}
-use Rattle.meaning.specs.Reach.{Step, Change, subject, linkNamed, joins, parts, sets, insertsInto, specialisesInto, deletesFrom, generalisesFrom, someStep, Direction, up, down, opposite, Passing, same, reversed, either, through, leftOf, rightOf, firstPart, secondPart, sourceOf, secondTerm, roleMoves, bringsIn, takesOut, allMoves, cellMoves, kindMoves, moves, quiet, inserted, specialised, broughtIn, selected}
-use Rattle.meaning.specs.EventList.{EventType, insertOf, deleteOf, setOf, joinOf, partOf, specialOf, generalOf, wordsOf, whereParent, roleLists, allLists, kindLists, lists, contextLists, eventList, occurs, touched}
-use Rattle.meaning.proofs.Lists.{_∈_, holds-some, or-left, or-right, decide, cond-yes, cond-no, any-of, any-cases, keep-from, Ascending}
-use Rattle.meaning.proofs.Order.{Before, place-other, place-has, place-ascending}
+use Rattle.meaning.specs.Events.{Event, insert, delete, set, join, part, special, general, linkOf, strictlyAbove, strictlyUnder}
+use Rattle.meaning.specs.Reach.{Step, stepAt, Change, someStep, Kind, inserts, sets, joins, parts, specials, generals, among, setsCell, insertsInto, specialisesInto, deletesFrom, generalisesFrom, anyone, Direction, up, down, opposite, Passing, same}
+use Rattle.meaning.specs.Reach.{reversed, either, through, leftOf, rightOf, firstTruth, secondTruth, sourceOf, secondTerm, roleMoves, allMoves, cellMoves, kindMoves, moves, quiet, inserted, specialised, broughtIn, selected}
+use Rattle.meaning.specs.EventList.{EventType, insertOf, deleteOf, setOf, joinOf, partOf, specialOf, generalOf, eventTypeWords, whereParent, roleLists, allLists, kindLists, lists, contextLists, eventList, occurs, touched}
+use Rattle.meaning.proofs.Lists.{holds-some, or-left, or-right, decide, cond-yes, cond-no, any-of, any-cases, keep-from}
+use Rattle.meaning.proofs.Order.{put-other, put-has, put-ascending}
 use Rattle.meaning.proofs.Schemas.{TypesFit, under-refl, under-linear, under-top}
 use Rattle.meaning.proofs.Variables.{Each, each-at, each-bind}
 use Rattle.meaning.proofs.Effects.{EventFits}
-use Rattle.meaning.proofs.Steps.{StepsFit}
+use Rattle.meaning.proofs.Steps.{among-map, among-whom, holds-at, some-map, StepsFit}
 use Rattle.meaning.proofs.Registers.{RegisterFits, instance-from, far-from, far-under}
 
 -- ---- a special or a general does not enter or leave a type without a parent
@@ -38,7 +39,7 @@ module _ (types : List ObjectType) (fits : TypesFit types) where
       below top (inr h) = subst (λ x. T (under types x t)) (under-top types fits t a top h) (under-refl types t)
 
 module _ (S : Schema) (fits : TypesFit (S .types)) (t : ℕ) (g : Register) where
-  special-parent : (e : Event) → EventFits S g e → T (specialisesInto S t g e) → T (hasParent (S .types) t)
+  special-parent : (e : Event) → EventFits S g e → T (specialisesInto (S .types) t anyone (stepAt g e)) → T (hasParent (S .types) t)
   unfolding strictlyAbove isUnder
   special-parent (insert id u) f h = absurd h
   special-parent (delete id) f h = absurd h
@@ -52,7 +53,7 @@ module _ (S : Schema) (fits : TypesFit (S .types)) (t : ℕ) (g : Register) wher
       has-parent (S .types) fits u w t (and-yes (under (S .types) u w) (not (eqb u w)) (o .2) .0) (r .0) (rw (o .1) at (r .1))
   special-parent (general id u) f h = absurd h
 
-  general-parent : (e : Event) → EventFits S g e → T (generalisesFrom S t g e) → T (hasParent (S .types) t)
+  general-parent : (e : Event) → EventFits S g e → T (generalisesFrom (S .types) t anyone (stepAt g e)) → T (hasParent (S .types) t)
   unfolding strictlyUnder isUnder
   general-parent (insert id u) f h = absurd h
   general-parent (delete id) f h = absurd h
@@ -90,8 +91,8 @@ ofWords w =
     let kinds = insertOf t ∷ deleteOf t ∷ setOf t (getD w 2 0) ∷ joinOf t ∷ partOf t ∷ specialOf t ∷ generalOf t ∷ [] in
     getD kinds (getD w 0 0) (insertOf t)
 
-of-words : (e : EventType) → ofWords (wordsOf e) ≡ e
-unfolding ofWords wordsOf
+of-words : (e : EventType) → ofWords (eventTypeWords e) ≡ e
+unfolding ofWords eventTypeWords
 of-words (insertOf t) = refl
 of-words (deleteOf t) = refl
 of-words (setOf t k) = refl
@@ -100,8 +101,8 @@ of-words (partOf r) = refl
 of-words (specialOf t) = refl
 of-words (generalOf t) = refl
 
-pub three-words : (e : EventType) → length (wordsOf e) ≡ 3
-unfolding wordsOf
+pub three-words : (e : EventType) → length (eventTypeWords e) ≡ 3
+unfolding eventTypeWords
 three-words (insertOf t) = refl
 three-words (deleteOf t) = refl
 three-words (setOf t k) = refl
@@ -110,17 +111,17 @@ three-words (partOf r) = refl
 three-words (specialOf t) = refl
 three-words (generalOf t) = refl
 
-placed-ascends : (l : List EventType) → Ascending (Before wordsOf) (foldr (place wordsOf) [] l)
+placed-ascends : (l : List EventType) → Ascending (Before eventTypeWords) (foldr (putInOrder eventTypeWords) [] l)
 placed-ascends [] = tt
-placed-ascends (x ∷ xs) = place-ascending wordsOf 3 three-words x (foldr (place wordsOf) [] xs) (placed-ascends xs)
+placed-ascends (x ∷ xs) = put-ascending eventTypeWords 3 three-words x (foldr (putInOrder eventTypeWords) [] xs) (placed-ascends xs)
 
-placed : {e : EventType} {l : List EventType} → e ∈ l → e ∈ foldr (place wordsOf) [] l
+placed : {e : EventType} {l : List EventType} → e ∈ l → e ∈ foldr (putInOrder eventTypeWords) [] l
 placed {e} (List·Memᴰ·head {x = x} {xs = xs} q) =
-    let z = place-has wordsOf 3 three-words x (foldr (place wordsOf) [] xs) in
+    let z = put-has eventTypeWords 3 three-words x (foldr (putInOrder eventTypeWords) [] xs) in
     Memᴰ·cast (q ∙ sym (of-words x) ∙ ap ofWords (sym (z .2)) ∙ of-words (z .0)) (z .1)
-placed (List·Memᴰ·tail {x = x} {xs = xs} m) = place-other wordsOf x (foldr (place wordsOf) [] xs) (placed m)
+placed (List·Memᴰ·tail {x = x} {xs = xs} m) = put-other eventTypeWords x (foldr (putInOrder eventTypeWords) [] xs) (placed m)
 
-pub event-list-ascends : (S : Schema) (r : Rule) → Ascending (Before wordsOf) (eventList S r)
+pub event-list-ascends : (S : Schema) (r : Rule) → Ascending (Before eventTypeWords) (eventList S r)
 unfolding eventList
 event-list-ascends S r = placed-ascends (lists S (r .body) (r .context ∷ []) down ++ contextLists S r)
 
@@ -159,31 +160,20 @@ module _ (c : Change) where
 
   -- ---- steps
 
-  step-of : (did : Register → Event → Bool) → T (someStep c did) → (s : Step) × s ∈ c .steps × T (did (s .met) (s .event))
+  step-of : (did : Step → Bool) → T (someStep c did) → (s : Step) × s ∈ c .steps × T (did s)
   unfolding someStep
-  step-of did = any-cases (λ (s : Step). did (s .met) (s .event)) (c .steps)
+  step-of did = any-cases did (c .steps)
 
-  of-step : (did : Register → Event → Bool) {s : Step} → s ∈ c .steps → T (did (s .met) (s .event)) → T (someStep c did)
+  some-either : (a b : Step → Bool) → T (someStep c (λ s. a s || b s)) → T (someStep c a || someStep c b)
   unfolding someStep
-  of-step did = any-of (λ (s : Step). did (s .met) (s .event))
-
-  some-either : (a b : Register → Event → Bool) → T (someStep c (λ g e. a g e || b g e)) → T (someStep c a || someStep c b)
   some-either a b t =
-      let s = step-of (λ g e. a g e || b g e) t in
-      ⊎-elim (λ h. or-left (someStep c a) (someStep c b) (of-step a (s .1) h)) (λ h. or-right (someStep c a) (someStep c b) (of-step b (s .1) h))
-      (or-yes (a (s .0 .met) (s .0 .event)) (b (s .0 .met) (s .0 .event)) (s .2))
+      let s = step-of (λ s. a s || b s) t in
+      ⊎-elim (λ h. or-left (someStep c a) (someStep c b) (any-of a (s .1) h)) (λ h. or-right (someStep c a) (someStep c b) (any-of b (s .1) h))
+      (or-yes (a (s .0)) (b (s .0)) (s .2))
 
-  some-first : (a : Register → Event → Bool) (b : Event → Bool) → T (someStep c (λ g e. a g e && b e)) → T (someStep c a)
-  some-first a b t =
-      let s = step-of (λ g e. a g e && b e) t in
-      of-step a (s .1) (and-yes (a (s .0 .met) (s .0 .event)) (b (s .0 .event)) (s .2) .0)
-
-  some-second : (a b d : Event → Bool) → ((e : Event) → T (b e) → T (d e)) → T (someStep c (λ g e. a e && b e)) → T (someStep c (λ g e. a e && d e))
-  some-second a b d f t =
-      let s = step-of (λ g e. a e && b e) t in
-      let e = s .0 .event in
-      let r = and-yes (a e) (b e) (s .2) in
-      of-step (λ g e. a e && d e) (s .1) (yes-and (a e) (d e) (r .0) (f e (r .1)))
+  -- what some event of the kind did to an object, some event of the kind did
+  some-anyone : (which : Kind) (did : Step → ℕ → ℕ → ℕ → Bool) (whom : ℕ → Bool) → T (someStep c (λ s. among which (λ x y z. whom x && did s x y z) (s .event))) → T (someStep c (λ s. among which (did s) (s .event)))
+  some-anyone which did whom = some-map c _ _ (λ s. among-map which _ _ (λ x y z t. and-yes (whom x) (did s x y z) t .1) (s .event))
 
   -- ---- what moves a role or a cell is listed
 
@@ -191,18 +181,16 @@ module _ (c : Change) where
   unfolding roleMoves roleLists occurs
   role-listed r u up h =
       any-of (occurs c) {l = roleLists r up} (List·Memᴰ·head refl)
-      (some-second joins (λ e. startsAt r u (linkNamed e) && hasLink (c .end) (linkNamed e)) _
-      (λ e t. starts-relationship r u (linkNamed e) (and-yes (startsAt r u (linkNamed e)) (hasLink (c .end) (linkNamed e)) t .0))
-      h)
+      (some-map c _ _
+      (λ s. among-map joins _ _ (λ n a b t. starts-relationship r u (linkOf n a b) (and-yes (startsAt r u (linkOf n a b)) (hasLink (c .end) (linkOf n a b)) t .0)) (s .event)) h)
   role-listed r u down h =
-      any-of (occurs c) {l = roleLists r down} (List·Memᴰ·head refl)
-      (some-second parts (λ e. startsAt r u (linkNamed e)) _ (λ e. starts-relationship r u (linkNamed e)) h)
+      any-of (occurs c) {l = roleLists r down} (List·Memᴰ·head refl) (some-map c _ _ (λ s. among-map parts _ _ (λ n a b. starts-relationship r u (linkOf n a b)) (s .event)) h)
 
   cell-listed : (u t k : ℕ) → T (isUnder types (c .end) u t) → T (cellMoves c u k) → T (occurs c (setOf t k))
   unfolding cellMoves occurs
   cell-listed u t k h =
-      some-second (sets k) (λ e. eqb (subject e) u) (λ e. isUnder types (c .end) (subject e) t)
-      (λ e q. subst (λ x. T (isUnder types (c .end) x t)) (sym (eqb-yes q)) h)
+      let there : ℕ → Bool = λ x. isUnder types (c .end) x t in
+      some-map c (setsCell (eqb u) k) (setsCell there k) (λ s. among-whom sets _ (eqb u) there (holds-at there u h) (s .event))
 
   -- ---- what moves a form is listed, by what moves its parts
 
@@ -238,33 +226,31 @@ module _ (c : Change) where
     special-listed : (t : ℕ) → T (occurs c (specialOf t)) → T (occur (whereParent S t (specialOf t)))
     unfolding occurs
     special-listed t h =
-        let s = step-of (specialisesInto S t) h in
+        let s = step-of (specialisesInto types t anyone) h in
         where-parent t (specialOf t) (special-parent S types-fit t (s .0 .met) (s .0 .event) (steps-fit (s .0) (s .1)) (s .2)) h
 
     general-listed : (t : ℕ) → T (occurs c (generalOf t)) → T (occur (whereParent S t (generalOf t)))
     unfolding occurs
     general-listed t h =
-        let s = step-of (generalisesFrom S t) h in
+        let s = step-of (generalisesFrom types t anyone) h in
         where-parent t (generalOf t) (general-parent S types-fit t (s .0 .met) (s .0 .event) (steps-fit (s .0) (s .1)) (s .2)) h
 
     all-listed : (t : ℕ) (d : Direction) → T (allMoves c t d) → T (occur (allLists S t d))
-    unfolding allMoves bringsIn takesOut allLists occurs
+    unfolding allMoves allLists occurs
     all-listed t up h =
-        occur-either (occurs c (insertOf t)) (occurs c (specialOf t)) (insertOf t ∷ []) (whereParent S t (specialOf t))
-        (one-listed (insertOf t)) (special-listed t)
-        (some-either (insertsInto S t) (specialisesInto S t)
-        (some-first (λ g e. insertsInto S t g e || specialisesInto S t g e) (λ e. isUnder types (c .end) (subject e) t) h))
+        let there : ℕ → Bool = λ x. isUnder types (c .end) x t in
+        occur-either (someStep c (insertsInto types t there)) (someStep c (specialisesInto types t there)) (insertOf t ∷ []) (whereParent S t (specialOf t))
+        (λ i. one-listed (insertOf t) (some-anyone inserts _ there i)) (λ i. special-listed t (some-anyone specials _ there i))
+        (some-either (insertsInto types t there) (specialisesInto types t there) h)
     all-listed t down h =
         occur-either (occurs c (deleteOf t)) (occurs c (generalOf t)) (deleteOf t ∷ []) (whereParent S t (generalOf t))
         (one-listed (deleteOf t)) (general-listed t)
-        (some-either (deletesFrom S t) (generalisesFrom S t) h)
+        (some-either (deletesFrom types t anyone) (generalisesFrom types t anyone) h)
 
     kind-listed : (u t : ℕ) (d : Direction) → T (kindMoves c u t d) → T (occur (kindLists S t d))
-    unfolding kindMoves kindLists occurs
-    kind-listed u t up h =
-        let entered = someStep c (λ g e. specialisesInto S t g e && eqb (subject e) u) in
-        special-listed t (some-first (specialisesInto S t) (λ e. eqb (subject e) u) (and-yes entered (isUnder types (c .end) u t) h .0))
-    kind-listed u t down h = general-listed t (some-first (generalisesFrom S t) (λ e. eqb (subject e) u) h)
+    unfolding kindMoves specialised kindLists occurs
+    kind-listed u t up h = special-listed t (some-anyone specials _ (eqb u) (and-yes (specialised c u t) (isUnder types (c .end) u t) h .0))
+    kind-listed u t down h = general-listed t (some-anyone generals _ (eqb u) h)
 
     -- a form over a collection: by the collection, or at one of its members
     members-listed : (x : Passing) (k : Form collection) (vs ts : List ℕ) (m : ℕ → Bool) (l : List EventType)
@@ -297,7 +283,7 @@ module _ (c : Change) where
     unfolding wellTyped moves lists
     moves-listed (compare o a b) vs ts v w = parts-listed (leftOf o) (rightOf o) a b vs ts (moves-listed a vs ts v) (moves-listed b vs ts v) w
     moves-listed (negate a) vs ts v w = through-listed reversed a vs ts (moves-listed a vs ts v w)
-    moves-listed (connect o a b) vs ts v w = parts-listed (firstPart o) (secondPart o) a b vs ts (moves-listed a vs ts v) (moves-listed b vs ts v) w
+    moves-listed (connect o a b) vs ts v w = parts-listed (firstTruth o) (secondTruth o) a b vs ts (moves-listed a vs ts v) (moves-listed b vs ts v) w
     moves-listed (quantify q k b) vs ts v w = body-listed (sourceOf q) k b vs ts v (moves-listed k vs ts v) (moves-listed b) w
     moves-listed (kind x u) vs ts v w = kind-listed (variable vs x) u
     moves-listed (num n) vs ts v w = λ d t. absurd t
@@ -325,8 +311,8 @@ module _ (c : Change) where
         (λ h.
         let u = and-yes (inserted c s t) (not calm) h in
         rw (cond-no calm [] (insertOf t ∷ []) (u .1))
-        (one-listed (insertOf t) (some-first (insertsInto S t) (λ e. eqb (subject e) s) (u .0))))
-        (λ h. special-listed t (some-first (specialisesInto S t) (λ e. eqb (subject e) s) h))
+        (one-listed (insertOf t) (some-anyone inserts _ (eqb s) (u .0))))
+        (λ h. special-listed t (some-anyone specials _ (eqb s) h))
 
     selected-touched : (r : Rule) → T (wellTyped S (r .context ∷ []) (r .body)) → (s : ℕ) → T (selected c r s) → T (touched c r)
     unfolding touched eventList

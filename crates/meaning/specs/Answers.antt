@@ -1,7 +1,7 @@
 -- Document 01, "A full check answers ..", "A batch check answers ..", and "Where each refusal is met" for a book, a register
 -- and a batch: refusals 3, 4, 5, 7 to 13 and 14. (2 and 6 are of the lent tables, 1 of the text.)
 use Prim.Native.Nat.{ℕ, _*_}
-use mathlib.Core.Bool.{cond}
+use mathlib.Core.Bool.{Bool, cond}
 use mathlib.Core.List.{List, []}
 use mathlib.Core.Option.{Option, none, some}
 use lib.Dec.{ltb}
@@ -45,13 +45,17 @@ lackedRule k rule = cond (ltb rule (length (k .rules))) none (some (record { num
 unfoldable pub refusalFor : Book → Register → ℕ → Option Refusal
 refusalFor k g rule = firstOf (bookRefusal k) (firstOf (lackedRule k rule) (registerRefusal (k .schema) g))
 
+-- "A rule is *broken* at an object": the rule and the object of a pair
+abbrev pub pairBroken : Book → Register → Pair → Bool
+pairBroken k g p = ofRule k (λ r. broken (k .schema .types) g r (p .id)) (p .rule)
+
 -- the first pair of a list that is broken in the register, else accepted
 unfoldable pub foundAnswer : Option Pair → Answer
 foundAnswer none = accepted
 foundAnswer (some p) = brokenAt (p .rule) (p .id)
 
 unfoldable pub firstBroken : Book → Register → List Pair → Answer
-firstBroken k g pairs = foundAnswer (first (λ p. ofRule k (λ r. broken (k .schema .types) g r (p .id)) (p .rule)) pairs)
+firstBroken k g pairs = foundAnswer (first (pairBroken k g) pairs)
 
 unfoldable pub unlessRefused : Option Refusal → Answer → Answer
 unlessRefused none answer = answer

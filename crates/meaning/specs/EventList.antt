@@ -1,13 +1,14 @@
 -- Document 01, "Event list of a rule": the same rules without objects, and when a listed event type occurs.
 use Prim.Native.Nat.{ℕ}
-use mathlib.Core.Bool.{Bool, _&&_, cond}
+use mathlib.Core.Bool.{Bool, cond}
 use mathlib.Core.List.{List, [], _∷_, _++_, foldr}
 use lib.Dec.{eqb}
-use Rattle.meaning.specs.Lists.{any, place}
+use Rattle.meaning.specs.Lists.{any, putInOrder}
 use Rattle.meaning.specs.Schema.{Schema, hasParent, relationshipOf}
 use Rattle.meaning.specs.Register.{isUnder}
 use Rattle.meaning.specs.Forms.{Sort, Form, compare, negate, connect, quantify, kind, num, cell, size, sum, combine, role, all, select, bind, variable, memberType, Rule}
-use Rattle.meaning.specs.Reach.{Change, someStep, subject, linkNamed, joins, parts, sets, insertsInto, specialisesInto, deletesFrom, generalisesFrom, Direction, up, down, same, reversed, either, through, leftOf, rightOf, firstPart, secondPart, sourceOf, secondTerm, quiet}
+use Rattle.meaning.specs.Reach.{Change, someStep, inserts, deletes, sets, joins, parts, specials, generals, kindPlace, among, setsCell, insertsInto, specialisesInto, deletesFrom, generalisesFrom}
+use Rattle.meaning.specs.Reach.{anyone, Direction, up, down, same, reversed, either, through, leftOf, rightOf, firstTruth, secondTruth, sourceOf, secondTerm, quiet}
 
 -- What a rule lists: a kind of event with the type, the type and cell, or the relationship that it names.
 pub data EventType : Type 0 where
@@ -17,14 +18,14 @@ pub data EventType : Type 0 where
   specialOf generalOf : (type : ℕ) → EventType
 
 -- "three 16-bit words each: place in that order from 0, type or relationship, cell or 0"
-unfoldable pub wordsOf : EventType → List ℕ
-wordsOf (insertOf t) = 0 ∷ t ∷ 0 ∷ []
-wordsOf (deleteOf t) = 1 ∷ t ∷ 0 ∷ []
-wordsOf (setOf t k) = 2 ∷ t ∷ k ∷ []
-wordsOf (joinOf r) = 3 ∷ r ∷ 0 ∷ []
-wordsOf (partOf r) = 4 ∷ r ∷ 0 ∷ []
-wordsOf (specialOf t) = 5 ∷ t ∷ 0 ∷ []
-wordsOf (generalOf t) = 6 ∷ t ∷ 0 ∷ []
+unfoldable pub eventTypeWords : EventType → List ℕ
+eventTypeWords (insertOf t) = kindPlace inserts ∷ t ∷ 0 ∷ []
+eventTypeWords (deleteOf t) = kindPlace deletes ∷ t ∷ 0 ∷ []
+eventTypeWords (setOf t k) = kindPlace sets ∷ t ∷ k ∷ []
+eventTypeWords (joinOf r) = kindPlace joins ∷ r ∷ 0 ∷ []
+eventTypeWords (partOf r) = kindPlace parts ∷ r ∷ 0 ∷ []
+eventTypeWords (specialOf t) = kindPlace specials ∷ t ∷ 0 ∷ []
+eventTypeWords (generalOf t) = kindPlace generals ∷ t ∷ 0 ∷ []
 
 -- "`special t` and `general t` are left out where t has no parent."
 unfoldable pub whereParent : Schema → ℕ → EventType → List EventType
@@ -48,7 +49,7 @@ kindLists S t down = whereParent S t (generalOf t)
 unfoldable pub lists : {s : Sort} → Schema → Form s → List ℕ → Direction → List EventType
 lists S (compare o a b) ts d = through _++_ (leftOf o) (lists S a ts) d ++ through _++_ (rightOf o) (lists S b ts) d
 lists S (negate a) ts d = through _++_ reversed (lists S a ts) d
-lists S (connect o a b) ts d = through _++_ (firstPart o) (lists S a ts) d ++ through _++_ (secondPart o) (lists S b ts) d
+lists S (connect o a b) ts d = through _++_ (firstTruth o) (lists S a ts) d ++ through _++_ (secondTruth o) (lists S b ts) d
 lists S (quantify q c b) ts d = through _++_ (sourceOf q) (lists S c ts) d ++ lists S b (bind ts (memberType (S .relationships) c)) d
 lists S (kind v t) ts d = kindLists S t d
 lists S (num n) ts d = []
@@ -66,19 +67,19 @@ contextLists S r = cond (quiet (r .body)) [] (insertOf (r .context) ∷ []) ++ w
 
 -- "Order: the events' order above, then numbers, none twice"
 unfoldable pub eventList : Schema → Rule → List EventType
-eventList S r = foldr (place wordsOf) [] (lists S (r .body) (r .context ∷ []) down ++ contextLists S r)
+eventList S r = foldr (putInOrder eventTypeWords) [] (lists S (r .body) (r .context ∷ []) down ++ contextLists S r)
 
 -- "An insert, delete, special or general counts for every type it brings the object into or out of; a set counts for every
 -- type its object is under at the end, with its cell; a join or part for its relationship. A listed event type occurs when an
 -- event of its kind in the batch counts for what it names."
 unfoldable pub occurs : Change → EventType → Bool
-occurs c (insertOf t) = someStep c (insertsInto (c .schema) t)
-occurs c (deleteOf t) = someStep c (deletesFrom (c .schema) t)
-occurs c (setOf t k) = someStep c (λ g e. sets k e && isUnder (c .schema .types) (c .end) (subject e) t)
-occurs c (joinOf r) = someStep c (λ g e. joins e && eqb ((linkNamed e) .relationship) r)
-occurs c (partOf r) = someStep c (λ g e. parts e && eqb ((linkNamed e) .relationship) r)
-occurs c (specialOf t) = someStep c (specialisesInto (c .schema) t)
-occurs c (generalOf t) = someStep c (generalisesFrom (c .schema) t)
+occurs c (insertOf t) = someStep c (insertsInto (c .schema .types) t anyone)
+occurs c (deleteOf t) = someStep c (deletesFrom (c .schema .types) t anyone)
+occurs c (setOf t k) = someStep c (setsCell (λ x. isUnder (c .schema .types) (c .end) x t) k)
+occurs c (joinOf r) = someStep c (λ s. among joins (λ n a b. eqb n r) (s .event))
+occurs c (partOf r) = someStep c (λ s. among parts (λ n a b. eqb n r) (s .event))
+occurs c (specialOf t) = someStep c (specialisesInto (c .schema .types) t anyone)
+occurs c (generalOf t) = someStep c (generalisesFrom (c .schema .types) t anyone)
 
 -- "The rules a batch touches": a listed event type occurs.
 unfoldable pub touched : Change → Rule → Bool

@@ -6,7 +6,7 @@ use mathlib.Core.Option.{Option, none, some, Option·map}
 use lib.Dec.{ltb, leb, eqb}
 use lib.ListN.{length, take, replicate, set as replaceAt}
 use lib.IntN.{ℤ, pos}
-use Rattle.meaning.specs.Lists.{any, keep, holds, firstOf, place}
+use Rattle.meaning.specs.Lists.{any, keep, holds, firstOf, putInOrder}
 use Rattle.meaning.specs.Limits.{maxObjects, maxLinks, cellCount, validId, fitsWord}
 use Rattle.meaning.specs.Schema.{ObjectType, Schema, knownType, knownRelationship, cellsOf, under, sourceType, targetType}
 use Rattle.meaning.specs.Register.{Object, Link, Register, objectKey, linkKey, objectAt, present, isUnder, sameLink, hasLink}
@@ -57,10 +57,10 @@ amended id change g =
 -- "Insert adds the object, delete takes it out, set puts v in cell k, join adds the link, part takes it out, special and
 -- general put type t, cells as above; nothing else changes."
 unfoldable pub apply : Schema → Event → Register → Register
-apply S (insert id t) g = record { objects = place objectKey (newObject id t) (g .objects); links = g .links }
+apply S (insert id t) g = record { objects = putInOrder objectKey (newObject id t) (g .objects); links = g .links }
 apply S (delete id) g = record { objects = keep (λ o. not (eqb (o .id) id)) (g .objects); links = g .links }
 apply S (set id k v) g = amended id (withCell k v) g
-apply S (join r a b) g = record { objects = g .objects; links = place linkKey (linkOf r a b) (g .links) }
+apply S (join r a b) g = record { objects = g .objects; links = putInOrder linkKey (linkOf r a b) (g .links) }
 apply S (part r a b) g = record { objects = g .objects; links = keep (λ l. not (sameLink (linkOf r a b) l)) (g .links) }
 apply S (special id t) g = amended id (withType t) g
 apply S (general id t) g = amended id (withHigherType (S .types) t) g

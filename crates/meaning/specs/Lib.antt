@@ -9,6 +9,10 @@
 --   Reach      the reach rules; quiet; the selected pairs
 --   EventList  the event list of a rule; when a listed event type occurs
 --   Answers    the answers of the full check and of the batch check
+-- What is proved of them:
+--   Unmoved    when a value has not moved in a direction
+--   Cases      the marked cases (a) to (m), and cases beyond them, as one table
+--   Claims     each theorem as a proposition
 pub mod Lists
 pub mod Limits
 pub mod Schema
@@ -19,3 +23,6 @@ pub mod Events
 pub mod Reach
 pub mod EventList
 pub mod Answers
+pub mod Unmoved
+pub mod Cases
+pub mod Claims

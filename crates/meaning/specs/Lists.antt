@@ -1,9 +1,14 @@
 -- Operations on lists and optional values that the definitions of document 01 are written in.
 use Prim.Native.Nat.{ℕ, suc}
 use mathlib.Core.Bool.{Bool, true, false, _&&_, _||_, cond}
-use mathlib.Core.List.{List, [], _∷_}
+use mathlib.Core.List.{List, [], _∷_, List·Memᴰ}
 use mathlib.Core.Option.{Option, none, some}
-use lib.Dec.{ltb, eqb}
+use lib.Dec.{T, ltb, eqb}
+
+infix 50 _∈_
+-- the element is one of the list
+abbrev pub _∈_ : {A : Type 0} → A → List A → Type 0
+x ∈ l = List·Memᴰ x l
 
 module _ {A : Type 0} where
   -- some element passes the test
@@ -44,28 +49,37 @@ module _ {A : Type 0} where
   abbrev pub firstFault : (ℕ → Option A → A → Bool) → List A → Option ℕ
   firstFault faulty rows = faultFrom faulty 0 none rows
 
+  -- "ascending, none twice": each element stands in the relation to all that come after it
+  abbrev pub Ascending : (A → A → Type 0) → List A → Type 0
+  Ascending R [] = Unit {0}
+  Ascending R (x ∷ xs) = ((y : A) → y ∈ xs → R x y) × Ascending R xs
+
 -- The order of rows by their keys: number by number.
 abbrev pub before : List ℕ → List ℕ → Bool
 before [] ys = false
 before (x ∷ xs) [] = false
 before (x ∷ xs) (y ∷ ys) = ltb x y || (eqb x y && before xs ys)
 
--- the same key
-abbrev pub same : List ℕ → List ℕ → Bool
-same [] [] = true
-same [] (y ∷ ys) = false
-same (x ∷ xs) [] = false
-same (x ∷ xs) (y ∷ ys) = eqb x y && same xs ys
+-- the two lists of numbers are one, as keys and as names
+abbrev pub sameList : List ℕ → List ℕ → Bool
+sameList [] [] = true
+sameList [] (y ∷ ys) = false
+sameList (x ∷ xs) [] = false
+sameList (x ∷ xs) (y ∷ ys) = eqb x y && sameList xs ys
 
 module _ {A : Type 0} (key : A → List ℕ) where
+  -- the first comes before the second, by their keys
+  abbrev pub Before : A → A → Type 0
+  Before x y = T (before (key x) (key y))
+
   -- the row comes after the one before it, if there is one
   abbrev pub ascends : Option A → A → Bool
   ascends none x = true
   ascends (some p) x = before (key p) (key x)
 
   -- Into its place in an ascending list. What is there already is not put in twice.
-  abbrev pub place : A → List A → List A
-  place x [] = x ∷ []
-  place x (y ∷ ys) =
+  abbrev pub putInOrder : A → List A → List A
+  putInOrder x [] = x ∷ []
+  putInOrder x (y ∷ ys) =
       cond (before (key x) (key y)) (x ∷ y ∷ ys)
-      (cond (before (key y) (key x)) (y ∷ place x ys) (y ∷ ys))
+      (cond (before (key y) (key x)) (y ∷ putInOrder x ys) (y ∷ ys))

@@ -8,7 +8,8 @@ use lib.Signed.{leZ, ltZ}
 use Rattle.meaning.specs.Lists.{any, every, keep}
 use Rattle.meaning.specs.Schema.{ObjectType}
 use Rattle.meaning.specs.Register.{Register, isUnder, cellAt, instances, farEnds}
-use Rattle.meaning.specs.Forms.{Sort, truth, number, collection, Comparison, le, lt, eq, ne, ge, gt, Connective, and, or, xor, implies, Quantifier, forall, exists, Arithmetic, add, sub, Form, compare, negate, connect, quantify, kind, num, cell, size, sum, combine, role, all, select, bind, variable, Rule, Book}
+use Rattle.meaning.specs.Forms.{Sort, truth, number, collection, Comparison, le, lt, eq, ne, ge, gt, Connective, and, or, xor, implies, Quantifier, forall, exists, Arithmetic, add, sub, Form}
+use Rattle.meaning.specs.Forms.{compare, negate, connect, quantify, kind, num, cell, size, sum, combine, role, all, select, bind, variable, Rule, Book}
 
 -- A truth is true or false, a number is exact, and "all collections are sets": the members' ids, ascending, none twice.
 abbrev pub Value : Sort → Type 0

@@ -7,7 +7,8 @@ use lib.ListN.{getElem?}
 use Rattle.meaning.specs.Lists.{any, keep, holds}
 use Rattle.meaning.specs.Schema.{ObjectType, Schema, under}
 use Rattle.meaning.specs.Register.{Link, Register, isUnder, instances, hasLink, startsAt}
-use Rattle.meaning.specs.Forms.{Sort, truth, collection, Comparison, le, lt, eq, ne, ge, gt, Connective, and, or, xor, implies, Quantifier, forall, exists, Arithmetic, add, sub, Form, compare, negate, connect, quantify, kind, num, cell, size, sum, combine, role, all, select, bind, variable, Rule, Book}
+use Rattle.meaning.specs.Forms.{Sort, truth, collection, Comparison, le, lt, eq, ne, ge, gt, Connective, and, or, xor, implies, Quantifier, forall, exists, Arithmetic, add, sub, Form}
+use Rattle.meaning.specs.Forms.{compare, negate, connect, quantify, kind, num, cell, size, sum, combine, role, all, select, bind, variable, Rule, Book}
 use Rattle.meaning.specs.Meaning.{meaning}
 use Rattle.meaning.specs.Events.{Event, insert, delete, set, join, part, special, general, linkOf, apply, after}
 
@@ -18,6 +19,10 @@ pub record Step : Type 0 where
   pub event : Event
   pub met : Register
 
+-- a step by its parts
+abbrev pub stepAt : Register → Event → Step
+stepAt g e = record { event = e; met = g }
+
 -- All that the reach rules look at: the steps of the batch, in order, and the register at the end.
 pub record Change : Type 0 where
   pub schema : Schema
@@ -26,103 +31,84 @@ pub record Change : Type 0 where
 
 unfoldable pub stepsOf : Schema → Register → List Event → List Step
 stepsOf S g [] = []
-stepsOf S g (e ∷ es) = record { event = e; met = g } ∷ stepsOf S (apply S e g) es
+stepsOf S g (e ∷ es) = stepAt g e ∷ stepsOf S (apply S e g) es
 
 abbrev pub changeBy : Schema → Register → List Event → Change
 changeBy S g es = record { schema = S; steps = stepsOf S g es; end = after S g es }
 
+-- Some step of the batch did so. An object is known by its id, whatever came before a delete of it.
+unfoldable pub someStep : Change → (Step → Bool) → Bool
+someStep c did = any did (c .steps)
+
 -- ---- what an event did
 
--- the object that an event is about; a join or part is about none, and no id is 0
-abbrev pub subject : Event → ℕ
-subject (insert id t) = id
-subject (delete id) = id
-subject (set id j v) = id
-subject (join r a b) = 0
-subject (part r a b) = 0
-subject (special id t) = id
-subject (general id t) = id
+-- the kinds of events, in document 01's order
+pub data Kind : Type 0 where
+  inserts deletes sets joins parts specials generals : Kind
 
--- the link that a join or part names
-abbrev pub linkNamed : Event → Link
-linkNamed (insert id t) = linkOf 0 0 0
-linkNamed (delete id) = linkOf 0 0 0
-linkNamed (set id j v) = linkOf 0 0 0
-linkNamed (join r a b) = linkOf r a b
-linkNamed (part r a b) = linkOf r a b
-linkNamed (special id t) = linkOf 0 0 0
-linkNamed (general id t) = linkOf 0 0 0
+-- "place in that order from 0"
+abbrev pub kindPlace : Kind → ℕ
+kindPlace inserts = 0
+kindPlace deletes = 1
+kindPlace sets = 2
+kindPlace joins = 3
+kindPlace parts = 4
+kindPlace specials = 5
+kindPlace generals = 6
 
-abbrev pub joins : Event → Bool
-joins (insert id t) = false
-joins (delete id) = false
-joins (set id j v) = false
-joins (join r a b) = true
-joins (part r a b) = false
-joins (special id t) = false
-joins (general id t) = false
+-- the two are one kind
+abbrev pub sameKind : Kind → Kind → Bool
+sameKind j k = eqb (kindPlace j) (kindPlace k)
 
-abbrev pub parts : Event → Bool
-parts (insert id t) = false
-parts (delete id) = false
-parts (set id j v) = false
-parts (join r a b) = false
-parts (part r a b) = true
-parts (special id t) = false
-parts (general id t) = false
+-- The event is one of that kind, and the test holds of the numbers that it names, in their order and 0 after the last.
+abbrev pub among : Kind → (ℕ → ℕ → ℕ → Bool) → Event → Bool
+among which test (insert id t) = sameKind which inserts && test id t 0
+among which test (delete id) = sameKind which deletes && test id 0 0
+among which test (set id k v) = sameKind which sets && test id k 0
+among which test (join r a b) = sameKind which joins && test r a b
+among which test (part r a b) = sameKind which parts && test r a b
+among which test (special id t) = sameKind which specials && test id t 0
+among which test (general id t) = sameKind which generals && test id t 0
 
-abbrev pub sets : ℕ → Event → Bool
-sets k (insert id t) = false
-sets k (delete id) = false
-sets k (set id j v) = eqb j k
-sets k (join r a b) = false
-sets k (part r a b) = false
-sets k (special id t) = false
-sets k (general id t) = false
+-- "a join named such a link", one of the role from object u, and the test holds of it
+abbrev pub joined : ℕ → ℕ → (Link → Bool) → Step → Bool
+joined r u test s = among joins (λ n a b. startsAt r u (linkOf n a b) && test (linkOf n a b)) (s .event)
 
--- An insert brings its object into every type that it is now under.
-abbrev pub insertsInto : Schema → ℕ → Register → Event → Bool
-insertsInto S t g (insert id u) = under (S .types) u t
-insertsInto S t g (delete id) = false
-insertsInto S t g (set id j v) = false
-insertsInto S t g (join r a b) = false
-insertsInto S t g (part r a b) = false
-insertsInto S t g (special id u) = false
-insertsInto S t g (general id u) = false
+-- "a part named one" of the role from object u
+abbrev pub parted : ℕ → ℕ → Step → Bool
+parted r u s = among parts (λ n a b. startsAt r u (linkOf n a b)) (s .event)
 
--- A special brings its object into the types that it is now under and was not under before.
-abbrev pub specialisesInto : Schema → ℕ → Register → Event → Bool
-specialisesInto S t g (insert id u) = false
-specialisesInto S t g (delete id) = false
-specialisesInto S t g (set id j v) = false
-specialisesInto S t g (join r a b) = false
-specialisesInto S t g (part r a b) = false
-specialisesInto S t g (special id u) = under (S .types) u t && not (isUnder (S .types) g id t)
-specialisesInto S t g (general id u) = false
+-- "a set named that object and cell", of an object of which `whose` holds
+abbrev pub setsCell : (ℕ → Bool) → ℕ → Step → Bool
+setsCell whose k s = among sets (λ id j n. whose id && eqb j k) (s .event)
 
--- A delete takes its object out of every type that it was under.
-abbrev pub deletesFrom : Schema → ℕ → Register → Event → Bool
-deletesFrom S t g (insert id u) = false
-deletesFrom S t g (delete id) = isUnder (S .types) g id t
-deletesFrom S t g (set id j v) = false
-deletesFrom S t g (join r a b) = false
-deletesFrom S t g (part r a b) = false
-deletesFrom S t g (special id u) = false
-deletesFrom S t g (general id u) = false
+-- What brings an object into a type or takes it out, an object of which `whom` holds: an insert brings it into every type that it is
+-- now under, a special into those that it was not under before; a delete takes it out of every type that it was under, a general out of
+-- those that it is not under now.
+module _ (types : List ObjectType) (t : ℕ) (whom : ℕ → Bool) (s : Step) where
+  abbrev pub insertsInto : Bool
+  insertsInto = among inserts (λ id u n. whom id && under types u t) (s .event)
 
--- A general takes its object out of the types that it was under and is not under now.
-abbrev pub generalisesFrom : Schema → ℕ → Register → Event → Bool
-generalisesFrom S t g (insert id u) = false
-generalisesFrom S t g (delete id) = false
-generalisesFrom S t g (set id j v) = false
-generalisesFrom S t g (join r a b) = false
-generalisesFrom S t g (part r a b) = false
-generalisesFrom S t g (special id u) = false
-generalisesFrom S t g (general id u) = isUnder (S .types) g id t && not (under (S .types) u t)
+  abbrev pub specialisesInto : Bool
+  specialisesInto = among specials (λ id u n. whom id && (under types u t && not (isUnder types (s .met) id t))) (s .event)
 
--- Some step of the batch did so. An object is known by its id, whatever came before a delete of it.
-unfoldable pub someStep : Change → (Register → Event → Bool) → Bool
-someStep c did = any (λ s. did (s .met) (s .event)) (c .steps)
+  abbrev pub deletesFrom : Bool
+  deletesFrom = among deletes (λ id m n. whom id && isUnder types (s .met) id t) (s .event)
+
+  abbrev pub generalisesFrom : Bool
+  generalisesFrom = among generals (λ id u n. whom id && (isUnder types (s .met) id t && not (under types u t))) (s .event)
+
+  -- "an insert or special brought in an object"
+  abbrev pub bringsIn : Bool
+  bringsIn = insertsInto || specialisesInto
+
+  -- "a delete or general took one out"
+  abbrev pub takesOut : Bool
+  takesOut = deletesFrom || generalisesFrom
+
+-- of whichever object
+abbrev pub anyone : ℕ → Bool
+anyone x = true
 
 -- ---- directions
 
@@ -163,17 +149,17 @@ rightOf ge = reversed
 rightOf gt = reversed
 
 -- "`and`, `or` as either part; `implies` reverses its left; `xor` either way by any movement of a part."
-unfoldable pub firstPart : Connective → Passing
-firstPart and = same
-firstPart or = same
-firstPart xor = either
-firstPart implies = reversed
+unfoldable pub firstTruth : Connective → Passing
+firstTruth and = same
+firstTruth or = same
+firstTruth xor = either
+firstTruth implies = reversed
 
-unfoldable pub secondPart : Connective → Passing
-secondPart and = same
-secondPart or = same
-secondPart xor = either
-secondPart implies = same
+unfoldable pub secondTruth : Connective → Passing
+secondTruth and = same
+secondTruth or = same
+secondTruth xor = either
+secondTruth implies = same
 
 -- "`forall` may turn false by gain, ..; true by loss, ... `exists`: false by loss .., true by gain"
 unfoldable pub sourceOf : Quantifier → Passing
@@ -190,31 +176,30 @@ secondTerm sub = reversed
 -- "A role from object u has a *gain* if a join named such a link and it is there at the end. It has a *loss* if a part named
 -- one, back again or not."
 unfoldable pub roleMoves : Change → ℕ → ℕ → Direction → Bool
-roleMoves c r u up = someStep c (λ g e. joins e && (startsAt r u (linkNamed e) && hasLink (c .end) (linkNamed e)))
-roleMoves c r u down = someStep c (λ g e. parts e && startsAt r u (linkNamed e))
-
--- "an insert or special brought in an object", "a delete or general took one out"
-unfoldable pub bringsIn : Schema → ℕ → Register → Event → Bool
-bringsIn S t g e = insertsInto S t g e || specialisesInto S t g e
-
-unfoldable pub takesOut : Schema → ℕ → Register → Event → Bool
-takesOut S t g e = deletesFrom S t g e || generalisesFrom S t g e
+roleMoves c r u up = someStep c (joined r u (hasLink (c .end)))
+roleMoves c r u down = someStep c (parted r u)
 
 -- "`all t`: gain if an insert or special brought in an object that is under t at the end; loss if a delete or general took one
 -- out."
 unfoldable pub allMoves : Change → ℕ → Direction → Bool
-allMoves c t up = someStep c (λ g e. bringsIn (c .schema) t g e && isUnder (c .schema .types) (c .end) (subject e) t)
-allMoves c t down = someStep c (takesOut (c .schema) t)
+allMoves c t up = someStep c (bringsIn (c .schema .types) t (λ x. isUnder (c .schema .types) (c .end) x t))
+allMoves c t down = someStep c (takesOut (c .schema .types) t anyone)
 
 -- "`cell`: may rise or fall if a set named that object and cell."
 unfoldable pub cellMoves : Change → ℕ → ℕ → Bool
-cellMoves c u k = someStep c (λ g e. sets k e && eqb (subject e) u)
+cellMoves c u k = someStep c (setsCell (eqb u) k)
+
+-- an insert, or a special, brought that object into t
+unfoldable pub inserted : Change → ℕ → ℕ → Bool
+inserted c u t = someStep c (insertsInto (c .schema .types) t (eqb u))
+
+unfoldable pub specialised : Change → ℕ → ℕ → Bool
+specialised c u t = someStep c (specialisesInto (c .schema .types) t (eqb u))
 
 -- "`kind v t`: false if a general took that object out of t, true if a special brought it in and it is there at the end."
 unfoldable pub kindMoves : Change → ℕ → ℕ → Direction → Bool
-kindMoves c u t up =
-    someStep c (λ g e. specialisesInto (c .schema) t g e && eqb (subject e) u) && isUnder (c .schema .types) (c .end) u t
-kindMoves c u t down = someStep c (λ g e. generalisesFrom (c .schema) t g e && eqb (subject e) u)
+kindMoves c u t up = specialised c u t && isUnder (c .schema .types) (c .end) u t
+kindMoves c u t down = someStep c (generalisesFrom (c .schema .types) t (eqb u))
 
 -- ---- the forms
 
@@ -225,7 +210,7 @@ kindMoves c u t down = someStep c (λ g e. generalisesFrom (c .schema) t g e && 
 unfoldable pub moves : {s : Sort} → Change → Form s → List ℕ → Direction → Bool
 moves c (compare o a b) vs d = through _||_ (leftOf o) (moves c a vs) d || through _||_ (rightOf o) (moves c b vs) d
 moves c (negate a) vs d = through _||_ reversed (moves c a vs) d
-moves c (connect o a b) vs d = through _||_ (firstPart o) (moves c a vs) d || through _||_ (secondPart o) (moves c b vs) d
+moves c (connect o a b) vs d = through _||_ (firstTruth o) (moves c a vs) d || through _||_ (secondTruth o) (moves c b vs) d
 moves c (quantify q k b) vs d =
     through _||_ (sourceOf q) (moves c k vs) d || any (λ x. moves c b (bind vs x) d) (meaning (c .schema .types) (c .end) k vs)
 moves c (kind v t) vs d = kindMoves c (variable vs v) t d
@@ -277,12 +262,6 @@ quiet body = quietly body true
 
 -- ---- selection
 
-unfoldable pub inserted : Change → ℕ → ℕ → Bool
-inserted c s t = someStep c (λ g e. insertsInto (c .schema) t g e && eqb (subject e) s)
-
-unfoldable pub specialised : Change → ℕ → ℕ → Bool
-specialised c s t = someStep c (λ g e. specialisesInto (c .schema) t g e && eqb (subject e) s)
-
 -- "an insert brought s into the context type and the body is not quiet; or a special did"
 unfoldable pub broughtIn : Change → Rule → ℕ → Bool
 broughtIn c r s = (inserted c s (r .context) && not (quiet (r .body))) || specialised c s (r .context)
@@ -300,6 +279,10 @@ pub record Pair : Type 0 where
 abbrev pub pairOf : ℕ → ℕ → Pair
 pairOf n id = record { rule = n; id = id }
 
+-- the order of pairs: "rule then id"
+abbrev pub pairKey : Pair → List ℕ
+pairKey p = p .rule ∷ p .id ∷ []
+
 -- Every pair of a rule and an object under its context type, ascending. n is the first rule's number.
 unfoldable pub pairsFrom : List ObjectType → Register → ℕ → List Rule → List Pair
 pairsFrom types g n [] = []
@@ -312,6 +295,10 @@ contextPairs k g = pairsFrom (k .schema .types) g 0 (k .rules)
 unfoldable pub ofRule : Book → (Rule → Bool) → ℕ → Bool
 ofRule k fact n = holds fact (getElem? (k .rules) n)
 
+-- "Pair (rule, s) is selected"
+abbrev pub pairSelected : Book → Change → Pair → Bool
+pairSelected k c p = ofRule k (λ r. selected c r (p .id)) (p .rule)
+
 -- "The list is .. rule then id, ascending, no repeat."
 unfoldable pub selectedPairs : Book → Change → List Pair
-selectedPairs k c = keep (λ p. ofRule k (λ r. selected c r (p .id)) (p .rule)) (contextPairs k (c .end))
+selectedPairs k c = keep (pairSelected k c) (contextPairs k (c .end))

@@ -7,7 +7,7 @@ use lib.Dec.{eqb}
 use lib.ListN.{length, getD, drop}
 use lib.IntN.{ℤ, pos}
 use lib.Signed.{leZ}
-use Rattle.meaning.specs.Lists.{any, every, keep, first, holds, ascends, same, firstFault}
+use Rattle.meaning.specs.Lists.{any, every, keep, first, holds, ascends, sameList, firstFault}
 use Rattle.meaning.specs.Limits.{cellCount, validId, fitsWord}
 use Rattle.meaning.specs.Schema.{ObjectType, Schema, knownType, knownRelationship, cellsOf, under, relationshipOf, forward, sourceType, targetType}
 
@@ -57,7 +57,7 @@ instances types g t = map (λ (o : Object). o .id) (keep (λ o. under types (o .
 -- ---- links
 
 abbrev pub sameLink : Link → Link → Bool
-sameLink k l = same (linkKey k) (linkKey l)
+sameLink k l = sameList (linkKey k) (linkKey l)
 
 unfoldable pub hasLink : Register → Link → Bool
 hasLink g l = any (sameLink l) (g .links)

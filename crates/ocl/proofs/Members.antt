@@ -9,8 +9,8 @@ use native.Mathlib.Nat.{le-of-lt, le-refl}
 use native.Mathlib.Omega.{arith}
 use lib.Dec.{T, leb, ltb}
 use mir.Facts.{not-T, leb-yes, yes-leb, ltb-yes, yes-ltb, no-leb, no-ltb}
-use Rattle.meaning.specs.Lists.{keep, first}
-use Rattle.meaning.proofs.Lists.{_∈_, Ascending, cond-yes, cond-no, first-some, decide}
+use Rattle.meaning.specs.Lists.{keep, first, _∈_, Ascending}
+use Rattle.meaning.proofs.Lists.{cond-yes, cond-no, first-some, decide}
 use Rattle.ocl.specs.Walks.{isFrom}
 
 -- ---- keep

@@ -9,11 +9,10 @@ use native.Mathlib.Omega.{arith}
 use lib.Dec.{T, leb, ltb}
 use lib.ListN.{getD}
 use mir.Facts.{yes-leb, ltb-yes, yes-ltb}
-use Rattle.meaning.specs.Lists.{keep, first}
+use Rattle.meaning.specs.Lists.{keep, first, Ascending}
 use Rattle.meaning.specs.Register.{instances, farEnds}
 use Rattle.meaning.specs.Forms.{truth, collection, Form, role, all, select, bind, variable}
 use Rattle.meaning.specs.Meaning.{meaning}
-use Rattle.meaning.proofs.Lists.{Ascending}
 use Rattle.register.specs.Slots.{farId, Place, Indexed}
 use Rattle.register.proofs.Walk.{first-placed, first-far, place-slot, far-there, far-member, next-placed, next-far}
 use Rattle.ocl.specs.Site.{Site, typesAt, registerAt, idIn, idsOf}

@@ -9,8 +9,7 @@ use lib.IntN.{natAbs}
 use Rattle.meaning.specs.Limits.{maxForms, maxRelationships, fitsWord}
 use Rattle.meaning.specs.Register.{Register, objectKey, present, cellAt, farEnds}
 use Rattle.meaning.specs.Forms.{Sort, truth, number, collection, Form, compare, negate, connect, quantify, kind, num, cell, size, sum, combine, role, all, select}
-use Rattle.meaning.proofs.Lists.{_∈_, Ascending}
-use Rattle.meaning.proofs.Order.{Before}
+use Rattle.meaning.specs.Lists.{_∈_, Ascending, Before}
 use Rattle.tables.specs.Bodies.{Part, asTruth, asNumber, asCollection, reads, ending}
 use Rattle.register.specs.Slots.{Indexed}
 use Rattle.ocl.specs.Site.{Site, registerAt, rowsAt, formAt}

@@ -10,11 +10,11 @@ use lib.ListN.{length, getD, length-replicate}
 use borrow.Author.Tests.{ltb-true, lt-ltb, not-true, not-false}
 use Rattle.lexical.specs.Lines.{lineIn, lineEnded}
 use Rattle.text.specs.Entries.{Entry, entryIn, tableOf, bodiesOf}
-use Rattle.text.specs.Texts.{maxText, overfull, Reading, taken, refused, entryThen, lineThen, afterLine, readFrom, reading, filled}
+use Rattle.text.specs.Texts.{maxText, noRoom, Reading, taken, refused, entryThen, lineThen, afterLine, readFrom, reading, filled}
 use Rattle.reader.specs.declared.Outcome.{Outcome}
 use Rattle.reader.specs.declared.Outcome.the-variants.{Done, Refused}
 use Rattle.reader.specs.declared.look.Seen.{Seen}
-use Rattle.reader.specs.Looks.{Counted, numberOf, Shown}
+use Rattle.reader.specs.Looks.{Counted, refusalNumber, Shown}
 use Rattle.reader.specs.Reads.{lentRows, unlessBroken, readAnswer, tableAfter}
 use Rattle.reader.specs.Fills.{Holds}
 
@@ -35,7 +35,7 @@ line-numbered lent n before more h (b ∷ l) = ended (lineEnded (b ∷ l))
 
     said : (o : Option Entry) → numbered (entryThen lent n before more o) ≡ true
     said none = refl
-    said (some e) = full e (overfull lent before e)
+    said (some e) = full e (noRoom lent before e)
 
     ended : (c : Bool) → numbered (cond c (entryThen lent n before more (entryIn before (lineIn (b ∷ l)))) (refused 1 n)) ≡ true
     ended true = said (entryIn before (lineIn (b ∷ l)))
@@ -71,7 +71,7 @@ is-taken lent text {seen} k h = step (reading lent text) refl
   where
     step : (r : Reading) → reading lent text ≡ r → (es : List Entry) × (reading lent text ≡ taken es)
     step (taken es) q = (es, q)
-    step (refused number line) q = absurd (omega (arith, h, k .number-is, ap numberOf q, ltb-true 0 number (ap numbered (sym q) ∙ reading-numbered lent text)))
+    step (refused number line) q = absurd (omega (arith, h, k .number-is, ap refusalNumber q, ltb-true 0 number (ap numbered (sym q) ∙ reading-numbered lent text)))
 
 pub broken : {r : Reading} {es : List Entry} → r ≡ taken es → {whole seen : Bool} → seen ≡ whole → not seen ≡ true → unlessBroken r whole ≡ refused 6 0
 unfolding unlessBroken

@@ -20,7 +20,7 @@ use Rattle.rows.specs.Rows.{withRow}
 use Rattle.text.specs.Tokens.{isWord}
 use Rattle.text.specs.Names.{typeName, relationshipName, ruleName, objectName, linkName}
 use Rattle.text.specs.Bodies.{Written, padded, formsIn, rowsOf, wellWritten}
-use Rattle.text.specs.Entries.{Entry, row, rule, eventSection, sectionOf, wordsOf, isOf, countOf, tableOf, bodiesOf, entryIn}
+use Rattle.text.specs.Entries.{Entry, row, rule, eventSection, sectionOf, entryWords, isOf, countOf, tableOf, bodiesOf, entryIn}
 use Rattle.text.specs.Texts.{maxText, limitOf, taken, readFrom, reading, filled}
 use Rattle.text.proofs.Bodies.{rows-length}
 use Rattle.text.proofs.Entries.{sayable, rowFits, by-section, padded-length}
@@ -93,8 +93,8 @@ widthOf s = getD (2 ∷ 2 ∷ 2 ∷ 10 ∷ 3 ∷ 4 ∷ []) s 0
 width-small : (s : ℕ) → widthOf s ≤ 10
 width-small s = leb-true (widthOf s) 10 (is-true (leb (widthOf s) 10) (every-getD (λ n. leb n 10) (2 ∷ 2 ∷ 2 ∷ 10 ∷ 3 ∷ 4 ∷ []) s 0 tt tt))
 
-row-wide : (before : List Entry) (e : Entry) → sayable before e ≡ true → length (wordsOf e) ≡ widthOf (sectionOf e)
-unfolding sayable sectionOf wordsOf
+row-wide : (before : List Entry) (e : Entry) → sayable before e ≡ true → length (entryWords e) ≡ widthOf (sectionOf e)
+unfolding sayable sectionOf entryWords
 row-wide before (row s words) h =
     by-section before s words (λ s. length words ≡ widthOf s)
     (λ h. eqb-true (length words) 2 (both (eqb (length words) 2) _ h .0))
@@ -119,21 +119,21 @@ module _ (before : List Entry) (e : Entry) where
       step true = refl
       step false = refl
 
-  table-next : (s : ℕ) → tableOf s next ≡ tableOf s before ++ cond (eqb (sectionOf e) s) (wordsOf e) []
+  table-next : (s : ℕ) → tableOf s next ≡ tableOf s before ++ cond (eqb (sectionOf e) s) (entryWords e) []
   unfolding tableOf
   table-next s = table-append s before (e ∷ []) ∙ ap (λ l. tableOf s before ++ l) (step (eqb (sectionOf e) s))
     where
-      step : (b : Bool) → cond b (wordsOf e ++ []) [] ≡ cond b (wordsOf e) []
-      step true = append-nil (wordsOf e)
+      step : (b : Bool) → cond b (entryWords e ++ []) [] ≡ cond b (entryWords e) []
+      step true = append-nil (entryWords e)
       step false = refl
 
   -- a table, as `put_in` leaves it
-  module _ (fits : sayable before e ≡ true) {S : ℕ} (here : S ≡ sectionOf e) {words : List ℕ} (holds : words ≡ padded 10 (wordsOf e)) where
+  module _ (fits : sayable before e ≡ true) {S : ℕ} (here : S ≡ sectionOf e) {words : List ℕ} (holds : words ≡ padded 10 (entryWords e)) where
     pub table-goes-on : (s width : ℕ) → widthOf s ≡ width → {old t : List ℕ} → Table s width before old t → (S ≡ s → countOf s before * width + width ≤ length old) → {count : ℕ} → count ≡ countOf s before → {u : List ℕ} → u ≡ cond (eqb S s) (withRow t width count (take width words)) t → Table s width next old u
     table-goes-on s width sized {old} {t} k room {count} counted {u} left = step (eqb S s) refl left
       where
-        more : (b : Bool) → eqb S s ≡ b → tableOf s next ≡ tableOf s before ++ cond b (wordsOf e) []
-        more b q = table-next s ∙ ap (λ b. tableOf s before ++ cond b (wordsOf e) []) (ap (λ n. eqb n s) (sym here) ∙ q)
+        more : (b : Bool) → eqb S s ≡ b → tableOf s next ≡ tableOf s before ++ cond b (entryWords e) []
+        more b q = table-next s ∙ ap (λ b. tableOf s before ++ cond b (entryWords e) []) (ap (λ n. eqb n s) (sym here) ∙ q)
 
         counts : (b : Bool) → eqb S s ≡ b → countOf s next ≡ countOf s before + cond b 1 0
         counts b q = count-next s ∙ ap (λ b. countOf s before + cond b 1 0) (ap (λ n. eqb n s) (sym here) ∙ q)
@@ -141,12 +141,12 @@ module _ (before : List Entry) (e : Entry) where
         step : (b : Bool) → eqb S s ≡ b → u ≡ cond b (withRow t width count (take width words)) t → Table s width next old u
         step true q left =
             let it : S ≡ s = eqb-true S s q in
-            let long : length (wordsOf e) ≡ width = row-wide before e fits ∙ ap widthOf (sym here ∙ it) ∙ sized in
-            let taken-words : take width words ≡ wordsOf e = ap (take width) holds ∙ take-at (wordsOf e) (replicate (10 - length (wordsOf e)) 0) width long in
+            let long : length (entryWords e) ≡ width = row-wide before e fits ∙ ap widthOf (sym here ∙ it) ∙ sized in
+            let taken-words : take width words ≡ entryWords e = ap (take width) holds ∙ take-at (entryWords e) (replicate (10 - length (entryWords e)) 0) width long in
             let left-room : countOf s before * width + width ≤ length t = subst (λ n. countOf s before * width + width ≤ n) (sym (k .same)) (room it) in
-            let put : u ≡ filled (length t) (tableOf s before ++ wordsOf e) = left ∙ ap₂ (λ c w. withRow t width c w) counted taken-words ∙ row-filled t (tableOf s before) (k .is) (countOf s before * width) (k .wide) width (countOf s before) (wordsOf e) refl long left-room in
-            let size : length (tableOf s before ++ wordsOf e) ≡ countOf s before * width + width = length-append (tableOf s before) (wordsOf e) ∙ ap₂ (λ a b. a + b) (k .wide) long in
-            let as-long : length u ≡ length t = ap length put ∙ filled-length (length t) (tableOf s before ++ wordsOf e) (subst (λ n. n ≤ length t) (sym size) left-room) in
+            let put : u ≡ filled (length t) (tableOf s before ++ entryWords e) = left ∙ ap₂ (λ c w. withRow t width c w) counted taken-words ∙ row-filled t (tableOf s before) (k .is) (countOf s before * width) (k .wide) width (countOf s before) (entryWords e) refl long left-room in
+            let size : length (tableOf s before ++ entryWords e) ≡ countOf s before * width + width = length-append (tableOf s before) (entryWords e) ∙ ap₂ (λ a b. a + b) (k .wide) long in
+            let as-long : length u ≡ length t = ap length put ∙ filled-length (length t) (tableOf s before ++ entryWords e) (subst (λ n. n ≤ length t) (sym size) left-room) in
             record {
               same = as-long ∙ k .same;
               is = put ∙ ap₂ (λ n l. filled n l) (sym as-long) (sym (more true q));
@@ -200,17 +200,17 @@ well-rule : (before : List Entry) (t : ℕ) (w : Written) → sayable before (ru
 unfolding sayable
 well-rule before t w h = both (isWord t) (wellWritten w) h .1
 
-forms-held : (t : ℕ) (w : Written) → getD (padded 10 (wordsOf (rule t w))) 1 0 ≡ formsIn w
-unfolding wordsOf
+forms-held : (t : ℕ) (w : Written) → getD (padded 10 (entryWords (rule t w))) 1 0 ≡ formsIn w
+unfolding entryWords
 forms-held t w = refl
 
-module _ (before : List Entry) (e : Entry) (fits : sayable before e ≡ true) {S : ℕ} (here : S ≡ sectionOf e) {words : List ℕ} (holds : words ≡ padded 10 (wordsOf e)) (few : S ≡ 2 → getD words 1 0 ≤ 64) (line : List ℕ) (there : entryIn before line ≡ some e) where
+module _ (before : List Entry) (e : Entry) (fits : sayable before e ≡ true) {S : ℕ} (here : S ≡ sectionOf e) {words : List ℕ} (holds : words ≡ padded 10 (entryWords e)) (few : S ≡ 2 → getD words 1 0 ≤ 64) (line : List ℕ) (there : entryIn before line ≡ some e) where
   -- its form, as it is written
   abbrev as-rule : S ≡ 2 → (t : ℕ) × (w : Written) × (e ≡ rule t w)
   as-rule q = a-rule before e fits (sym here ∙ q)
 
   few-forms : (t : ℕ) (w : Written) → S ≡ 2 → e ≡ rule t w → formsIn w ≤ 64
-  few-forms t w q is = subst (λ n. n ≤ 64) (ap (λ l. getD l 1 0) (holds ∙ ap (λ e. padded 10 (wordsOf e)) is) ∙ forms-held t w) (few q)
+  few-forms t w q is = subst (λ n. n ≤ 64) (ap (λ l. getD l 1 0) (holds ∙ ap (λ e. padded 10 (entryWords e)) is) ∙ forms-held t w) (few q)
 
   pub body-whole : S ≡ 2 → (t : ℕ) × (w : Written) × WholeBody (drop (bodyPlace line) line) t w
   body-whole q =
@@ -332,13 +332,13 @@ module _ {text types₀ relationships₀ rules₀ bodies₀ objects₀ links₀ 
     in-section : S ≡ sectionOf E
     in-section = section-of (k .looking) h short refl unended l r fill-section refl
 
-    words-held : held .words ≡ padded 10 (wordsOf E)
+    words-held : held .words ≡ padded 10 (entryWords E)
     words-held = words-are (k .looking) h short refl unended l r fill-section refl
 
     pub fill-words : length (held .words) ≡ 10
     fill-words =
-        let few-words : length (wordsOf E) ≤ 10 = subst (λ n. n ≤ 10) (sym (row-wide before E fits)) (width-small (sectionOf E)) in
-        ap length words-held ∙ padded-length 10 (wordsOf E) few-words
+        let few-words : length (entryWords E) ≤ 10 = subst (λ n. n ≤ 10) (sym (row-wide before E fits)) (width-small (sectionOf E)) in
+        ap length words-held ∙ padded-length 10 (entryWords E) few-words
 
     there : entryIn before line ≡ some E
     there = ap (entryIn before) l ∙ found (k .looking) h short refl unended l r fill-section refl

@@ -14,7 +14,7 @@ use Rattle.lexical.proofs.Runs.{both}
 use Rattle.text.specs.Names.{typeName, relationshipName, objectName, linkName, firstEvent}
 use Rattle.text.specs.Tokens.{dash, isWord}
 use Rattle.text.specs.Bodies.{padded}
-use Rattle.text.specs.Entries.{Entry, sectionOf, wordsOf, countOf, cellsIn, eventSection, parentWord, eventFields, rowIf, typeFits, typeIn, relationshipFits, relationshipIn, objectFits, objectIn, linkFits, linkIn, eventFits, eventIn, rowIn}
+use Rattle.text.specs.Entries.{Entry, sectionOf, entryWords, countOf, cellsIn, eventSection, parentWord, eventFields, rowIf, isTypeLine, typeIn, isRelationshipLine, relationshipIn, isObjectLine, objectIn, isLinkLine, linkIn, isEventLine, eventIn, rowIn}
 use Rattle.text.proofs.Entries.{fields-few}
 use Rattle.brackets.specs.Brackets.{maxItems, noItems, itemsHeld}
 use Rattle.brackets.specs.declared.ItemsFound.{ItemsFound}
@@ -29,7 +29,7 @@ and-right true b h = h
 and-right false b h = refl
 
 held-if : (fits : Bool) (s : ℕ) (words : List ℕ) → rowHeld (rowIf fits s words) ≡ rowWhen fits s words
-unfolding rowHeld sectionOf wordsOf
+unfolding rowHeld sectionOf entryWords
 held-if true s words = refl
 held-if false s words = refl
 
@@ -76,50 +76,50 @@ module _ (is : List ℕ) where
   all-words = words-padded is (maxItems - length is)
 
   type-same : (before : List Entry) → typeHeld (held is) (countOf typeName before) ≡ rowHeld (typeIn before is)
-  unfolding typeHeld typeIn typeFits
+  unfolding typeHeld typeIn isTypeLine
   type-same before =
-      when-same _ (typeFits before is) typeName _ _
+      when-same _ (isTypeLine before is) typeName _ _
       (ap₂ (λ a r. eqb (length is) 3 && (eqb a (countOf typeName before) && r)) (value 0) (ap₂ (λ b c. (ltb b (2 ^ 31) || eqb b dash) && isWord c) (value 1) (value 2)))
       (λ h. ap₂ (λ b c. parentWord b ∷ c ∷ []) (value 1) (value 2))
-      ∙ sym (held-if (typeFits before is) typeName (parentWord (getD is 1 0) ∷ getD is 2 0 ∷ []))
+      ∙ sym (held-if (isTypeLine before is) typeName (parentWord (getD is 1 0) ∷ getD is 2 0 ∷ []))
 
   relationship-same : (before : List Entry) → relationshipHeld (held is) (countOf relationshipName before) ≡ rowHeld (relationshipIn before is)
-  unfolding relationshipHeld relationshipIn relationshipFits
+  unfolding relationshipHeld relationshipIn isRelationshipLine
   relationship-same before =
-      when-same _ (relationshipFits before is) relationshipName _ _
+      when-same _ (isRelationshipLine before is) relationshipName _ _
       (ap₂ (λ a r. eqb (length is) 3 && (eqb a (countOf relationshipName before) && r)) (value 0) all-words)
       (λ h. ap₂ (λ b c. b ∷ c ∷ []) (value 1) (value 2) ∙ sym (ap (drop 1) (just-three is (eqb-true (length is) 3 (both (eqb (length is) 3) _ h .0)))))
-      ∙ sym (held-if (relationshipFits before is) relationshipName (drop 1 is))
+      ∙ sym (held-if (isRelationshipLine before is) relationshipName (drop 1 is))
 
   link-same : linkHeld (held is) ≡ rowHeld (linkIn is)
-  unfolding linkHeld linkIn linkFits
+  unfolding linkHeld linkIn isLinkLine
   link-same =
-      when-same _ (linkFits is) linkName _ _
+      when-same _ (isLinkLine is) linkName _ _
       (ap (λ r. eqb (length is) 3 && r) all-words)
       (λ h. ap₂ (λ a r. a ∷ r) (value 0) (ap₂ (λ b c. b ∷ c ∷ []) (value 1) (value 2)) ∙ sym (just-three is (eqb-true (length is) 3 (both (eqb (length is) 3) _ h .0))))
-      ∙ sym (held-if (linkFits is) linkName is)
+      ∙ sym (held-if (isLinkLine is) linkName is)
 
   event-same : (kind : ℕ) → eventHeld (held is) kind ≡ rowHeld (eventIn kind is)
-  unfolding eventHeld eventIn eventFits
+  unfolding eventHeld eventIn isEventLine
   event-same kind =
-      when-same _ (eventFits kind is) eventSection _ _
+      when-same _ (isEventLine kind is) eventSection _ _
       (ap (λ r. ltb kind 7 && (eqb (length is) (eventFields kind) && r)) all-words)
       (λ h. ap₂ (λ a r. kind ∷ a ∷ r) (value 0) (ap₂ (λ b c. b ∷ c ∷ []) (value 1) (value 2)) ∙ ap (λ l. kind ∷ l) (sym (three-words is (few h))))
-      ∙ sym (held-if (eventFits kind is) eventSection (kind ∷ padded 3 is))
+      ∙ sym (held-if (isEventLine kind is) eventSection (kind ∷ padded 3 is))
     where
-      few : eventFits kind is ≡ true → length is ≤ 3
+      few : isEventLine kind is ≡ true → length is ≤ 3
       few h = let sized = eqb-true (length is) (eventFields kind) (both (eqb (length is) (eventFields kind)) _ (both (ltb kind 7) _ h .1) .0) in omega (arith, sized, fields-few kind)
 
   object-same : (before : List Entry) (types : ℕ) (cells : List ℕ) → types ≡ countOf typeName before → ((t : ℕ) → t < types → getD cells t 0 ≡ cellsIn before t) → objectHeld (held is) types cells ≡ rowHeld (objectIn before is)
-  unfolding objectHeld objectIn objectFits
+  unfolding objectHeld objectIn isObjectLine
   object-same before types cells counted same =
-      when-same _ (objectFits before is) objectName (padded 10 is) (padded 10 is)
+      when-same _ (isObjectLine before is) objectName (padded 10 is) (padded 10 is)
       (ap₂ (λ a r. leb 2 (length is) && (a && r)) all-words
       (ap (λ t. ltb t types && (leb (getD cells t 0) cellCount && eqb (length is) (2 + getD cells t 0))) (value 1)
       ∙ by-type (getD is 1 0) (ltb (getD is 1 0) types) refl
       ∙ ap (λ n. ltb (getD is 1 0) n && (leb (cellsIn before (getD is 1 0)) cellCount && eqb (length is) (2 + cellsIn before (getD is 1 0)))) counted))
       (λ h. refl)
-      ∙ sym (held-if (objectFits before is) objectName (padded 10 is))
+      ∙ sym (held-if (isObjectLine before is) objectName (padded 10 is))
     where
       by-type : (t : ℕ) (b : Bool) → ltb t types ≡ b → (ltb t types && (leb (getD cells t 0) cellCount && eqb (length is) (2 + getD cells t 0))) ≡ (ltb t types && (leb (cellsIn before t) cellCount && eqb (length is) (2 + cellsIn before t)))
       by-type t true e = ap (λ n. ltb t types && (leb n cellCount && eqb (length is) (2 + n))) (same t (ltb-true t types e))
@@ -163,23 +163,23 @@ row-none s words h = ap (λ b. rowIf b s words) h
 
 module _ (before : List Entry) (is : List ℕ) (long : 10 < length is) where
   type-long : typeIn before is ≡ none
-  unfolding typeIn typeFits
+  unfolding typeIn isTypeLine
   type-long = row-none typeName _ (and-left (eqb (length is) 3) _ (too-many 3 is long (omega arith)))
 
   relationship-long : relationshipIn before is ≡ none
-  unfolding relationshipIn relationshipFits
+  unfolding relationshipIn isRelationshipLine
   relationship-long = row-none relationshipName _ (and-left (eqb (length is) 3) _ (too-many 3 is long (omega arith)))
 
   link-long : linkIn is ≡ none
-  unfolding linkIn linkFits
+  unfolding linkIn isLinkLine
   link-long = row-none linkName _ (and-left (eqb (length is) 3) _ (too-many 3 is long (omega arith)))
 
   event-long : (kind : ℕ) → eventIn kind is ≡ none
-  unfolding eventIn eventFits
+  unfolding eventIn isEventLine
   event-long kind = row-none eventSection _ (and-right (ltb kind 7) _ (and-left (eqb (length is) (eventFields kind)) _ (too-many (eventFields kind) is long (omega (arith, fields-few kind)))))
 
   object-long : objectIn before is ≡ none
-  unfolding objectIn objectFits
+  unfolding objectIn isObjectLine
   object-long = row-none objectName _ (and-right (leb 2 (length is)) _ (and-right (every isWord is) _ (and-right (ltb (getD is 1 0) (countOf typeName before)) _ (sized (cellsIn before (getD is 1 0))))))
     where
       sized : (n : ℕ) → (leb n cellCount && eqb (length is) (2 + n)) ≡ false

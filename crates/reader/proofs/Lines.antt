@@ -13,7 +13,7 @@ use Rattle.lexical.proofs.Runs.{both}
 use Rattle.text.specs.Names.{nameCount, ruleName, lettersIn, placeOf}
 use Rattle.text.specs.Tokens.{Token, begin, item, end, dash, isWord, Lexed, tokenIn, tokensIn, bracketIn}
 use Rattle.text.specs.Bodies.{formsIn, Formed, formIn}
-use Rattle.text.specs.Entries.{Entry, rule, sectionOf, wordsOf, countOf, lastSection, itemsIn, rowIn, onlyEnd, bodyIn, ruleIn, insideIn, inOrder}
+use Rattle.text.specs.Entries.{Entry, rule, sectionOf, entryWords, countOf, lastSection, itemsIn, rowIn, onlyEnd, bodyIn, ruleIn, insideIn, inOrder}
 use Rattle.text.proofs.Names.{name-found}
 use Rattle.text.proofs.Tokens.{tokens-none, tokens-step}
 use Rattle.brackets.specs.Brackets.{placeOr, tokenAt, foundAt, itemsAt, bodyHeld, bodyAt}
@@ -98,7 +98,7 @@ no-body t false b = refl
 
 -- the body's entry, as it is held, in any context
 body-held : (t : ℕ) (numbered : Bool) (o : Option (List Token)) → let b = bodyHeld (bind o (bodyIn 0)) in rowWhen (numbered && (isWord t && b .good)) ruleName (t ∷ b .forms ∷ []) ≡ rowHeld (bind o (λ ts. cond (numbered && isWord t) (bodyIn t ts) none))
-unfolding bind bodyHeld rowHeld sectionOf wordsOf bodyIn
+unfolding bind bodyHeld rowHeld sectionOf entryWords bodyIn
 body-held t numbered none = ap (λ b. rowWhen b ruleName (t ∷ 0 ∷ [])) (no-and numbered (isWord t && false) (no-and (isWord t) false refl))
 body-held t numbered (some ts) = by-form (formIn (length ts) ts)
   where

@@ -18,8 +18,8 @@ use Rattle.lexical.proofs.Runs.{both, run-within}
 use Rattle.rows.specs.Rows.{wordAt}
 use Rattle.text.specs.Names.{typeName, relationshipName, ruleName}
 use Rattle.text.specs.Bodies.{padded, formsIn}
-use Rattle.text.specs.Entries.{Entry, row, rule, sectionOf, wordsOf, countOf, tableOf, cellsIn, lastSection, entryIn}
-use Rattle.text.specs.Texts.{maxText, limitOf, tooLong, overfull, Reading, taken, refused, entryThen, lineThen, afterLine, readFrom, reading}
+use Rattle.text.specs.Entries.{Entry, row, rule, sectionOf, entryWords, countOf, tableOf, cellsIn, lastSection, entryIn}
+use Rattle.text.specs.Texts.{maxText, limitOf, tooLong, noRoom, Reading, taken, refused, entryThen, lineThen, afterLine, readFrom, reading}
 use Rattle.text.proofs.Entries.{sayable, rowFits, by-section, entry-spelled}
 use Rattle.text.proofs.Determined.{last-one}
 use Rattle.text.proofs.Blocks.{count-append, table-append}
@@ -27,7 +27,7 @@ use Rattle.reader.specs.declared.line.Row.{Row}
 use Rattle.reader.specs.declared.look.Seen.{Seen}
 use Rattle.reader.specs.Rows.{noRow, rowWith, rowHeld, Follows}
 use Rattle.reader.proofs.Flat.{value-padded}
-use Rattle.reader.specs.Looks.{Counted, numberOf, lineOf, Shown}
+use Rattle.reader.specs.Looks.{Counted, refusalNumber, refusalLine, Shown}
 
 -- ---- one line of a reading
 
@@ -52,19 +52,19 @@ unfolding sayable sectionOf
 section-small before (row s words) h = by-section before s words (λ s. s < 6) (λ h. omega arith) (λ h. omega arith) (λ h. omega arith) (λ h. omega arith) (λ h. omega arith) h
 section-small before (rule t body) h = omega arith
 
-type-wide : (before : List Entry) (e : Entry) → sayable before e ≡ true → sectionOf e ≡ typeName → length (wordsOf e) ≡ 2
-unfolding sayable sectionOf wordsOf
+type-wide : (before : List Entry) (e : Entry) → sayable before e ≡ true → sectionOf e ≡ typeName → length (entryWords e) ≡ 2
+unfolding sayable sectionOf entryWords
 type-wide before (row s words) h q = eqb-true (length words) 2 (both (eqb (length words) 2) _ (ap (λ k. rowFits before k words) (sym q) ∙ h) .0)
 type-wide before (rule t body) h q = refl
 
 -- a body's size, as the row has it
-long-body : (before : List Entry) (e : Entry) → sayable before e ≡ true → tooLong e ≡ (eqb (sectionOf e) 2 && ltb 64 (getD (padded 10 (wordsOf e)) 1 0))
-unfolding sayable sectionOf wordsOf tooLong
+long-body : (before : List Entry) (e : Entry) → sayable before e ≡ true → tooLong e ≡ (eqb (sectionOf e) 2 && ltb 64 (getD (padded 10 (entryWords e)) 1 0))
+unfolding sayable sectionOf entryWords tooLong
 long-body before (row s words) h = by-section before s words (λ s. false ≡ (eqb s 2 && ltb 64 (getD (padded 10 words) 1 0))) (λ h. refl) (λ h. refl) (λ h. refl) (λ h. refl) (λ h. refl) h
 long-body before (rule t body) h = refl
 
 -- the entry of a row that was held
-row-entry : (o : Option Entry) {held : Row} → held ≡ rowHeld o → held .section < 6 → (e : Entry) × (o ≡ some e) × (held .section ≡ sectionOf e) × (held .words ≡ padded 10 (wordsOf e))
+row-entry : (o : Option Entry) {held : Row} → held ≡ rowHeld o → held .section < 6 → (e : Entry) × (o ≡ some e) × (held .section ≡ sectionOf e) × (held .words ≡ padded 10 (entryWords e))
 unfolding rowHeld
 row-entry none q h = absurd (omega (arith, h, ap (λ r. r .section) q))
 row-entry (some e) q h = (e, refl, ap (λ r. r .section) q, ap (λ r. r .words) q)
@@ -129,7 +129,7 @@ unfolding look-starts
 starts-before text lent = refl
 
 -- what a reading shows
-shown : (text lent : List ℕ) (r : Reading) → length text ≤ maxText → readFrom (length text) lent 1 [] text ≡ r → {seen : Seen} → seen .number ≡ numberOf r → seen .line ≡ lineOf r → ((es : List Entry) → r ≡ taken es → Counted es (seen .counts) (seen .cells)) → Shown (reading lent text) seen
+shown : (text lent : List ℕ) (r : Reading) → length text ≤ maxText → readFrom (length text) lent 1 [] text ≡ r → {seen : Seen} → seen .number ≡ refusalNumber r → seen .line ≡ refusalLine r → ((es : List Entry) → r ≡ taken es → Counted es (seen .counts) (seen .cells)) → Shown (reading lent text) seen
 unfolding reading
 shown text lent r short q {seen} n l c =
     subst (λ r. Shown r seen)
@@ -239,19 +239,19 @@ module _ {text lent : List ℕ} {at n : ℕ} {counts cells : List ℕ} {section 
         unfolding e
         section-of = row-entry (entryIn (k .before) (lineIn rest)) row-here s .2
 
-        pub words-are : held .words ≡ padded 10 (wordsOf e)
+        pub words-are : held .words ≡ padded 10 (entryWords e)
         unfolding e
         words-are = row-entry (entryIn (k .before) (lineIn rest)) row-here s .3
 
         pub said : sayable (k .before) e ≡ true
         said = entry-spelled (k .before) (lineIn rest) e found .fits
 
-        full-is : full ≡ overfull lent (k .before) e
-        unfolding overfull
+        full-is : full ≡ noRoom lent (k .before) e
+        unfolding noRoom
         full-is =
             f
             ∙ ap₂ (λ c w. ltb (min (limitOf (held .section)) (getD lent (held .section) 0)) (suc c) || (eqb (held .section) 2 && ltb 64 (getD w 1 0))) (k .rows (held .section) s) words-are
-            ∙ ap (λ s. ltb (min (limitOf s) (getD lent s 0)) (suc (countOf s (k .before))) || (eqb s 2 && ltb 64 (getD (padded 10 (wordsOf e)) 1 0))) section-of
+            ∙ ap (λ s. ltb (min (limitOf s) (getD lent s 0)) (suc (countOf s (k .before))) || (eqb s 2 && ltb 64 (getD (padded 10 (entryWords e)) 1 0))) section-of
             ∙ ap (λ b. ltb (min (limitOf (sectionOf e)) (getD lent (sectionOf e) 0)) (suc (countOf (sectionOf e) (k .before))) || b) (sym (long-body (k .before) e said))
 
         at-row : readFrom (length text) lent 1 [] text ≡ cond full (refused 2 n) (more e)
@@ -294,12 +294,12 @@ module _ {text lent : List ℕ} {at n : ℕ} {counts cells : List ℕ} {section 
               step true = refl
               step false = omega arith
 
-          table-next : tableOf typeName next ≡ tableOf typeName (k .before) ++ cond (eqb S typeName) (wordsOf e) []
+          table-next : tableOf typeName next ≡ tableOf typeName (k .before) ++ cond (eqb S typeName) (entryWords e) []
           unfolding tableOf
-          table-next = table-append typeName (k .before) (e ∷ []) ∙ ap (λ l. tableOf typeName (k .before) ++ l) (ap (λ b. cond b (wordsOf e ++ []) []) (sym (here-or typeName)) ∙ step (eqb S typeName))
+          table-next = table-append typeName (k .before) (e ∷ []) ∙ ap (λ l. tableOf typeName (k .before) ++ l) (ap (λ b. cond b (entryWords e ++ []) []) (sym (here-or typeName)) ∙ step (eqb S typeName))
             where
-              step : (b : Bool) → cond b (wordsOf e ++ []) [] ≡ cond b (wordsOf e) []
-              step true = append-nil (wordsOf e)
+              step : (b : Bool) → cond b (entryWords e ++ []) [] ≡ cond b (entryWords e) []
+              step true = append-nil (entryWords e)
               step false = refl
 
           count-here : (s : ℕ) → s < 6 → getD (set counts S (getD counts S 0 + 1)) s 0 ≡ cond (eqb S s) (getD counts s 0 + 1) (getD counts s 0)
@@ -320,9 +320,9 @@ module _ {text lent : List ℕ} {at n : ℕ} {counts cells : List ℕ} {section 
               step false q = k .within t h
 
           wide-next : length (tableOf typeName next) ≡ countOf typeName next * 2
-          wide-next = ap length table-next ∙ length-append (tableOf typeName (k .before)) (cond (eqb S typeName) (wordsOf e) []) ∙ step (eqb S typeName) refl
+          wide-next = ap length table-next ∙ length-append (tableOf typeName (k .before)) (cond (eqb S typeName) (entryWords e) []) ∙ step (eqb S typeName) refl
             where
-              step : (b : Bool) → eqb S typeName ≡ b → length (tableOf typeName (k .before)) + length (cond b (wordsOf e) []) ≡ countOf typeName next * 2
+              step : (b : Bool) → eqb S typeName ≡ b → length (tableOf typeName (k .before)) + length (cond b (entryWords e) []) ≡ countOf typeName next * 2
               step true q = omega (arith, k .wide, type-wide (k .before) e said (sym section-of ∙ eqb-true S typeName q), count-next typeName ∙ ap (λ b. cond b (countOf typeName (k .before) + 1) (countOf typeName (k .before))) q)
               step false q = omega (arith, k .wide, count-next typeName ∙ ap (λ b. cond b (countOf typeName (k .before) + 1) (countOf typeName (k .before))) q)
 
@@ -345,22 +345,22 @@ module _ {text lent : List ℕ} {at n : ℕ} {counts cells : List ℕ} {section 
               before-it : t < N → getD cells t 0 ≡ getD table (t * 2 + 1) 0
               before-it l = k .cells-of t (omega (arith, l, N-is))
 
-              size-is : size ≡ getD (wordsOf e) 1 0
-              size-is = ap (λ w. getD w 1 0) words-are ∙ value-padded (wordsOf e) (10 - length (wordsOf e)) 1
+              size-is : size ≡ getD (entryWords e) 1 0
+              size-is = ap (λ w. getD w 1 0) words-are ∙ value-padded (entryWords e) (10 - length (entryWords e)) 1
 
-              at-type : N < 32 → (b : Bool) → eqb t N ≡ b → t < N + 1 → getD (set cells N size) t 0 ≡ getD (table ++ wordsOf e) (t * 2 + 1) 0
+              at-type : N < 32 → (b : Bool) → eqb t N ≡ b → t < N + 1 → getD (set cells N size) t 0 ≡ getD (table ++ entryWords e) (t * 2 + 1) 0
               at-type few true q l =
                   let same : t ≡ N = eqb-true t N q in
                   let place : t * 2 + 1 ≡ length table + 1 = omega (arith, same, N-is, k .wide) in
                   ap (λ i. getD (set cells N size) i 0) same
                   ∙ getD-set-same cells N size 0 (omega (arith, few, k .cells-held))
                   ∙ size-is
-                  ∙ sym (ap (λ i. getD (table ++ wordsOf e) i 0) place ∙ getD-append-add table (wordsOf e) 1 0)
+                  ∙ sym (ap (λ i. getD (table ++ entryWords e) i 0) place ∙ getD-append-add table (entryWords e) 1 0)
               at-type few false q l =
                   let less : t < N = omega (arith, l, eqb-false t N q) in
                   getD-set-other cells N t size 0 (eqb-false t N q)
                   ∙ before-it less
-                  ∙ sym (List·getD-append table (wordsOf e) 0 (t * 2 + 1) (omega (arith, less, N-is, k .wide)))
+                  ∙ sym (List·getD-append table (entryWords e) 0 (t * 2 + 1) (omega (arith, less, N-is, k .wide)))
 
               limit-here : limitOf 0 ≡ 32
               limit-here = refl
@@ -371,11 +371,11 @@ module _ {text lent : List ℕ} {at n : ℕ} {counts cells : List ℕ} {section 
                   let one-more : countOf typeName next ≡ countOf typeName (k .before) + 1 = count-next typeName ∙ ap (λ b. cond b (countOf typeName (k .before) + 1) (countOf typeName (k .before))) q in
                   ap (λ b. getD (cond b (set cells N size) cells) t 0) (lt-ltb N 32 few)
                   ∙ at-type few (eqb t N) refl (omega (arith, h, one-more, N-is))
-                  ∙ sym (ap (λ l. wordAt l 2 t 1) (table-next ∙ ap (λ b. table ++ cond b (wordsOf e) []) q))
+                  ∙ sym (ap (λ l. wordAt l 2 t 1) (table-next ∙ ap (λ b. table ++ cond b (entryWords e) []) q))
               by-section-of false q =
                   let none-more : countOf typeName next ≡ countOf typeName (k .before) = count-next typeName ∙ ap (λ b. cond b (countOf typeName (k .before) + 1) (countOf typeName (k .before))) q in
                   before-it (omega (arith, h, none-more, N-is))
-                  ∙ sym (ap (λ l. wordAt l 2 t 1) (table-next ∙ ap (λ b. table ++ cond b (wordsOf e) []) q ∙ append-nil table))
+                  ∙ sym (ap (λ l. wordAt l 2 t 1) (table-next ∙ ap (λ b. table ++ cond b (entryWords e) []) q ∙ append-nil table))
 
           goes-on : {after : ℕ} → after ≡ at + length (lineIn rest) + 1 → Looking text lent after (n + 1) (set counts S (getD counts S 0 + 1)) (cond (eqb S 0 && ltb (getD counts 0 0) 32) (set cells (getD counts 0 0) (getD (held .words) 1 0)) cells) S
           goes-on {after} a =

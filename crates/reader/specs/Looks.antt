@@ -13,16 +13,16 @@ pub record Counted (es : List Entry) (counts cells : List ℕ) : Type 0 where
   pub rows : (s : ℕ) → s < 6 → getD counts s 0 ≡ countOf s es
   pub cells-of : (t : ℕ) → t < countOf typeName es → getD cells t 0 ≡ cellsIn es t
 
-abbrev pub numberOf : Reading → ℕ
-numberOf (taken es) = 0
-numberOf (refused number line) = number
+abbrev pub refusalNumber : Reading → ℕ
+refusalNumber (taken es) = 0
+refusalNumber (refused number line) = number
 
-abbrev pub lineOf : Reading → ℕ
-lineOf (taken es) = 0
-lineOf (refused number line) = line
+abbrev pub refusalLine : Reading → ℕ
+refusalLine (taken es) = 0
+refusalLine (refused number line) = line
 
 -- a refusal's number and line, or 0 and what is counted
 pub record Shown (r : Reading) (seen : Seen) : Type 0 where
-  pub number-is : seen .number ≡ numberOf r
-  pub line-is : seen .line ≡ lineOf r
+  pub number-is : seen .number ≡ refusalNumber r
+  pub line-is : seen .line ≡ refusalLine r
   pub counted : (es : List Entry) → r ≡ taken es → Counted es (seen .counts) (seen .cells)

@@ -11,7 +11,7 @@ use Rattle.meaning.specs.Limits.{maxTypes, cellCount}
 use Rattle.text.specs.Names.{lettersIn, typeName, relationshipName, ruleName, objectName, linkName, firstEvent}
 use Rattle.text.specs.Tokens.{dash, isWord, tokenIn}
 use Rattle.text.specs.Bodies.{padded}
-use Rattle.text.specs.Entries.{Entry, sectionOf, wordsOf, countOf, cellsIn, lastSection, eventSection, parentWord, eventFields}
+use Rattle.text.specs.Entries.{Entry, sectionOf, entryWords, countOf, cellsIn, lastSection, eventSection, parentWord, eventFields}
 use Rattle.brackets.specs.Brackets.{foundAt}
 use Rattle.brackets.specs.declared.Found.{Found}
 use Rattle.brackets.specs.declared.Found.the-variants.{Begin, Item, End, Bad}
@@ -32,7 +32,7 @@ rowWith section words = record { section = section; words = padded 10 words }
 
 unfoldable pub rowHeld : Option Entry → Row
 rowHeld none = noRow
-rowHeld (some e) = rowWith (sectionOf e) (wordsOf e)
+rowHeld (some e) = rowWith (sectionOf e) (entryWords e)
 
 -- ---- rows by the items that are held: how many, and their values, zeros after them
 

@@ -9,9 +9,8 @@ use native.Mathlib.Nat.{le-refl, eq-or-lt-of-le, zero-add, add-zero}
 use native.Mathlib.Omega.{arith}
 use lib.Dec.{T}
 use mir.Facts.{T-not, not-T}
-use Rattle.meaning.specs.Lists.{before}
-use Rattle.meaning.proofs.Lists.{_∈_, Ascending}
-use Rattle.meaning.proofs.Order.{Before, before-irreflexive}
+use Rattle.meaning.specs.Lists.{before, _∈_, Ascending, Before}
+use Rattle.meaning.proofs.Order.{before-irreflexive}
 use Rattle.rows.specs.Rows.{rowsFrom, readRows}
 use Rattle.rows.specs.Keys.{LowerBound}
 use Rattle.register.proofs.Hits.{firstHit, missed-to, hit-at, hit-none}

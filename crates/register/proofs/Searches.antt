@@ -11,7 +11,7 @@ use Rattle.meaning.specs.Lists.{holds}
 use Rattle.meaning.specs.Schema.{ObjectType, under}
 use Rattle.meaning.specs.Register.{Object, Link, objectKey, linkKey, sameLink, objectAt, isUnder, hasLink, objectFits, faultyObject, objectFault}
 use Rattle.meaning.specs.Events.{linkOf}
-use Rattle.meaning.proofs.Order.{same-eq, rows-fit}
+use Rattle.meaning.proofs.Order.{same-list-eq, rows-fit}
 use Rattle.rows.specs.Rows.{readRows}
 use Rattle.rows.specs.Keys.{keyAt, KeysAscend, LowerBound}
 use Rattle.tables.specs.Columns.{objectRow, linkRow}
@@ -54,7 +54,7 @@ module _ (links : List ℕ) {n x y z r : ℕ} (b : LowerBound (keyAt links 3 3) 
   link-bound = b
 
   exact-link : (l : Link) → T (sameLink (linkOf x y z) l) → linkKey l ≡ x ∷ y ∷ z ∷ []
-  exact-link l t = sym (same-eq (x ∷ y ∷ z ∷ []) (linkKey l) t)
+  exact-link l t = sym (same-list-eq (x ∷ y ∷ z ∷ []) (linkKey l) t)
 
   pub link-found : r < n → sameLink (linkOf x y z) (linkRow links r) ≡ true → linkPlace n links (linkOf x y z) ≡ some r
   link-found h e = place-hit linkKey (linkRow links) n a link-bound (sameLink (linkOf x y z)) exact-link h e

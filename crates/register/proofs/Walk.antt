@@ -3,18 +3,18 @@ use Prim.Native.Nat.{ℕ, zero, suc, _+_, _*_, _/_, _%_, _≤_, _<_}
 use mathlib.Core.Path.{_≡_, refl, sym, ap, subst, _∙_}
 use mathlib.Core.Logic.{⊎-elim}
 use mathlib.Core.Bool.{Bool, true, false, not, cond}
-use mathlib.Core.List.{List, [], _∷_}
+use mathlib.Core.List.{List, [], _∷_, Memᴰ·map}
 use mathlib.Core.Option.{some}
 use native.Mathlib.Nat.{eq-or-lt-of-le}
 use native.Mathlib.Omega.{arith}
 use lib.Dec.{T, ltb, leb, eqb}
 use lib.ListN.{getD}
 use mir.Facts.{ltb-yes, ltb-no, yes-and, yes-eqb}
-use Rattle.meaning.specs.Lists.{before, first}
+use Rattle.meaning.specs.Lists.{before, first, _∈_, Before}
 use Rattle.meaning.specs.Schema.{forward}
 use Rattle.meaning.specs.Register.{Link, Register, linkKey, nearEnd, farEnd, startsAt, farEnds}
-use Rattle.meaning.proofs.Lists.{_∈_, decide, keep-in, map-in}
-use Rattle.meaning.proofs.Order.{Before, before-one, before-last, before-first}
+use Rattle.meaning.proofs.Lists.{decide, keep-in}
+use Rattle.meaning.proofs.Order.{before-one, before-last, before-first}
 use Rattle.tables.specs.Columns.{objectRow, linkRow, registerOf}
 use Rattle.schema.proofs.Scan.{passed-none}
 use Rattle.register.specs.Chains.{lead, slotWord}
@@ -185,7 +185,7 @@ module _ {m : ℕ} {objects : List ℕ} {n : ℕ} {links index : List ℕ} (x : 
     unfolding farEnds
     far-member =
         subst (λ y. y ∈ farEnds g role u) (sym far-end)
-        (map-in (farEnd role)
+        (Memᴰ·map (farEnd role)
         (keep-in (startsAt role u) (row-there L n (p .place / 2) (of .link))
         (yes-and (eqb ((L (p .place / 2)) .relationship) (role / 2)) (eqb (nearEnd role (L (p .place / 2))) u) (yes-eqb (of .relationship-is)) (yes-eqb (of .near-is)))))
 

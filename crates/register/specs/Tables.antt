@@ -4,11 +4,9 @@ use mathlib.Core.Bool.{cond}
 use mathlib.Core.List.{List}
 use mathlib.Core.Option.{Option}
 use lib.Dec.{ltb, eqb}
-use Rattle.meaning.specs.Lists.{firstFault}
+use Rattle.meaning.specs.Lists.{firstFault, Ascending, Before}
 use Rattle.meaning.specs.Limits.{cellCount}
 use Rattle.meaning.specs.Register.{Object, Link, Register, objectKey, linkKey, sameLink}
-use Rattle.meaning.proofs.Lists.{Ascending}
-use Rattle.meaning.proofs.Order.{Before}
 use Rattle.rows.specs.Rows.{wordAt, readRows}
 use Rattle.tables.specs.Columns.{objectRow, linkRow}
 

@@ -20,7 +20,7 @@ use Rattle.rows.proofs.Words
 use Rattle.rows.proofs.Words.{word-signed}
 use Rattle.rows.specs.Rows.{signed, wordOf}
 use Rattle.tables.specs.Codes.{Operator, comparing, negating, connecting, quantifying, kindOf, literal, cellOf, sizeOf, sumOf, combining, roleOf, allOf, selecting, operatorOf, codeOf, shapeOf}
-use Rattle.tables.specs.Bodies.{rowWords, writeForm, BodyRow, bodyRow, Part, part, sortOf, sameSort, asTruth, asNumber, asCollection, Reading, formOf, startOf, reads, partsFit, fieldsFit, readingOf, readAt, wholeBody, readBody, ending, firstPart, secondPart}
+use Rattle.tables.specs.Bodies.{rowWords, writeForm, BodyRow, bodyRow, Part, part, sortOf, sameSort, asTruth, asNumber, asCollection, RowsRead, formOf, startOf, reads, partsFit, fieldsFit, readingOf, readAt, wholeBody, readBody, ending, firstPart, secondPart}
 use Rattle.tables.proofs.Readings.{ending-start, before-end, sound-pos, agree-sound, next, ending-step, node, only-fits, both-fit, code-of, operator-of, same-sort, is-truth, is-number, is-collection, sorted, sorted-parts}
 
 -- ---- a signed number as a word, and back
@@ -217,19 +217,19 @@ last-ending : (rows : ℕ → BodyRow) (i : ℕ) → readAt (suc i) rows (suc i 
 last-ending rows i = before-end (suc i) rows (suc i) (omega arith) (le-refl (suc i))
 
 -- n rows are one whole form: at most 64, the last of which ends a truth that starts at the first
-abbrev pub wholeEnding : Reading → ℕ → Bool
+abbrev pub wholeEnding : RowsRead → ℕ → Bool
 wholeEnding r n = leb n maxForms && reads truth r && eqb (r .start) 0
 
 pub whole-ending : (rows : ℕ → BodyRow) (n : ℕ) → wholeBody rows n ≡ wholeEnding (ending rows n) n
 unfolding wholeBody ending
 whole-ending rows zero = refl
 whole-ending rows (suc i) =
-    ap₂ (λ b (r : Reading). b && leb (suc i) maxForms && reads truth r && eqb (r .start) 0) (lt-ltb 0 (suc i) (omega arith)) (last-ending rows i)
+    ap₂ (λ b (r : RowsRead). b && leb (suc i) maxForms && reads truth r && eqb (r .start) 0) (lt-ltb 0 (suc i) (omega arith)) (last-ending rows i)
 
 pub body-ending : (rows : ℕ → BodyRow) (n : ℕ) → T (wholeBody rows n) → readBody rows n ≡ asTruth ((ending rows n) .form)
 unfolding readBody wholeBody
 body-ending rows zero t = absurd t
-body-ending rows (suc i) t = cond-yes (wholeBody rows (suc i)) _ (kind 1 0) t ∙ ap (λ (r : Reading). asTruth (r .form)) (last-ending rows i)
+body-ending rows (suc i) t = cond-yes (wholeBody rows (suc i)) _ (kind 1 0) t ∙ ap (λ (r : RowsRead). asTruth (r .form)) (last-ending rows i)
 
 pub body-none : (rows : ℕ → BodyRow) (n : ℕ) → T (not (wholeBody rows n)) → readBody rows n ≡ kind 1 0
 unfolding readBody
@@ -310,7 +310,7 @@ module _ (rows : ℕ → BodyRow) where
   rowOf o x y = record { code = codeOf o; x = x; y = y; z = 0 }
 
   -- row i is that of an operator: what is read there by the readings of its parts
-  row-read : (i : ℕ) (op : Operator) (x y : ℕ) (parts : List Sort) (f s : Reading) → (shapeOf op) .parts ≡ parts → firstPart rows i ≡ f → secondPart rows i ≡ s → rowList (rows i) ≡ rowWords op x y → T (partsFit parts i f s) → T (fieldsFit ((shapeOf op) .fields) (rowOf op x y)) → ending rows (suc i) ≡ record { start = startOf parts i (f .start) (s .start); sound = true; form = formOf op (rowOf op x y) (f .form) (s .form) }
+  row-read : (i : ℕ) (op : Operator) (x y : ℕ) (parts : List Sort) (f s : RowsRead) → (shapeOf op) .parts ≡ parts → firstPart rows i ≡ f → secondPart rows i ≡ s → rowList (rows i) ≡ rowWords op x y → T (partsFit parts i f s) → T (fieldsFit ((shapeOf op) .fields) (rowOf op x y)) → ending rows (suc i) ≡ record { start = startOf parts i (f .start) (s .start); sound = true; form = formOf op (rowOf op x y) (f .form) (s .form) }
   unfolding readingOf rowOf
   row-read i op x y parts f s shape first second row there fields =
       let field : (k : ℕ) → getD (rowList (rows i)) k 0 ≡ getD (rowWords op x y) k 0 = λ k. ap (λ l. getD l k 0) row in
@@ -323,12 +323,12 @@ module _ (rows : ℕ → BodyRow) where
       ∙ ap (λ p. readingOf p (rowOf op x y) i (firstPart rows i) (secondPart rows i)) (operator-of op)
       ∙ ap₂ (readingOf (some op) (rowOf op x y) i) first second in
       let agree = ending-step rows i in
-      agree-sound agree (subst T (sym (agree .sounds ∙ ap (λ (r : Reading). r .sound) made ∙ sound)) tt)
+      agree-sound agree (subst T (sym (agree .sounds ∙ ap (λ (r : RowsRead). r .sound) made ∙ sound)) tt)
       ∙ made
       ∙ (λ j. record { start = startOf (shape j) i (f .start) (s .start); sound = sound j; form = formOf op (rowOf op x y) (f .form) (s .form) })
 
-  read-pos : (e : ℕ) {r : Reading} → ending rows e ≡ r → T (r .sound) → 0 < e
-  read-pos e q t = sound-pos rows e (subst (λ (r : Reading). T (r .sound)) (sym q) t)
+  read-pos : (e : ℕ) {r : RowsRead} → ending rows e ≡ r → T (r .sound) → 0 < e
+  read-pos e q t = sound-pos rows e (subst (λ (r : RowsRead). T (r .sound)) (sym q) t)
 
   leaf-read : (o : ℕ) (op : Operator) (x y : ℕ) → (shapeOf op) .parts ≡ [] → T (fieldsFit ((shapeOf op) .fields) (rowOf op x y)) → wordsFrom rows o 1 ≡ rowWords op x y → ending rows (o + 1) ≡ record { start = o; sound = true; form = formOf op (rowOf op x y) ((firstPart rows o) .form) ((secondPart rows o) .form) }
   unfolding wordsFrom startOf partsFit
@@ -361,7 +361,7 @@ module _ (rows : ℕ → BodyRow) where
         let g : ending rows i ≡ record { start = o + m; sound = true; form = part t b } = ap (ending rows) (sym (add-assoc o m n)) ∙ second (w .1) in
         ap (ending rows) (add-suc o (m + n))
         ∙ row-read i op 0 0 (s ∷ t ∷ []) (record { start = o; sound = true; form = part s a }) (record { start = o + m; sound = true; form = part t b }) shape
-        (ap (λ (r : Reading). ending rows (r .start)) g ∙ f) g (h .1)
+        (ap (λ (r : RowsRead). ending rows (r .start)) g ∙ f) g (h .1)
         (yes-and (ltb 0 i && sameSort t t && ltb 0 (o + m)) (sameSort s s)
         (yes-and (ltb 0 i && sameSort t t) (ltb 0 (o + m)) (yes-and (ltb 0 i) (sameSort t t) (yes-ltb (read-pos i g tt)) (same-sort t)) (yes-ltb (read-pos (o + m) f tt)))
         (same-sort s))
@@ -403,7 +403,7 @@ module _ (rows : ℕ → BodyRow) where
 
     pub body-read : readBody rows n ≡ f
     unfolding asTruth
-    body-read = body-ending rows n body-whole ∙ ap (λ (r : Reading). asTruth (r .form)) truth-read
+    body-read = body-ending rows n body-whole ∙ ap (λ (r : RowsRead). asTruth (r .form)) truth-read
 
 -- ---- the rows of a table
 

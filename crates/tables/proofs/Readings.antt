@@ -11,11 +11,11 @@ use lib.ListN.{getElem?}
 use mir.Facts.{and-yes, ltb-yes, eqb-yes}
 use Rattle.meaning.specs.Forms.{Sort, truth, number, collection, le, lt, eq, ne, ge, gt, and, or, xor, implies, forall, exists, add, sub}
 use Rattle.tables.specs.Codes.{Operator, comparing, negating, connecting, quantifying, kindOf, literal, cellOf, sizeOf, sumOf, combining, roleOf, allOf, selecting, operators, operatorOf, codeOf, shapeOf}
-use Rattle.tables.specs.Bodies.{BodyRow, Part, part, sortOf, sameSort, asTruth, asNumber, asCollection, Reading, formOf, startOf, reads, partsFit, fieldsFit, noReading, readingOf, readAt, ending, firstPart, secondPart}
+use Rattle.tables.specs.Bodies.{BodyRow, Part, part, sortOf, sameSort, asTruth, asNumber, asCollection, RowsRead, formOf, startOf, reads, partsFit, fieldsFit, noReading, readingOf, readAt, ending, firstPart, secondPart}
 
 -- ---- start and fuel
 
-start-bound : (o : Option Operator) (r : BodyRow) (i : ℕ) (f s : Reading) → f .start ≤ i → s .start ≤ i → (readingOf o r i f s) .start ≤ i
+start-bound : (o : Option Operator) (r : BodyRow) (i : ℕ) (f s : RowsRead) → f .start ≤ i → s .start ≤ i → (readingOf o r i f s) .start ≤ i
 unfolding readingOf startOf
 start-bound none r i f s h k = le-refl i
 start-bound (some o) r i f s h k = by-parts ((shapeOf o) .parts)
@@ -47,7 +47,7 @@ fuel (suc n) (suc m) rows (suc i) h k =
     let s = readAt n rows i in
     let low : s .start ≤ i = start-le n rows i in
     let second : s ≡ readAt m rows i = fuel n m rows i (omega arith) (omega arith) in
-    let first = fuel n m rows (s .start - 1) (omega arith) (omega arith) ∙ ap (λ (r : Reading). readAt m rows (r .start - 1)) second in
+    let first = fuel n m rows (s .start - 1) (omega arith) (omega arith) ∙ ap (λ (r : RowsRead). readAt m rows (r .start - 1)) second in
     ap₂ (readingOf (operatorOf ((rows (suc i)) .code)) (rows (suc i)) (suc i)) first second
 
 -- A row's reading is made of the readings of its parts, at any fuel above the row. Row 0 has no parts.
@@ -82,16 +82,16 @@ before-end n rows zero h k = absurd (not-suc-le-zero h)
 before-end n rows (suc i) h k = let row : suc i - 1 ≡ i = omega arith in ap (readAt n rows) row ∙ ending-read n rows i k
 
 -- the same start, and the same form if it is one
-pub record Agree (a b : Reading) : Type 0 where
+pub record Agree (a b : RowsRead) : Type 0 where
   pub starts : a .start ≡ b .start
   pub sounds : a .sound ≡ b .sound
   pub forms : T (a .sound) → a .form ≡ b .form
 
-agree-eq : {a b : Reading} → a ≡ b → Agree a b
-agree-eq {a} {b} e = record { starts = ap (λ (r : Reading). r .start) e; sounds = ap (λ (r : Reading). r .sound) e; forms = λ t. ap (λ (r : Reading). r .form) e }
+agree-eq : {a b : RowsRead} → a ≡ b → Agree a b
+agree-eq {a} {b} e = record { starts = ap (λ (r : RowsRead). r .start) e; sounds = ap (λ (r : RowsRead). r .sound) e; forms = λ t. ap (λ (r : RowsRead). r .form) e }
 
 -- what agrees with a form is that form
-pub agree-sound : {a b : Reading} → Agree a b → T (a .sound) → a ≡ b
+pub agree-sound : {a b : RowsRead} → Agree a b → T (a .sound) → a ≡ b
 agree-sound e t = λ i. record { start = e .starts i; sound = e .sounds i; form = e .forms t i }
 
 abbrev single : List Sort → Bool
@@ -117,11 +117,11 @@ form-single allOf r a b c t = refl
 form-single selecting r a b c t = absurd t
 
 -- what the fit of one part, and of two, says
-pub only-fits : (p : Sort) (i : ℕ) (f s : Reading) → T (partsFit (p ∷ []) i f s) → (0 < i) × T (reads p s)
+pub only-fits : (p : Sort) (i : ℕ) (f s : RowsRead) → T (partsFit (p ∷ []) i f s) → (0 < i) × T (reads p s)
 unfolding partsFit
 only-fits p i f s t = let r = and-yes (ltb 0 i) (reads p s) t in (ltb-yes (r .0), r .1)
 
-pub both-fit : (p q : Sort) (more : List Sort) (i : ℕ) (f s : Reading) → T (partsFit (p ∷ q ∷ more) i f s) → (0 < i) × T (reads q s) × (0 < s .start) × T (reads p f)
+pub both-fit : (p q : Sort) (more : List Sort) (i : ℕ) (f s : RowsRead) → T (partsFit (p ∷ q ∷ more) i f s) → (0 < i) × T (reads q s) × (0 < s .start) × T (reads p f)
 unfolding partsFit
 both-fit p q more i f s t =
     let a = and-yes (ltb 0 i && reads q s && ltb 0 (s .start)) (reads p f) t in
@@ -130,7 +130,7 @@ both-fit p q more i f s t =
     (ltb-yes (c .0), c .1, ltb-yes (b .1), a .1)
 
 -- where the second part starts at row 0, no first part is looked at
-module _ (i : ℕ) (f g s : Reading) (none-before : s .start ≡ 0) (first : f .start ≡ g .start) where
+module _ (i : ℕ) (f g s : RowsRead) (none-before : s .start ≡ 0) (first : f .start ≡ g .start) where
   parts-blind : (parts : List Sort) → partsFit parts i f s ≡ partsFit parts i g s
   unfolding partsFit
   parts-blind [] = refl
@@ -160,7 +160,7 @@ module _ (i : ℕ) (f g s : Reading) (none-before : s .start ≡ 0) (first : f .
       }
 
 -- row i after the forms before it
-abbrev pub next : (ℕ → BodyRow) → ℕ → Reading
+abbrev pub next : (ℕ → BodyRow) → ℕ → RowsRead
 next rows i = readingOf (operatorOf ((rows i) .code)) (rows i) i (firstPart rows i) (secondPart rows i)
 
 pub ending-step : (rows : ℕ → BodyRow) (i : ℕ) → Agree (ending rows (suc i)) (next rows i)
@@ -199,18 +199,18 @@ node rows i t =
     by-code (operatorOf ((rows i) .code)) refl (agree-sound (ending-step rows i) t)
   where
     by-code : (o : Option Operator) → operatorOf ((rows i) .code) ≡ o → ending rows (suc i) ≡ readingOf o (rows i) i (firstPart rows i) (secondPart rows i) → Node rows i
-    by-code none e made = absurd (subst (λ (r : Reading). T (r .sound)) made t)
+    by-code none e made = absurd (subst (λ (r : RowsRead). T (r .sound)) made t)
     by-code (some o) e made =
         let f = firstPart rows i in
         let s = secondPart rows i in
-        let fit = and-yes (partsFit ((shapeOf o) .parts) i f s) (fieldsFit ((shapeOf o) .fields) (rows i)) (subst (λ (r : Reading). T (r .sound)) made t) in
+        let fit = and-yes (partsFit ((shapeOf o) .parts) i f s) (fieldsFit ((shapeOf o) .fields) (rows i)) (subst (λ (r : RowsRead). T (r .sound)) made t) in
         record {
           operator = o;
           coded = e;
           parts = fit .0;
           fields = fit .1;
-          start = ap (λ (r : Reading). r .start) made;
-          form = ap (λ (r : Reading). r .form) made;
+          start = ap (λ (r : RowsRead). r .start) made;
+          form = ap (λ (r : RowsRead). r .form) made;
         }
 
 -- ---- operators and their codes
@@ -280,7 +280,7 @@ sorted [] a b = Unit {0}
 sorted (p ∷ []) a b = T (sameSort p (sortOf b))
 sorted (p ∷ q ∷ more) a b = T (sameSort p (sortOf a)) × T (sameSort q (sortOf b))
 
-pub sorted-parts : (parts : List Sort) (i : ℕ) (f s : Reading) → T (partsFit parts i f s) → sorted parts (f .form) (s .form)
+pub sorted-parts : (parts : List Sort) (i : ℕ) (f s : RowsRead) → T (partsFit parts i f s) → sorted parts (f .form) (s .form)
 sorted-parts [] i f s t = tt
 sorted-parts (p ∷ []) i f s t = and-yes (s .sound) (sameSort p (sortOf (s .form))) (only-fits p i f s t .1) .1
 sorted-parts (p ∷ q ∷ more) i f s t =

@@ -79,7 +79,7 @@ asCollection (part collection f) = f
 
 -- What is read of the rows up to some row: the form that ends there, the row at which it starts, and whether those rows are exactly
 -- that form.
-pub record Reading : Type 0 where
+pub record RowsRead : Type 0 where
   pub start : ℕ
   pub sound : Bool
   pub form : Part
@@ -107,11 +107,11 @@ startOf (s ∷ []) i first second = second
 startOf (s ∷ t ∷ more) i first second = first
 
 -- the reading is of a form of that sort
-abbrev pub reads : Sort → Reading → Bool
+abbrev pub reads : Sort → RowsRead → Bool
 reads s r = r .sound && sameSort s (sortOf (r .form))
 
 -- the parts are there and of their sorts; i is the row's number
-unfoldable pub partsFit : List Sort → ℕ → Reading → Reading → Bool
+unfoldable pub partsFit : List Sort → ℕ → RowsRead → RowsRead → Bool
 partsFit [] i first second = true
 partsFit (s ∷ []) i first second = ltb 0 i && reads s second
 partsFit (s ∷ t ∷ more) i first second = ltb 0 i && reads t second && ltb 0 (second .start) && reads s first
@@ -123,10 +123,10 @@ fieldsFit (suc zero) r = eqb (r .y) 0 && eqb (r .z) 0
 fieldsFit (suc (suc n)) r = eqb (r .z) 0
 
 -- no operator has that code
-abbrev pub noReading : ℕ → Reading
+abbrev pub noReading : ℕ → RowsRead
 noReading i = record { start = i; sound = false; form = part number (num (pos 0)) }
 
-unfoldable pub readingOf : Option Operator → BodyRow → ℕ → Reading → Reading → Reading
+unfoldable pub readingOf : Option Operator → BodyRow → ℕ → RowsRead → RowsRead → RowsRead
 readingOf none r i first second = noReading i
 readingOf (some o) r i first second =
     record {
@@ -137,7 +137,7 @@ readingOf (some o) r i first second =
 
 -- The reading at row i. Its second part ends at the row before it, and its first part before that one's start. Row 0 has no parts.
 -- Any fuel above i serves.
-unfoldable pub readAt : ℕ → (ℕ → BodyRow) → ℕ → Reading
+unfoldable pub readAt : ℕ → (ℕ → BodyRow) → ℕ → RowsRead
 readAt zero rows i = noReading i
 readAt (suc fuel) rows zero = readingOf (operatorOf ((rows 0) .code)) (rows 0) 0 (noReading 0) (noReading 0)
 readAt (suc fuel) rows (suc i) =
@@ -146,15 +146,15 @@ readAt (suc fuel) rows (suc i) =
     readingOf (operatorOf ((rows (suc i)) .code)) (rows (suc i)) (suc i) first second
 
 -- "lent body rows that are exactly one whole form": the reading of the form that ends before row e. Before row 0 none ends.
-unfoldable pub ending : (ℕ → BodyRow) → ℕ → Reading
+unfoldable pub ending : (ℕ → BodyRow) → ℕ → RowsRead
 ending rows zero = noReading 0
 ending rows (suc i) = readAt (suc i) rows i
 
 -- the parts of row i's form, if its operator has them: the second ends before row i, and the first before the start of the second
-abbrev pub secondPart : (ℕ → BodyRow) → ℕ → Reading
+abbrev pub secondPart : (ℕ → BodyRow) → ℕ → RowsRead
 secondPart rows i = ending rows i
 
-abbrev pub firstPart : (ℕ → BodyRow) → ℕ → Reading
+abbrev pub firstPart : (ℕ → BodyRow) → ℕ → RowsRead
 firstPart rows i = ending rows ((ending rows i) .start)
 
 -- "lent body rows that are exactly one whole form": n rows, the last of which is a truth that starts at the first

@@ -10,8 +10,8 @@ use borrow.Author.Tests.{le-ltb, le-leb, eq-eqb, ne-eqb}
 use Rattle.meaning.specs.Lists.{keep}
 use Rattle.rows.specs.Rows.{rowsFrom, readRows}
 use Rattle.lexical.proofs.Runs.{both}
-use Rattle.text.specs.Entries.{Entry, sectionOf, wordsOf, isOf, countOf, tableOf, lastSection}
-use Rattle.text.specs.Texts.{limitOf, tooLong, overfull}
+use Rattle.text.specs.Entries.{Entry, sectionOf, entryWords, isOf, countOf, tableOf, lastSection}
+use Rattle.text.specs.Texts.{limitOf, tooLong, noRoom}
 use Rattle.text.proofs.Entries.{sayable}
 use Rattle.text.proofs.Texts.{fitFrom}
 
@@ -34,8 +34,8 @@ unfolding tableOf
 table-append s [] b = refl
 table-append s (e ∷ a) b = step (isOf s e) (table-append s a b)
   where
-    step : (q : Bool) → tableOf s (a ++ b) ≡ tableOf s a ++ tableOf s b → cond q (wordsOf e ++ tableOf s (a ++ b)) (tableOf s (a ++ b)) ≡ cond q (wordsOf e ++ tableOf s a) (tableOf s a) ++ tableOf s b
-    step true rest = ap (λ l. wordsOf e ++ l) rest ∙ sym (append-assoc (wordsOf e) (tableOf s a) (tableOf s b))
+    step : (q : Bool) → tableOf s (a ++ b) ≡ tableOf s a ++ tableOf s b → cond q (entryWords e ++ tableOf s (a ++ b)) (tableOf s (a ++ b)) ≡ cond q (entryWords e ++ tableOf s a) (tableOf s a) ++ tableOf s b
+    step true rest = ap (λ l. entryWords e ++ l) rest ∙ sym (append-assoc (entryWords e) (tableOf s a) (tableOf s b))
     step false rest = rest
 
 pub fit-append : (lent : List ℕ) (es fs before : List Entry) → fitFrom lent before es ≡ true → fitFrom lent (before ++ es) fs ≡ true → fitFrom lent before (es ++ fs) ≡ true
@@ -43,7 +43,7 @@ fit-append lent [] fs before h g = subst (λ b. fitFrom lent b fs ≡ true) (app
 fit-append lent (e ∷ es) fs before h g =
     let (said, more) = both (sayable before e) _ h in
     let (ordered, more2) = both (leb (lastSection 0 before) (sectionOf e)) _ more in
-    let (room, rest) = both (not (overfull lent before e)) _ more2 in
+    let (room, rest) = both (not (noRoom lent before e)) _ more2 in
     ap₂ (λ x y. x && y) said (ap₂ (λ x y. x && y) ordered (ap₂ (λ x y. x && y) room (fit-append lent es fs (before ++ e ∷ []) rest (subst (λ b. fitFrom lent b fs ≡ true) (sym (append-assoc before (e ∷ []) es)) g))))
 
 -- ---- a block: rows of one section
@@ -71,7 +71,7 @@ module _ (q : ℕ) (read : ℕ → Entry) (of : (i : ℕ) → sectionOf (read i)
   pub table-other : (s j m : ℕ) → eqb q s ≡ false → tableOf s (rowsFrom read j m) ≡ []
   unfolding tableOf
   table-other s j zero h = refl
-  table-other s j (suc m) h = ap (λ b. cond b (wordsOf (read j) ++ tableOf s (rowsFrom read (suc j) m)) (tableOf s (rowsFrom read (suc j) m))) (ap (λ k. eqb k s) (of j) ∙ h) ∙ table-other s (suc j) m h
+  table-other s j (suc m) h = ap (λ b. cond b (entryWords (read j) ++ tableOf s (rowsFrom read (suc j) m)) (tableOf s (rowsFrom read (suc j) m))) (ap (λ k. eqb k s) (of j) ∙ h) ∙ table-other s (suc j) m h
 
   last-block : (b : List Entry) (s j m : ℕ) → lastSection s b ≤ q → lastSection s (b ++ rowsFrom read j m) ≤ q
   unfolding lastSection
@@ -93,7 +93,7 @@ module _ (q : ℕ) (read : ℕ → Entry) (of : (i : ℕ) → sectionOf (read i)
       (short : (i : ℕ) → i < used → tooLong (read i) ≡ false)
       (room : used ≤ min (limitOf q) (getD lent q 0)) where
     fits-from : (m j : ℕ) (b : List Entry) → j + m ≡ used → countOf q b ≡ j → lastSection 0 b ≤ q → P b → fitFrom lent b (rowsFrom read j m) ≡ true
-    unfolding overfull lastSection
+    unfolding noRoom lastSection
     fits-from zero j b h n l p = refl
     fits-from (suc m) j b h n l p =
         let inside : j < used = omega (arith, h) in

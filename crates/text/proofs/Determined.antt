@@ -13,8 +13,8 @@ use Rattle.tables.proofs.Forms.{halves}
 use Rattle.text.specs.Names.{ruleName, objectName, linkName}
 use Rattle.text.specs.Tokens.{isWord}
 use Rattle.text.specs.Bodies.{Written, wellWritten, formsIn, padded, rowsOf}
-use Rattle.text.specs.Entries.{Entry, row, rule, eventSection, sectionOf, wordsOf, countOf, tableOf, bodiesOf, lastSection}
-use Rattle.text.specs.Texts.{limitOf, tooLong, overfull, taken, reading}
+use Rattle.text.specs.Entries.{Entry, row, rule, eventSection, sectionOf, entryWords, countOf, tableOf, bodiesOf, lastSection}
+use Rattle.text.specs.Texts.{limitOf, tooLong, noRoom, taken, reading}
 use Rattle.text.proofs.Bodies.{rows-length, rows-determine}
 use Rattle.text.proofs.Entries.{rowFits, sayable, padded-length, by-section}
 use Rattle.text.proofs.Texts.{fitFrom, write-after-read, one-text}
@@ -47,8 +47,8 @@ not-so : (b : Bool) → not b ≡ true → b ≡ false
 not-so true h = absurd (false≢true h)
 not-so false h = refl
 
-entry-shaped : (lent : List ℕ) (before : List Entry) (e : Entry) → sayable before e ≡ true → not (overfull lent before e) ≡ true → shaped e ≡ true
-unfolding sayable overfull tooLong sectionOf
+entry-shaped : (lent : List ℕ) (before : List Entry) (e : Entry) → sayable before e ≡ true → not (noRoom lent before e) ≡ true → shaped e ≡ true
+unfolding sayable noRoom tooLong sectionOf
 entry-shaped lent before (row s words) h room = row-shaped before s words h
 entry-shaped lent before (rule t body) h room = ap₂ (λ x y. x && y) (both (isWord t) (wellWritten body) h .1) (not-over (ltb (min (limitOf ruleName) (getD lent ruleName 0)) (suc (countOf ruleName before))) room)
   where
@@ -66,7 +66,7 @@ fit-orderly lent before [] h = refl
 fit-orderly lent before (e ∷ es) h =
     let (said, more) = both (sayable before e) _ h in
     let (ordered, more2) = both (leb (lastSection 0 before) (sectionOf e)) _ more in
-    let (room, rest) = both (not (overfull lent before e)) _ more2 in
+    let (room, rest) = both (not (noRoom lent before e)) _ more2 in
     ap₂ (λ x y. x && y) ordered (ap₂ (λ x y. x && y) (entry-shaped lent before e said room) (ap (λ s. orderly s es) (sym (last-one 0 before e)) ∙ fit-orderly lent (before ++ e ∷ []) es rest))
 
 -- ---- one entry more
@@ -116,25 +116,25 @@ pub record Same (es fs : List Entry) : Type 0 where
 
 -- ---- what follows the first entries
 
-module _ {e f : Entry} {es fs : List Entry} (section : sectionOf e ≡ sectionOf f) (long : length (wordsOf e) ≡ length (wordsOf f)) (same : Same (e ∷ es) (f ∷ fs)) where
+module _ {e f : Entry} {es fs : List Entry} (section : sectionOf e ≡ sectionOf f) (long : length (entryWords e) ≡ length (entryWords f)) (same : Same (e ∷ es) (f ∷ fs)) where
   here : eqb (sectionOf e) (sectionOf e) ≡ true
   here = eq-eqb (sectionOf e) (sectionOf e) refl
 
   there : eqb (sectionOf f) (sectionOf e) ≡ true
   there = eq-eqb (sectionOf f) (sectionOf e) (sym section)
 
-  table-here : (g : Entry) (gs : List Entry) (s : ℕ) → eqb (sectionOf g) s ≡ true → tableOf s (g ∷ gs) ≡ wordsOf g ++ tableOf s gs
+  table-here : (g : Entry) (gs : List Entry) (s : ℕ) → eqb (sectionOf g) s ≡ true → tableOf s (g ∷ gs) ≡ entryWords g ++ tableOf s gs
   unfolding tableOf
-  table-here g gs s h = ap (λ b. cond b (wordsOf g ++ tableOf s gs) (tableOf s gs)) h
+  table-here g gs s h = ap (λ b. cond b (entryWords g ++ tableOf s gs) (tableOf s gs)) h
 
   table-other : (g : Entry) (gs : List Entry) (s : ℕ) → eqb (sectionOf g) s ≡ false → tableOf s (g ∷ gs) ≡ tableOf s gs
   unfolding tableOf
-  table-other g gs s h = ap (λ b. cond b (wordsOf g ++ tableOf s gs) (tableOf s gs)) h
+  table-other g gs s h = ap (λ b. cond b (entryWords g ++ tableOf s gs) (tableOf s gs)) h
 
-  parts : (wordsOf e ≡ wordsOf f) × (tableOf (sectionOf e) es ≡ tableOf (sectionOf e) fs)
-  parts = halves (wordsOf e) (tableOf (sectionOf e) es) (wordsOf f) (tableOf (sectionOf e) fs) long (sym (table-here e es (sectionOf e) here) ∙ same .tables (sectionOf e) ∙ table-here f fs (sectionOf e) there)
+  parts : (entryWords e ≡ entryWords f) × (tableOf (sectionOf e) es ≡ tableOf (sectionOf e) fs)
+  parts = halves (entryWords e) (tableOf (sectionOf e) es) (entryWords f) (tableOf (sectionOf e) fs) long (sym (table-here e es (sectionOf e) here) ∙ same .tables (sectionOf e) ∙ table-here f fs (sectionOf e) there)
 
-  words-same : wordsOf e ≡ wordsOf f
+  words-same : entryWords e ≡ entryWords f
   words-same = parts .0
 
   counts-after : (s : ℕ) → countOf s es ≡ countOf s fs
@@ -159,7 +159,7 @@ rule-words q = (ap (λ l. getD l 0 0) q, ap (λ l. getD l 1 0) q)
 
 -- the entries that come first are the same, and so is what follows
 entry-same : (e f : Entry) (es fs : List Entry) → shaped e ≡ true → shaped f ≡ true → sectionOf e ≡ sectionOf f → Same (e ∷ es) (f ∷ fs) → (e ≡ f) × Same es fs
-unfolding sectionOf wordsOf bodiesOf
+unfolding sectionOf entryWords bodiesOf
 entry-same (row s words) (row t others) es fs h g q same =
     let long : length words ≡ length others = eqb-true (length words) (widthOf s) (both (not (eqb s ruleName)) _ h .1) ∙ ap widthOf q ∙ sym (eqb-true (length others) (widthOf t) (both (not (eqb t ruleName)) _ g .1)) in
     (ap₂ (λ s l. row s l) q (words-same {e = row s words} {f = row t others} q long same), record { counts = counts-after {e = row s words} {f = row t others} q long same; tables = tables-after {e = row s words} {f = row t others} q long same; bodies = same .bodies })

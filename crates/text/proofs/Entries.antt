@@ -21,7 +21,7 @@ use Rattle.lexical.proofs.Runs.{both}
 use Rattle.text.specs.Names.{typeName, relationshipName, ruleName, objectName, linkName, firstEvent, nameCount}
 use Rattle.text.specs.Tokens.{Token, begin, item, end, dash, isWord, Bracket, spellBracket, bracketIn}
 use Rattle.text.specs.Bodies.{Written, wellWritten, padded, closing, tokensOf, formIn}
-use Rattle.text.specs.Entries.{Entry, row, rule, sectionOf, isOf, countOf, cellsIn, lastSection, eventSection, parentItem, parentWord, typeFits, relationshipFits, objectFits, linkFits, eventFits, eventFields, itemsOf, nameFor, bracketOf, spellEntry, itemsIn, rowIf, typeIn, relationshipIn, objectIn, linkIn, eventIn, rowIn, onlyEnd, bodyIn, ruleIn, insideIn, inOrder, entryIn}
+use Rattle.text.specs.Entries.{Entry, row, rule, sectionOf, isOf, countOf, cellsIn, lastSection, eventSection, parentItem, parentWord, isTypeLine, isRelationshipLine, isObjectLine, isLinkLine, isEventLine, eventFields, itemsOf, nameFor, bracketOf, spellEntry, itemsIn, rowIf, typeIn, relationshipIn, objectIn, linkIn, eventIn, rowIn, onlyEnd, bodyIn, ruleIn, insideIn, inOrder, entryIn}
 use Rattle.text.proofs.Tokens.{validToken, bracket-read, bracket-spelled, bracket-inner}
 use Rattle.text.proofs.Bodies.{close-valid, form-read, form-spelled, tokens-valid}
 
@@ -140,9 +140,9 @@ module _ (a b v : ℕ) (a-large : 2 ^ 31 ≤ a) (b-large : 2 ^ 31 ≤ b) (h : (l
       other t = rw (t, le-ltb b (2 ^ 31) b-large, eq-eqb b b refl)
 
 type-spelled : (before : List Entry) (is : List ℕ) (e : Entry) → typeIn before is ≡ some e → Said before typeName is e
-unfolding typeIn typeFits itemsOf nameFor
+unfolding typeIn isTypeLine itemsOf nameFor
 type-spelled before is e q =
-    let (fits, same) = row-if (typeFits before is) typeName _ e q in
+    let (fits, same) = row-if (isTypeLine before is) typeName _ e q in
     let (three, more) = both (eqb (length is) 3) _ fits in
     let (counted, rest) = both (eqb (getD is 0 0) (countOf typeName before)) _ more in
     let (parent, cells) = both (ltb (getD is 1 0) (2 ^ 31) || eqb (getD is 1 0) dash) _ rest in
@@ -156,10 +156,10 @@ type-spelled before is e q =
     }
 
 relationship-spelled : (before : List Entry) (is : List ℕ) (e : Entry) → relationshipIn before is ≡ some e → Said before relationshipName is e
-unfolding relationshipIn relationshipFits itemsOf nameFor
+unfolding relationshipIn isRelationshipLine itemsOf nameFor
 relationship-spelled before [] e q = absurd (Option·none-ne-some e q)
 relationship-spelled before (a ∷ is) e q =
-    let (fits, same) = row-if (relationshipFits before (a ∷ is)) relationshipName _ e q in
+    let (fits, same) = row-if (isRelationshipLine before (a ∷ is)) relationshipName _ e q in
     let (three, more) = both (eqb (length (a ∷ is)) 3) _ fits in
     let (counted, words) = both (eqb a (countOf relationshipName before)) _ more in
     let two : length is ≡ 2 = omega (arith, eqb-true (length (a ∷ is)) 3 three) in
@@ -199,12 +199,12 @@ module _ (width : ℕ) (is : List ℕ) (fits : length is ≤ width) where
   padded-zero n h = ap allZero (drop-at is (replicate (width - length is) 0) n h) ∙ zeros-zero (width - length is)
 
 object-spelled : (before : List Entry) (is : List ℕ) (e : Entry) → objectIn before is ≡ some e → Said before objectName is e
-unfolding objectIn objectFits itemsOf nameFor
+unfolding objectIn isObjectLine itemsOf nameFor
 object-spelled before [] e q = absurd (Option·none-ne-some e q)
 object-spelled before (a ∷ []) e q = absurd (Option·none-ne-some e q)
 object-spelled before (a ∷ t ∷ vs) e q =
     let is = a ∷ t ∷ vs in
-    let (fits, same) = row-if (objectFits before is) objectName _ e q in
+    let (fits, same) = row-if (isObjectLine before is) objectName _ e q in
     let (two, more) = both (leb 2 (length is)) _ fits in
     let (words, more2) = both (every isWord is) _ more in
     let (known, more3) = both (ltb t (countOf typeName before)) _ more2 in
@@ -224,9 +224,9 @@ object-spelled before (a ∷ t ∷ vs) e q =
     }
 
 link-spelled : (before : List Entry) (is : List ℕ) (e : Entry) → linkIn is ≡ some e → Said before linkName is e
-unfolding linkIn linkFits itemsOf nameFor
+unfolding linkIn isLinkLine itemsOf nameFor
 link-spelled before is e q =
-    let (fits, same) = row-if (linkFits is) linkName _ e q in
+    let (fits, same) = row-if (isLinkLine is) linkName _ e q in
     record { section = linkName; words = is; is-row = same; items = refl; named = refl; fits = fits }
 
 pub fields-few : (kind : ℕ) → eventFields kind ≤ 3
@@ -234,10 +234,10 @@ unfolding eventFields
 fields-few kind = leb-true (eventFields kind) 3 (is-true (leb (eventFields kind) 3) (every-getD (λ n. leb n 3) (2 ∷ 1 ∷ 3 ∷ 3 ∷ 3 ∷ 2 ∷ 2 ∷ []) kind 0 tt tt))
 
 event-spelled : (before : List Entry) (name : ℕ) (is : List ℕ) (e : Entry) → firstEvent ≤ name → eventIn (name - firstEvent) is ≡ some e → Said before name is e
-unfolding eventIn eventFits itemsOf nameFor
+unfolding eventIn isEventLine itemsOf nameFor
 event-spelled before name is e h q =
     let kind = name - firstEvent in
-    let (fits, same) = row-if (eventFits kind is) eventSection _ e q in
+    let (fits, same) = row-if (isEventLine kind is) eventSection _ e q in
     let (known, more) = both (ltb kind 7) _ fits in
     let (sized, words) = both (eqb (length is) (eventFields kind)) _ more in
     let size : length is ≡ eventFields kind = eqb-true (length is) (eventFields kind) sized in
@@ -281,22 +281,22 @@ row-so true s h q = ap (λ w. some (row s w)) q
 row-so false s h q = absurd (false≢true h)
 
 type-read : (before : List Entry) (words : List ℕ) → rowFits before typeName words ≡ true → typeIn before (itemsOf before typeName words) ≡ some (row typeName words)
-unfolding typeIn typeFits itemsOf
+unfolding typeIn isTypeLine itemsOf
 type-read before words h =
     let w = getD words 0 0 in
     let (two, more) = both (eqb (length words) 2) _ h in
     let (parent, cells) = both (ltb w (2 ^ 31) || eqb w noParent) _ more in
-    row-so (typeFits before (countOf typeName before ∷ parentItem w ∷ getD words 1 0 ∷ [])) typeName
+    row-so (isTypeLine before (countOf typeName before ∷ parentItem w ∷ getD words 1 0 ∷ [])) typeName
     (and-true (eqb (countOf typeName before) (countOf typeName before)) _ (eq-eqb (countOf typeName before) (countOf typeName before) refl)
     (and-true (ltb (parentItem w) (2 ^ 31) || eqb (parentItem w) dash) _ (swap-fits noParent dash w (omega arith) (omega arith) parent) cells))
     (ap (λ v. v ∷ getD words 1 0 ∷ []) (swap-back noParent dash w (omega arith) (omega arith) parent) ∙ sym (list-two words (eqb-true (length words) 2 two)))
 
 relationship-read : (before : List Entry) (words : List ℕ) → countOf relationshipName before < dash → rowFits before relationshipName words ≡ true → relationshipIn before (itemsOf before relationshipName words) ≡ some (row relationshipName words)
-unfolding relationshipIn relationshipFits itemsOf
+unfolding relationshipIn isRelationshipLine itemsOf
 relationship-read before words few h =
     let n = countOf relationshipName before in
     let (two, all) = both (eqb (length words) 2) _ h in
-    row-so (relationshipFits before (n ∷ words)) relationshipName
+    row-so (isRelationshipLine before (n ∷ words)) relationshipName
     (and-true (eqb (length (n ∷ words)) 3) _ (eq-eqb (length (n ∷ words)) 3 (ap suc (eqb-true (length words) 2 two)))
     (and-true (eqb n n) _ (eq-eqb n n refl) (and-true (isWord n) _ (lt-ltb n dash few) all)))
     refl
@@ -311,7 +311,7 @@ unpadded width n words h few z =
     ∙ take-append-drop n words
 
 object-read : (before : List Entry) (words : List ℕ) → rowFits before objectName words ≡ true → objectIn before (itemsOf before objectName words) ≡ some (row objectName words)
-unfolding objectIn objectFits itemsOf
+unfolding objectIn isObjectLine itemsOf
 object-read before words h =
     let t = getD words 1 0 in
     let n = 2 + cellsIn before t in
@@ -324,7 +324,7 @@ object-read before words h =
     let room : n ≤ 10 = omega (arith, leb-true (cellsIn before t) cellCount few) in
     let taken : length is ≡ n = length-take-le n words (omega (arith, size, room)) in
     let same-type : t ≡ getD is 1 0 = sym (getD-take n words 1 0 (omega arith)) in
-    row-so (objectFits before is) objectName
+    row-so (isObjectLine before is) objectName
     (and-true (leb 2 (length is)) _ (le-leb 2 (length is) (omega (arith, taken)))
     (and-true (every isWord is) _ (is-true (every isWord is) (every-take isWord n words (passes (every isWord words) all)))
     (subst (λ u. (ltb u (countOf typeName before) && (leb (cellsIn before u) cellCount && eqb (length is) (2 + cellsIn before u))) ≡ true) same-type
@@ -332,7 +332,7 @@ object-read before words h =
     (unpadded 10 n words size room zeros)
 
 event-read : (before : List Entry) (words : List ℕ) → rowFits before eventSection words ≡ true → eventIn (getD words 0 0) (itemsOf before eventSection words) ≡ some (row eventSection words)
-unfolding eventIn eventFits itemsOf
+unfolding eventIn isEventLine itemsOf
 event-read before [] h = absurd (false≢true h)
 event-read before (kind ∷ ws) h =
     let n = eventFields kind in
@@ -342,7 +342,7 @@ event-read before (kind ∷ ws) h =
     let (known, zeros) = both (ltb kind 7) _ more2 in
     let size : length ws ≡ 3 = omega (arith, eqb-true (length (kind ∷ ws)) 4 four) in
     let taken : length is ≡ n = length-take-le n ws (omega (arith, size, fields-few kind)) in
-    row-so (eventFits kind is) eventSection
+    row-so (isEventLine kind is) eventSection
     (and-true (ltb kind 7) _ known
     (and-true (eqb (length is) n) _ (eq-eqb (length is) n taken)
     (is-true (every isWord is) (every-take isWord n ws (passes (every isWord ws) (both (isWord kind) _ all .1))))))
@@ -502,13 +502,13 @@ module _ (before : List Entry) (few : (s : ℕ) → countOf s before < dash) whe
       by-name name is a b c d l = rw (a, b, c, d, l)
 
   row-sayable : (s : ℕ) (words : List ℕ) → rowFits before s words ≡ true → Sayable before (row s words)
-  unfolding bracketOf nameFor itemsOf rowIn linkIn linkFits
+  unfolding bracketOf nameFor itemsOf rowIn linkIn isLinkLine
   row-sayable s words h =
       by-section before s words (λ s. Sayable before (row s words))
       (type-sayable words)
       (λ h. record { named = omega arith; valid = and-true (leb (countOf relationshipName before) dash) _ (counted relationshipName) (close-valid words (both (eqb (length words) 2) _ h .1)); says = flat-says relationshipName words refl (relationship-read before words (few relationshipName) h) })
       (λ h. record { named = omega arith; valid = close-valid (itemsOf before objectName words) (some-words (2 + cellsIn before (getD words 1 0)) words (both (every isWord words) _ (both (eqb (length words) 10) _ h .1) .0)); says = flat-says objectName words refl (object-read before words h) })
-      (λ h. record { named = omega arith; valid = close-valid words (both (eqb (length words) 3) _ h .1); says = flat-says linkName words refl (row-so (linkFits words) linkName h refl) })
+      (λ h. record { named = omega arith; valid = close-valid words (both (eqb (length words) 3) _ h .1); says = flat-says linkName words refl (row-so (isLinkLine words) linkName h refl) })
       (event-sayable words)
       h
 

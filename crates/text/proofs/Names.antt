@@ -10,8 +10,8 @@ use native.Mathlib.Decide.{ℕ-discrete}
 use borrow.Author.Tests.{eqb-true}
 use lib.Dec.{T, eqb}
 use lib.ListN.{length, getD}
-use Rattle.meaning.specs.Lists.{every, holds, same}
-use Rattle.meaning.proofs.Order.{same-eq}
+use Rattle.meaning.specs.Lists.{every, holds, sameList}
+use Rattle.meaning.proofs.Order.{same-list-eq}
 use Rattle.lexical.proofs.Runs.{both}
 use Rattle.text.specs.Names.{names, nameCount, nameOf, isLetter, placeFrom, placeOf}
 
@@ -62,12 +62,12 @@ record Found (l : List ℕ) (i : ℕ) (ns : List (List ℕ)) (k : ℕ) : Type 0 
 
 found : (l : List ℕ) (i : ℕ) (ns : List (List ℕ)) (k : ℕ) → placeFrom l i ns ≡ some k → Found l i ns k
 found l i [] k e = absurd (Option·none-ne-some k e)
-found l i (n ∷ ns) k e = go (same l n) refl (λ q. found l (suc i) ns k q) e
+found l i (n ∷ ns) k e = go (sameList l n) refl (λ q. found l (suc i) ns k q) e
   where
-    go : (b : Bool) → same l n ≡ b → (placeFrom l (suc i) ns ≡ some k → Found l (suc i) ns k) → cond b (some i) (placeFrom l (suc i) ns) ≡ some k
+    go : (b : Bool) → sameList l n ≡ b → (placeFrom l (suc i) ns ≡ some k → Found l (suc i) ns k) → cond b (some i) (placeFrom l (suc i) ns) ≡ some k
         → Found l i (n ∷ ns) k
     go true s after q =
-        record { nth = 0; place = omega (arith, Option·some-injective i k q); is = sym (same-eq l n (subst T (sym s) tt)); within = omega arith }
+        record { nth = 0; place = omega (arith, Option·some-injective i k q); is = sym (same-list-eq l n (subst T (sym s) tt)); within = omega arith }
     go false s after q = let f = after q in record { nth = suc (f .nth); place = omega arith; is = f .is; within = omega arith }
 
 pub name-found : (l : List ℕ) (k : ℕ) → placeOf l ≡ some k → (nameOf k ≡ l) × (k < nameCount)

@@ -14,7 +14,7 @@ use Rattle.tables.specs.Columns.{ruleRow}
 use Rattle.tables.specs.Refusals.{Tables}
 use Rattle.text.specs.Names.{typeName, relationshipName, ruleName, objectName, linkName}
 use Rattle.text.specs.Bodies.{Written, padded, rowsOf, writtenOf}
-use Rattle.text.specs.Entries.{Entry, row, rule, eventSection, sectionOf, wordsOf, countOf, tableOf, bodiesOf}
+use Rattle.text.specs.Entries.{Entry, row, rule, eventSection, sectionOf, entryWords, countOf, tableOf, bodiesOf}
 use Rattle.text.specs.Texts.{maxText, spelled, taken, reading}
 use Rattle.text.specs.Sheets.{wordsAt, rowEntries, ruleEntry, entriesOf}
 use Rattle.text.proofs.Entries.{padded-length}
@@ -132,7 +132,7 @@ module _ (t : Tables) (eventCount : ℕ) (events : List ℕ) (w : Writable t eve
   read = ruleEntry (t .rules) (t .bodies)
 
   rule-words : (j m : ℕ) → j + m ≤ t .ruleCount → tableOf ruleName (rowsFrom read j m) ≡ rowsFrom (λ c. getD (t .rules) c 0) (j * 2) (m * 2)
-  unfolding tableOf sectionOf wordsOf
+  unfolding tableOf sectionOf entryWords
   rule-words j zero h = refl
   rule-words j (suc m) h =
       let two : suc m * 2 ≡ suc (suc (m * 2)) = omega arith in

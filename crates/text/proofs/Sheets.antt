@@ -14,14 +14,14 @@ use denote.Floats.{is-true}
 use borrow.Author.Tests.{ltb-false, le-ltb, lt-ltb, le-leb, eq-eqb}
 use lib.Seq.{drop-nil}
 use mir.Facts.{and-yes, T-not-not}
-use Rattle.meaning.specs.Lists.{any, every, firstOf, firstFault}
+use Rattle.meaning.specs.Lists.{any, every, firstOf, firstFault, _∈_}
 use Rattle.meaning.specs.Limits.{maxTypes, maxRelationships, maxRules, maxForms, maxObjects, maxLinks, maxEvents, cellCount, validId}
 use Rattle.meaning.specs.Schema.{Schema, knownType, parentOf, cellsOf, typeAt}
 use Rattle.meaning.specs.Register.{isZero}
 use Rattle.meaning.specs.Forms.{wellTyped, Book}
 use Rattle.meaning.specs.Events.{Refusal, Event, insert, delete, set, join, part, special, general, knownEvent}
 use Rattle.meaning.specs.Answers.{refusal, refusalAt}
-use Rattle.meaning.proofs.Lists.{_∈_, first-of-none, element-in, decide, or-right}
+use Rattle.meaning.proofs.Lists.{first-of-none, element-in, decide, or-right}
 use Rattle.meaning.proofs.Order.{fault-none}
 use Rattle.meaning.proofs.Registers.{object-parts}
 use Rattle.meaning.proofs.Agreement.{Checked, checked, refusal-at-none}
@@ -35,7 +35,7 @@ use Rattle.schema.proofs.Rows.{length-rows, row-there, row-at}
 use Rattle.text.specs.Names.{typeName, relationshipName, ruleName, objectName, linkName}
 use Rattle.text.specs.Tokens.{dash, isWord}
 use Rattle.text.specs.Bodies.{wellWritten, formsIn, rowsOf, writtenOf}
-use Rattle.text.specs.Entries.{Entry, row, eventSection, sectionOf, wordsOf, countOf, tableOf, cellsIn, eventFields}
+use Rattle.text.specs.Entries.{Entry, row, eventSection, sectionOf, entryWords, countOf, tableOf, cellsIn, eventFields}
 use Rattle.text.specs.Texts.{maxText, spelled, limitOf, tooLong, taken, reading}
 use Rattle.text.specs.Sheets.{wordsAt, rowEntries, ruleEntry, entriesOf, sheetRefusal}
 use Rattle.text.proofs.Bodies.{written-rows, written-count, written-well}
@@ -64,7 +64,7 @@ section-is s words = refl
 
 -- the rows of a section, one after the other, are the table's words
 pub rows-table : (q : ℕ) (t : List ℕ) (width j m : ℕ) → tableOf q (rowsFrom (λ i. row q (wordsAt t width i)) j m) ≡ rowsFrom (λ c. getD t c 0) (j * width) (m * width)
-unfolding tableOf sectionOf wordsOf
+unfolding tableOf sectionOf entryWords
 rows-table q t width j zero = let none-there : 0 ≡ zero * width = omega arith in ap (rowsFrom (λ c. getD t c 0) (j * width)) none-there
 rows-table q t width j (suc m) =
     let rest = rowsFrom (λ i. row q (wordsAt t width i)) (suc j) m in
@@ -337,7 +337,7 @@ module _ (t : Tables) (eventCount : ℕ) (events : List ℕ) (w : Writable t eve
   types-stay : (b : List Entry) (e : Entry) → eqb (sectionOf e) typeName ≡ false → TypesAre b → TypesAre (b ++ e ∷ [])
   unfolding countOf tableOf
   types-stay b e h types =
-      let none-more : tableOf typeName (b ++ e ∷ []) ≡ tableOf typeName b = table-append typeName b (e ∷ []) ∙ ap (λ c. tableOf typeName b ++ cond c (wordsOf e ++ []) []) h ∙ append-nil (tableOf typeName b) in
+      let none-more : tableOf typeName (b ++ e ∷ []) ≡ tableOf typeName b = table-append typeName b (e ∷ []) ∙ ap (λ c. tableOf typeName b ++ cond c (entryWords e ++ []) []) h ∙ append-nil (tableOf typeName b) in
       record {
         counted = count-append typeName b (e ∷ []) ∙ ap (λ c. countOf typeName b + length (cond c (e ∷ []) [])) h ∙ omega (arith, types .counted);
         cells = λ u l. ap (λ table. wordAt table 2 u 1) none-more ∙ types .cells u l;

@@ -14,14 +14,14 @@ use Rattle.lexical.proofs.Lines.{line-split, line-append, ended-append}
 use Rattle.lexical.proofs.Runs.{both}
 use Rattle.text.specs.Tokens.{dash, spellBracket}
 use Rattle.text.specs.Entries.{Entry, sectionOf, lastSection, spellEntry, entryIn}
-use Rattle.text.specs.Texts.{maxText, spellFrom, spelled, overfull, Reading, taken, refused, entryThen, lineThen, afterLine, readFrom, reading}
+use Rattle.text.specs.Texts.{maxText, spellFrom, spelled, noRoom, Reading, taken, refused, entryThen, lineThen, afterLine, readFrom, reading}
 use Rattle.text.proofs.Entries.{sayable, entry-read, ReadFrom, entry-spelled, entry-inner}
 
 -- every line can be said after those before it, in order, and has a row
 abbrev pub fitFrom : List ℕ → List Entry → List Entry → Bool
 fitFrom lent before [] = true
 fitFrom lent before (e ∷ es) =
-    sayable before e && (leb (lastSection 0 before) (sectionOf e) && (not (overfull lent before e) && fitFrom lent (before ++ e ∷ []) es))
+    sayable before e && (leb (lastSection 0 before) (sectionOf e) && (not (noRoom lent before e) && fitFrom lent (before ++ e ∷ []) es))
 
 abbrev pub fit : List ℕ → List Entry → Bool
 fit lent es = fitFrom lent [] es
@@ -45,7 +45,7 @@ module _ (lent : List ℕ) (n : ℕ) (before : List Entry) (e : Entry) (rest : L
       drop-past [] = refl
       drop-past (x ∷ l) = drop-past l
 
-  line-then : (more : Entry → Reading) → leb (lastSection 0 before) (sectionOf e) ≡ true → overfull lent before e ≡ false → lineThen lent n before more text ≡ more e
+  line-then : (more : Entry → Reading) → leb (lastSection 0 before) (sectionOf e) ≡ true → noRoom lent before e ≡ false → lineThen lent n before more text ≡ more e
   unfolding lineThen entryThen spellEntry spellBracket
   line-then more ordered room =
       ap (λ b. cond b (entryThen lent n before more (entryIn before (lineIn text))) (refused 1 n)) (ended-append (spellEntry before e) rest (entry-inner before e few fits))
@@ -64,9 +64,9 @@ spelled-reads lent (e ∷ es) zero n before h few fits = absurd (omega (arith, h
 spelled-reads lent (e ∷ es) (suc fuel) n before h few fits =
     let (said, more) = both (sayable before e) _ fits in
     let (ordered, more2) = both (leb (lastSection 0 before) (sectionOf e)) _ more in
-    let (room, rest) = both (not (overfull lent before e)) _ more2 in
+    let (room, rest) = both (not (noRoom lent before e)) _ more2 in
     let small : length before < dash = omega (arith, few) in
-    line-then lent n before e (spellFrom (before ++ e ∷ []) es) small said _ ordered (not-so (overfull lent before e) room)
+    line-then lent n before e (spellFrom (before ++ e ∷ []) es) small said _ ordered (not-so (noRoom lent before e) room)
     ∙ ap (readFrom fuel lent (suc n) (before ++ e ∷ [])) (after-is lent n before e (spellFrom (before ++ e ∷ []) es) small said)
     ∙ spelled-reads lent es fuel (suc n) (before ++ e ∷ []) (omega (arith, h)) (omega (arith, few, length-one before e)) rest
     ∙ ap taken (append-assoc before (e ∷ []) es)
@@ -101,12 +101,12 @@ isTaken (taken es) = true
 isTaken (refused m n) = false
 
 module _ (lent : List ℕ) (n : ℕ) (before : List Entry) (more : Entry → Reading) (all : List Entry) where
-  entry-taken : (o : Option Entry) → entryThen lent n before more o ≡ taken all → (e : Entry) × (o ≡ some e) × (overfull lent before e ≡ false) × (more e ≡ taken all)
+  entry-taken : (o : Option Entry) → entryThen lent n before more o ≡ taken all → (e : Entry) × (o ≡ some e) × (noRoom lent before e ≡ false) × (more e ≡ taken all)
   unfolding entryThen
   entry-taken none q = absurd (false≢true (ap isTaken q))
-  entry-taken (some e) q = step (overfull lent before e) refl q
+  entry-taken (some e) q = step (noRoom lent before e) refl q
     where
-      step : (b : Bool) → overfull lent before e ≡ b → cond b (refused 2 n) (more e) ≡ taken all → (f : Entry) × (some e ≡ some f) × (overfull lent before f ≡ false) × (more f ≡ taken all)
+      step : (b : Bool) → noRoom lent before e ≡ b → cond b (refused 2 n) (more e) ≡ taken all → (f : Entry) × (some e ≡ some f) × (noRoom lent before f ≡ false) × (more f ≡ taken all)
       step true r q = absurd (false≢true (ap isTaken q))
       step false r q = (e, refl, r, q)
 

@@ -27,9 +27,9 @@ sectionOf (row s words) = s
 sectionOf (rule t body) = ruleName
 
 -- a row's words, as its table holds them
-unfoldable pub wordsOf : Entry → List ℕ
-wordsOf (row s words) = words
-wordsOf (rule t body) = t ∷ formsIn body ∷ []
+unfoldable pub entryWords : Entry → List ℕ
+entryWords (row s words) = words
+entryWords (rule t body) = t ∷ formsIn body ∷ []
 
 -- ---- the tables of lines
 
@@ -42,7 +42,7 @@ countOf s es = length (keep (isOf s) es)
 -- the words of a section's rows, one row after the other
 unfoldable pub tableOf : ℕ → List Entry → List ℕ
 tableOf s [] = []
-tableOf s (e ∷ es) = cond (isOf s e) (wordsOf e ++ tableOf s es) (tableOf s es)
+tableOf s (e ∷ es) = cond (isOf s e) (entryWords e ++ tableOf s es) (tableOf s es)
 
 -- the rows of every body, and zeros up to 64 rows for each
 unfoldable pub bodiesOf : List Entry → List ℕ
@@ -102,8 +102,8 @@ abbrev pub rowIf : Bool → ℕ → List ℕ → Option Entry
 rowIf fits s words = cond fits (some (row s words)) none
 
 -- "numbered by position, else 1; so is a parent below 0"
-unfoldable pub typeFits : List Entry → List ℕ → Bool
-typeFits before is =
+unfoldable pub isTypeLine : List Entry → List ℕ → Bool
+isTypeLine before is =
     eqb (length is) 3 && (eqb (getD is 0 0) (countOf typeName before)
     && ((ltb (getD is 1 0) (2 ^ 31) || eqb (getD is 1 0) dash) && isWord (getD is 2 0)))
 
@@ -111,34 +111,34 @@ abbrev pub parentWord : ℕ → ℕ
 parentWord v = cond (eqb v dash) noParent v
 
 unfoldable pub typeIn : List Entry → List ℕ → Option Entry
-typeIn before is = rowIf (typeFits before is) typeName (parentWord (getD is 1 0) ∷ getD is 2 0 ∷ [])
+typeIn before is = rowIf (isTypeLine before is) typeName (parentWord (getD is 1 0) ∷ getD is 2 0 ∷ [])
 
-unfoldable pub relationshipFits : List Entry → List ℕ → Bool
-relationshipFits before is = eqb (length is) 3 && (eqb (getD is 0 0) (countOf relationshipName before) && every isWord is)
+unfoldable pub isRelationshipLine : List Entry → List ℕ → Bool
+isRelationshipLine before is = eqb (length is) 3 && (eqb (getD is 0 0) (countOf relationshipName before) && every isWord is)
 
 unfoldable pub relationshipIn : List Entry → List ℕ → Option Entry
-relationshipIn before is = rowIf (relationshipFits before is) relationshipName (drop 1 is)
+relationshipIn before is = rowIf (isRelationshipLine before is) relationshipName (drop 1 is)
 
 -- "with precisely the type's cells"; "an `ent` line whose type the text lacks or gives other than 0 to 8 cells" is 1
-unfoldable pub objectFits : List Entry → List ℕ → Bool
-objectFits before is =
+unfoldable pub isObjectLine : List Entry → List ℕ → Bool
+isObjectLine before is =
     leb 2 (length is) && (every isWord is && (ltb (getD is 1 0) (countOf typeName before)
     && (leb (cellsIn before (getD is 1 0)) cellCount && eqb (length is) (2 + cellsIn before (getD is 1 0)))))
 
 unfoldable pub objectIn : List Entry → List ℕ → Option Entry
-objectIn before is = rowIf (objectFits before is) objectName (padded (2 + cellCount) is)
+objectIn before is = rowIf (isObjectLine before is) objectName (padded (2 + cellCount) is)
 
-unfoldable pub linkFits : List ℕ → Bool
-linkFits is = eqb (length is) 3 && every isWord is
+unfoldable pub isLinkLine : List ℕ → Bool
+isLinkLine is = eqb (length is) 3 && every isWord is
 
 unfoldable pub linkIn : List ℕ → Option Entry
-linkIn is = rowIf (linkFits is) linkName is
+linkIn is = rowIf (isLinkLine is) linkName is
 
-unfoldable pub eventFits : ℕ → List ℕ → Bool
-eventFits kind is = ltb kind 7 && (eqb (length is) (eventFields kind) && every isWord is)
+unfoldable pub isEventLine : ℕ → List ℕ → Bool
+isEventLine kind is = ltb kind 7 && (eqb (length is) (eventFields kind) && every isWord is)
 
 unfoldable pub eventIn : ℕ → List ℕ → Option Entry
-eventIn kind is = rowIf (eventFits kind is) eventSection (kind ∷ padded 3 is)
+eventIn kind is = rowIf (isEventLine kind is) eventSection (kind ∷ padded 3 is)
 
 unfoldable pub rowIn : List Entry → ℕ → List ℕ → Option Entry
 rowIn before name is =

@@ -5,7 +5,7 @@ use mathlib.Core.List.{List, [], _∷_}
 use mathlib.Core.Option.{Option, none, some}
 use lib.Dec.{leb}
 use lib.ListN.{getD}
-use Rattle.meaning.specs.Lists.{same}
+use Rattle.meaning.specs.Lists.{sameList}
 use Rattle.lexical.specs.Runs.{run}
 
 -- each name as its bytes
@@ -87,7 +87,7 @@ lettersIn l = run isLetter l
 -- which of the names it is, from k on
 abbrev pub placeFrom : List ℕ → ℕ → List (List ℕ) → Option ℕ
 placeFrom name k [] = none
-placeFrom name k (n ∷ ns) = cond (same name n) (some k) (placeFrom name (suc k) ns)
+placeFrom name k (n ∷ ns) = cond (sameList name n) (some k) (placeFrom name (suc k) ns)
 
 unfoldable pub placeOf : List ℕ → Option ℕ
 placeOf name = placeFrom name 0 names

@@ -35,8 +35,8 @@ unfoldable pub tooLong : Entry → Bool
 tooLong (row s words) = false
 tooLong (rule t body) = ltb maxForms (formsIn body)
 
-unfoldable pub overfull : List ℕ → List Entry → Entry → Bool
-overfull lent before e =
+unfoldable pub noRoom : List ℕ → List Entry → Entry → Bool
+noRoom lent before e =
     ltb (min (limitOf (sectionOf e)) (getD lent (sectionOf e) 0)) (suc (countOf (sectionOf e) before)) || tooLong e
 
 -- the lines that a text says, or a refusal's number and line
@@ -47,7 +47,7 @@ pub data Reading : Type 0 where
 -- the line of number n: "1 before 2 in a line"
 unfoldable pub entryThen : List ℕ → ℕ → List Entry → (Entry → Reading) → Option Entry → Reading
 entryThen lent n before more none = refused 1 n
-entryThen lent n before more (some e) = cond (overfull lent before e) (refused 2 n) (more e)
+entryThen lent n before more (some e) = cond (noRoom lent before e) (refused 2 n) (more e)
 
 -- "each line ended by byte 10"
 unfoldable pub lineThen : List ℕ → ℕ → List Entry → (Entry → Reading) → List ℕ → Reading

@@ -34,7 +34,7 @@ use Rattle.text.specs.Texts.{spelled}
 use Rattle.text.specs.Sheets.{entriesOf, sheetRefusal, textRefusal, writerRefusal, bytesAfter}
 use Rattle.writer.specs.Lines.{cellsFor, textOf}
 use Rattle.writer.specs.Sound.{Sound}
-use Rattle.writer.specs.Answers.{writtenOf, Answered, eventFault}
+use Rattle.writer.specs.Answers.{writeAnswer, Answered, eventFault}
 use Rattle.writer.specs.declared.Written.{Written}
 use Rattle.writer.specs.declared.Written.the-variants.{Refused}
 use Rattle.writer.proofs.Events.{kind-known}
@@ -187,6 +187,6 @@ module _ (n : Counts) (used : ℕ) (types relationships rules bodies objects lin
       let whole = clear-none (sheetRefusal t used events) e in
       let same = text-spelled n used types relationships rules bodies objects links events (sound whole) in
       record {
-        answer-is = a .answer-is ∙ ap (λ s. writtenOf (textRefusal s (length out)) (length s)) same ∙ ap (λ o. writtenOf (firstOf o (textRefusal text (length out))) (length text)) (sym whole);
+        answer-is = a .answer-is ∙ ap (λ s. writeAnswer (textRefusal s (length out)) (length s)) same ∙ ap (λ o. writeAnswer (firstOf o (textRefusal text (length out))) (length text)) (sym whole);
         bytes = a .bytes ∙ ap (λ s. bytesAfter (textRefusal s (length out)) s out) same ∙ ap (λ o. bytesAfter (firstOf o (textRefusal text (length out))) text out) (sym whole);
       }

@@ -9,8 +9,8 @@ use native.Mathlib.Decide.{ℕ-discrete}
 use borrow.Author.Tests.{leb-true}
 use lib.Dec.{T, leb}
 use lib.ListN.{getD, take, drop}
-use Rattle.meaning.specs.Lists.{same}
-use Rattle.meaning.proofs.Order.{same-eq}
+use Rattle.meaning.specs.Lists.{sameList}
+use Rattle.meaning.proofs.Order.{same-list-eq}
 use Rattle.lexical.proofs.Runs.{both}
 use Rattle.text.specs.Names.{names, nameCount, nameOf}
 
@@ -65,7 +65,7 @@ abbrev lettersAt : ℕ → List ℕ
 lettersAt k = take (start (k + 1) - start k) (drop (start k) letters)
 
 right : ℕ → Bool
-right k = leb (start k) (start (k + 1)) && (leb (start (k + 1)) 134 && same (lettersAt k) (nameOf k))
+right k = leb (start k) (start (k + 1)) && (leb (start (k + 1)) 134 && sameList (lettersAt k) (nameOf k))
 
 allRight : ℕ → Bool
 allRight zero = true
@@ -93,5 +93,5 @@ pub named : (k : ℕ) → k < nameCount → Named k
 unfolding right
 named k h =
     let a = both (leb (start k) (start (k + 1))) _ (below nameCount k tested h) in
-    let b = both (leb (start (k + 1)) 134) (same (lettersAt k) (nameOf k)) (a .1) in
-    record { ascends = leb-true (start k) (start (k + 1)) (a .0); within = leb-true (start (k + 1)) 134 (b .0); is = same-eq (lettersAt k) (nameOf k) (subst T (sym (b .1)) tt) }
+    let b = both (leb (start (k + 1)) 134) (sameList (lettersAt k) (nameOf k)) (a .1) in
+    record { ascends = leb-true (start k) (start (k + 1)) (a .0); within = leb-true (start (k + 1)) 134 (b .0); is = same-list-eq (lettersAt k) (nameOf k) (subst T (sym (b .1)) tt) }

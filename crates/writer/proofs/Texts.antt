@@ -13,7 +13,7 @@ use Rattle.rows.specs.Rows.{wordAt, rowsFrom, readRows}
 use Rattle.tables.specs.Refusals.{lentTables}
 use Rattle.tables.specs.declared.Counts.{Counts}
 use Rattle.text.specs.Names.{typeName, relationshipName, ruleName, objectName, linkName}
-use Rattle.text.specs.Entries.{Entry, row, eventSection, sectionOf, wordsOf, isOf, countOf, tableOf, cellsIn, parentItem, eventFields, itemsOf, nameFor, bracketOf, spellEntry}
+use Rattle.text.specs.Entries.{Entry, row, eventSection, sectionOf, entryWords, isOf, countOf, tableOf, cellsIn, parentItem, eventFields, itemsOf, nameFor, bracketOf, spellEntry}
 use Rattle.text.specs.Texts.{spellFrom, spelled}
 use Rattle.text.specs.Sheets.{wordsAt, ruleEntry, entriesOf}
 use Rattle.writer.specs.Lines.{rowLine, typeLine, relationshipLine, ruleLine, cellsFor, objectLine, linkLine, eventLine, lineOf, rowsIn, linesOf, sectionText, textOf}
@@ -77,10 +77,10 @@ module _ (s : ℕ) where
   table-both : (es fs : List Entry) → tableOf s (es ++ fs) ≡ tableOf s es ++ tableOf s fs
   unfolding tableOf
   table-both [] fs = refl
-  table-both (e ∷ es) fs = ap (λ l. cond (isOf s e) (wordsOf e ++ l) l) (table-both es fs) ∙ go (isOf s e)
+  table-both (e ∷ es) fs = ap (λ l. cond (isOf s e) (entryWords e ++ l) l) (table-both es fs) ∙ go (isOf s e)
     where
-      go : (b : Bool) → cond b (wordsOf e ++ (tableOf s es ++ tableOf s fs)) (tableOf s es ++ tableOf s fs) ≡ cond b (wordsOf e ++ tableOf s es) (tableOf s es) ++ tableOf s fs
-      go true = sym (append-assoc (wordsOf e) (tableOf s es) (tableOf s fs))
+      go : (b : Bool) → cond b (entryWords e ++ (tableOf s es ++ tableOf s fs)) (tableOf s es ++ tableOf s fs) ≡ cond b (entryWords e ++ tableOf s es) (tableOf s es) ++ tableOf s fs
+      go true = sym (append-assoc (entryWords e) (tableOf s es) (tableOf s fs))
       go false = refl
 
 -- ---- the words of a row that is lent
@@ -97,7 +97,7 @@ words-lent t width i h = words-from t (i * width) 0 width (omega arith) ∙ ap (
 
 -- the cells of a type, by the lines of the types
 cells-from : (types : List ℕ) (j n t : ℕ) → t < n → getD (tableOf typeName (rowsFrom (λ i. row typeName (wordsAt types 2 i)) j n)) (t * 2 + 1) 0 ≡ wordAt types 2 (j + t) 1
-unfolding tableOf sectionOf wordsOf
+unfolding tableOf sectionOf entryWords
 cells-from types j zero t h = absurd (omega arith)
 cells-from types j (suc n) zero h = ap (λ k. wordAt types 2 k 1) (sym (add-zero j))
 cells-from types j (suc n) (suc t) h =

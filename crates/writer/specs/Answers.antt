@@ -13,9 +13,9 @@ use Rattle.text.specs.Sheets.{bytesAfter}
 use Rattle.writer.specs.declared.Written.{Written}
 use Rattle.writer.specs.declared.Written.the-variants.{Done, Refused}
 
-abbrev pub writtenOf : Option Refusal → ℕ → Written
-writtenOf none size = Done size
-writtenOf (some r) size = Refused (r .number) (r .place)
+abbrev pub writeAnswer : Option Refusal → ℕ → Written
+writeAnswer none size = Done size
+writeAnswer (some r) size = Refused (r .number) (r .place)
 
 -- 7: the first event of a batch that is not known
 unfoldable pub eventFault : ℕ → List ℕ → Schema → Option ℕ
@@ -23,5 +23,5 @@ eventFault used events S = firstFault (λ n previous e. not (knownEvent S e)) (e
 
 -- the answer, and the lent bytes afterwards
 pub record Answered (answer : Written) (after : List ℕ) (refused : Option Refusal) (text before : List ℕ) : Type 0 where
-  pub answer-is : answer ≡ writtenOf refused (length text)
+  pub answer-is : answer ≡ writeAnswer refused (length text)
   pub bytes : after ≡ bytesAfter refused text before

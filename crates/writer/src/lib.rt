@@ -20,7 +20,7 @@ ghost use Rattle.text.specs.Sheets.{entriesOf, sheetRefusal, textRefusal, write
 ghost use Rattle.writer.specs.Put.{Put};
 ghost use Rattle.writer.specs.Lines.{lineOf, rowsIn, linesOf, textOf};
 ghost use Rattle.writer.specs.Sound.{Sound, Fit};
-ghost use Rattle.writer.specs.Answers.{writtenOf, Answered, eventFault};
+ghost use Rattle.writer.specs.Answers.{writeAnswer, Answered, eventFault};
 
 // How many bytes were written, or a refusal's number and place.
 pub enum Written {
@@ -297,7 +297,7 @@ pub fn write(
     events: &[u32],
     out: &mut [u8],
 ) -> Written
-    ensures { λ r. ⌜ (r ≡ writtenOf (writerRefusal (lentTables n (now (types .entry)) (now (relationships .entry)) (now (rules .entry)) (now (bodies .entry)) (now (objects .entry)) (now (links .entry))) «events_used» (now (events .entry)) (length (now (out .entry)))) (length (spelled (entriesOf (lentTables n (now (types .entry)) (now (relationships .entry)) (now (rules .entry)) (now (bodies .entry)) (now (objects .entry)) (now (links .entry))) «events_used» (now (events .entry)))))) × (now (out .exit) ≡ bytesAfter (writerRefusal (lentTables n (now (types .entry)) (now (relationships .entry)) (now (rules .entry)) (now (bodies .entry)) (now (objects .entry)) (now (links .entry))) «events_used» (now (events .entry)) (length (now (out .entry)))) (spelled (entriesOf (lentTables n (now (types .entry)) (now (relationships .entry)) (now (rules .entry)) (now (bodies .entry)) (now (objects .entry)) (now (links .entry))) «events_used» (now (events .entry)))) (now (out .entry))) ⌝ }
+    ensures { λ r. ⌜ (r ≡ writeAnswer (writerRefusal (lentTables n (now (types .entry)) (now (relationships .entry)) (now (rules .entry)) (now (bodies .entry)) (now (objects .entry)) (now (links .entry))) «events_used» (now (events .entry)) (length (now (out .entry)))) (length (spelled (entriesOf (lentTables n (now (types .entry)) (now (relationships .entry)) (now (rules .entry)) (now (bodies .entry)) (now (objects .entry)) (now (links .entry))) «events_used» (now (events .entry)))))) × (now (out .exit) ≡ bytesAfter (writerRefusal (lentTables n (now (types .entry)) (now (relationships .entry)) (now (rules .entry)) (now (bodies .entry)) (now (objects .entry)) (now (links .entry))) «events_used» (now (events .entry)) (length (now (out .entry)))) (spelled (entriesOf (lentTables n (now (types .entry)) (now (relationships .entry)) (now (rules .entry)) (now (bodies .entry)) (now (objects .entry)) (now (links .entry))) «events_used» (now (events .entry)))) (now (out .entry))) ⌝ }
 {
     let verdict = refused(
         n,
