@@ -4,6 +4,7 @@ use mathlib.Core.Path.{_≡_, sym, ap, subst, _∙_}
 use mathlib.Core.Logic.{_⊎_, ⊎-elim}
 use mathlib.Core.Bool.{Bool, not, cond}
 use mathlib.Core.List.{List, map}
+use mathlib.Core.Option.{none}
 use native.Mathlib.Nat.{le-refl, zero-add, eq-or-lt-of-le}
 use native.Mathlib.Numerals.{add-one}
 use native.Mathlib.Omega.{arith}
@@ -12,11 +13,13 @@ use lib.ListN.{length, getD}
 use mir.Facts.{not-T, T-not, ltb-yes, ltb-no, eqb-yes, eqb-no}
 use Rattle.meaning.specs.Lists.{before, keep, place}
 use Rattle.meaning.proofs.Lists.{Ascending, decide, cond-yes, cond-no}
-use Rattle.meaning.proofs.Order.{Before, before-irreflexive, before-total}
+use Rattle.meaning.proofs.Order.{Before, before-irreflexive, before-total, fault-none}
 use Rattle.rows.specs.Rows.{wordAt, readRows, withoutRow}
 use Rattle.rows.specs.Keys.{LowerBound}
 use Rattle.rows.proofs.Moves.{inserted, inserted-before, inserted-row, inserted-after, without-before, without-after}
 use Rattle.rows.proofs.Listed.{rows-map, rows-placed, rows-without}
+use Rattle.schema.proofs.Rows.{row-there}
+use Rattle.register.proofs.Hits.{alone, firstHit}
 use Rattle.register.proofs.Places.{ordered}
 
 -- a row is read by its words alone
@@ -109,3 +112,7 @@ module _ {A : Type 0} (width : ℕ) (read : List ℕ → ℕ → A) (by-words : 
               (λ (q : T (not (eqb i r))).
               by-words u t i i (λ c b. same i c (eqb-no q) b) ∙ sym (cond-no (hit (read t i)) (change (read t i)) (read t i) (others i l (eqb-no q))))
               (decide (eqb i r))
+
+-- what no row passes
+pub missed-all : {A : Type 0} (hit : A → Bool) (read : ℕ → A) (n : ℕ) → firstHit hit read n ≡ none → (i : ℕ) → i < n → T (not (hit (read i)))
+missed-all hit read n e i h = fault-none (alone hit) (readRows read n) e i (read i) (row-there read n i h) .1

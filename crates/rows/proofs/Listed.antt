@@ -3,10 +3,11 @@ use Prim.Native.Nat.{ℕ, zero, suc, _+_, _≤_, _<_, zero-le}
 use mathlib.Core.Path.{_≡_, refl, sym, ap, ap₂, subst, _∙_}
 use mathlib.Core.Logic.{⊎-elim}
 use mathlib.Core.Bool.{Bool, not, cond}
-use mathlib.Core.List.{List, [], _∷_, map}
+use mathlib.Core.List.{List, [], _∷_, _++_, map}
 use native.Mathlib.Nat.{le-refl, eq-or-lt-of-le}
 use native.Mathlib.Omega.{arith}
 use lib.Dec.{T}
+use lib.ListN.{take, replicate, set}
 use mir.Facts.{not-T}
 use Rattle.meaning.specs.Lists.{before, keep, place}
 use Rattle.meaning.proofs.Lists.{cond-yes, cond-no, not-not}
@@ -98,3 +99,29 @@ module _ {A : Type 0} (read read' : ℕ → A) (r count : ℕ) (lower : (i : ℕ
 
       pub rows-without : (left : ℕ) → suc left ≡ count → r < count → keep (λ x. not (hit x)) (readRows read count) ≡ readRows read' left
       rows-without left e h = subst (λ n. keep (λ x. not (hit x)) (readRows read n) ≡ readRows read' left) e (keep-from 0 left zero-le (omega arith) h)
+
+-- ---- values of one row's columns, changed
+
+module _ {A : Type 0} (read read' : ℕ → A) where
+  -- one of them
+  pub rows-set : (x : A) (k j n : ℕ) → k < n → read' (j + k) ≡ x → ((i : ℕ) → j ≤ i → (i ≡ j + k → ⊥) → read' i ≡ read i) → rowsFrom read' j n ≡ set (rowsFrom read j n) k x
+  rows-set x k j zero h own same = absurd (omega arith)
+  rows-set x zero j (suc n) h own same =
+      ap₂ _∷_ (ap read' (omega arith) ∙ own) (rows-same read read' (suc j) n (λ i l b. same i (omega arith) (λ e. omega arith)))
+  rows-set x (suc k) j (suc n) h own same =
+      ap₂ _∷_ (same j (le-refl j) (λ e. omega arith))
+      (rows-set x k (suc j) n (omega arith) (ap read' (omega arith) ∙ own) (λ i l d. same i (omega arith) (λ e. d (omega arith))))
+
+  -- those from one on
+  pub rows-cleared : (z : A) (m d j n : ℕ) → n ≡ m + d → ((i : ℕ) → j ≤ i → i < j + m → read' i ≡ read i) → ((i : ℕ) → j + m ≤ i → i < j + n → read' i ≡ z)
+      → rowsFrom read' j n ≡ take m (rowsFrom read j n) ++ replicate d z
+  rows-cleared z zero zero j zero e low high = refl
+  rows-cleared z zero (suc d) j zero e low high = absurd (omega arith)
+  rows-cleared z zero zero j (suc n) e low high = absurd (omega arith)
+  rows-cleared z zero (suc d) j (suc n) e low high =
+      ap₂ _∷_ (high j (omega arith) (omega arith))
+      (rows-cleared z zero d (suc j) n (omega arith) (λ i l b. absurd (omega arith)) (λ i l b. high i (omega arith) (omega arith)))
+  rows-cleared z (suc m) d j zero e low high = absurd (omega arith)
+  rows-cleared z (suc m) d j (suc n) e low high =
+      ap₂ _∷_ (low j (le-refl j) (omega arith))
+      (rows-cleared z m d (suc j) n (omega arith) (λ i l b. low i (omega arith) (omega arith)) (λ i l b. high i (omega arith) (omega arith)))
