@@ -46,7 +46,7 @@ returns c =
     let searched = matched .before .before in
     let start = searched .before .before .before .before in
     let x = start .args in
-    let row = matched .row .given .0 in
+    let row = matched .row .given .0 .0 in
     λ rs.
     let S : Schema = record { types = typesOf (x .type-count) (now (x .types)); relationships = rs } in
     subst (λ u. ObjectsApplied S (general (x .id) (x .t)) (x .count) (now (x .objects)) (x .count) u)
