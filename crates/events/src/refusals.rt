@@ -1,0 +1,227 @@
+// Refusals 7 to 13: the first that an event meets, in the table's order, on the register that it meets.
+use register::columns;
+use tables::Found;
+ghost use mathlib.Core.Path.{_≡_};
+ghost use mathlib.Core.Bool.{_&&_, _||_, not};
+ghost use mathlib.Core.List.{List};
+ghost use Prim.Native.Nat.{ℕ, min};
+ghost use lib.Dec.{leb, eqb};
+ghost use Rattle.meaning.specs.Limits.{validId};
+ghost use Rattle.meaning.specs.Schema.{under};
+ghost use Rattle.meaning.specs.Register.{Object, Link, present, isUnder, hasLink};
+ghost use Rattle.meaning.specs.Events.{linked, needsType, typeNeeded, strictlyAbove, strictlyUnder, hasCell, linkOf};
+ghost use Rattle.tables.specs.Columns.{typesOf, schemaOf, linkRow};
+ghost use Rattle.register.specs.Tables.{objectsWith, linksWith, ObjectsAscend, LinksAscend};
+
+// Whether an id is one of 1 to 65,535.
+fn valid_id(id: u32) -> bool
+    ensures { λ r. ⌜ r ≡ validId id ⌝ }
+{
+    if id == 0 {
+        return false;
+    }
+    id <= meaning::MAX_ID
+}
+
+// Whether no row is left below the limit and the lent rows.
+fn full(limit: u32, lent: usize, used: u32) -> bool
+    ensures { λ r. ⌜ r ≡ leb (min limit lent) used ⌝ }
+{
+    if limit <= used {
+        return true;
+    }
+    lent <= (used as usize)
+}
+
+// Whether the object of an id is there.
+fn is_present(count: u32, objects: &[u32], id: u32) -> bool
+    requires { ⌜ ObjectsAscend count (now objects) ⌝ }
+    ensures { λ r. ⌜ ((ls : List Link) → r ≡ present (objectsWith count (now (objects .entry)) ls) id) ⌝ }
+{
+    match register::object_row(count, objects, id) {
+        Found::At(_) => true,
+        Found::Nothing => false,
+    }
+}
+
+// Whether the object of an id is there and its type is under t.
+fn is_under(type_count: u32, types: &[u32], count: u32, objects: &[u32], id: u32, t: u32) -> bool
+    requires { ⌜ ObjectsAscend count (now objects) ⌝ }
+    ensures { λ r. ⌜ ((ls : List Link) →
+        r ≡ isUnder (typesOf «type_count» (now (types .entry))) (objectsWith count (now (objects .entry)) ls) id t) ⌝ }
+{
+    match register::object_row(count, objects, id) {
+        Found::At(row) => schema::under(type_count, types, columns::type_of(objects, row), t),
+        Found::Nothing => false,
+    }
+}
+
+// Whether the type of the object of an id has a cell.
+fn has_cell(type_count: u32, types: &[u32], count: u32, objects: &[u32], id: u32, cell: u32) -> bool
+    requires { ⌜ ObjectsAscend count (now objects) ⌝ }
+    ensures { λ r. ⌜ ((ls : List Link) →
+        r ≡ hasCell (typesOf «type_count» (now (types .entry))) (objectsWith count (now (objects .entry)) ls) id cell) ⌝ }
+{
+    match register::object_row(count, objects, id) {
+        Found::At(row) => cell < schema::cells_of(type_count, types, columns::type_of(objects, row)),
+        Found::Nothing => false,
+    }
+}
+
+// Whether the type of the object of an id is strictly above t.
+fn strictly_above(
+    type_count: u32,
+    types: &[u32],
+    count: u32,
+    objects: &[u32],
+    id: u32,
+    t: u32,
+) -> bool
+    requires { ⌜ ObjectsAscend count (now objects) ⌝ }
+    ensures { λ r. ⌜ ((ls : List Link) →
+        r ≡ strictlyAbove (typesOf «type_count» (now (types .entry))) (objectsWith count (now (objects .entry)) ls) id t) ⌝ }
+{
+    match register::object_row(count, objects, id) {
+        Found::At(row) => {
+            let own = columns::type_of(objects, row);
+            if schema::under(type_count, types, t, own) {
+                t != own
+            } else {
+                false
+            }
+        }
+        Found::Nothing => false,
+    }
+}
+
+// Whether the type of the object of an id is strictly under t.
+fn strictly_under(
+    type_count: u32,
+    types: &[u32],
+    count: u32,
+    objects: &[u32],
+    id: u32,
+    t: u32,
+) -> bool
+    requires { ⌜ ObjectsAscend count (now objects) ⌝ }
+    ensures { λ r. ⌜ ((ls : List Link) →
+        r ≡ strictlyUnder (typesOf «type_count» (now (types .entry))) (objectsWith count (now (objects .entry)) ls) id t) ⌝ }
+{
+    match register::object_row(count, objects, id) {
+        Found::At(row) => {
+            let own = columns::type_of(objects, row);
+            if schema::under(type_count, types, own, t) {
+                t != own
+            } else {
+                false
+            }
+        }
+        Found::Nothing => false,
+    }
+}
+
+// Whether a link is there.
+fn has_link(count: u32, links: &[u32], relationship: u32, source: u32, target: u32) -> bool
+    requires { ⌜ LinksAscend count (now links) ⌝ }
+    ensures { λ r. ⌜ ((os : List Object) →
+        r ≡ hasLink (linksWith os count (now (links .entry))) (linkOf relationship source target)) ⌝ }
+{
+    match register::link_row(count, links, relationship, source, target) {
+        Found::At(_) => true,
+        Found::Nothing => false,
+    }
+}
+
+// Whether a link's row has the object at an end.
+fn names(links: &[u32], row: u32, id: u32) -> bool
+    ensures { λ r. ⌜ r ≡ eqb ((linkRow (now (links .entry)) row) .source) id || eqb ((linkRow (now (links .entry)) row) .target) id ⌝ }
+{
+    if columns::source_of(links, row) == id {
+        return true;
+    }
+    columns::target_of(links, row) == id
+}
+
+// 12 of a delete: whether some link has the object at an end.
+fn is_linked(count: u32, links: &[u32], id: u32) -> bool
+    ensures { λ r. ⌜ ((os : List Object) → r ≡ linked (linksWith os count (now (links .entry))) id) ⌝ }
+{
+    let mut row: u32 = 0;
+    while row < count {
+        if names(links, row, id) {
+            return true;
+        }
+        row += 1;
+    }
+    false
+}
+
+// Whether a link's end is the object, and t is not under the type of that end.
+fn end_needs(type_count: u32, types: &[u32], end: u32, end_type: u32, id: u32, t: u32) -> bool
+    ensures { λ r. ⌜ r ≡ eqb end id && not (under (typesOf «type_count» (now (types .entry))) t «end_type») ⌝ }
+{
+    if end == id {
+        !schema::under(type_count, types, t, end_type)
+    } else {
+        false
+    }
+}
+
+// Whether a link's row needs its object out of type t, at one of its ends or the other.
+fn needs_type(
+    type_count: u32,
+    types: &[u32],
+    relationship_count: u32,
+    relationships: &[u32],
+    links: &[u32],
+    row: u32,
+    id: u32,
+    t: u32,
+) -> bool
+    ensures { λ r. ⌜ r ≡ needsType (schemaOf «type_count» (now (types .entry)) «relationship_count» (now (relationships .entry)))
+        id t (linkRow (now (links .entry)) row) ⌝ }
+{
+    let relationship = columns::relationship_of(links, row);
+    let source = columns::source_of(links, row);
+    let source_type = schema::source_type(relationship_count, relationships, relationship);
+    if end_needs(type_count, types, source, source_type, id, t) {
+        return true;
+    }
+    let target = columns::target_of(links, row);
+    let target_type = schema::target_type(relationship_count, relationships, relationship);
+    end_needs(type_count, types, target, target_type, id, t)
+}
+
+// 12 of a general: whether some link needs the object out of type t.
+fn type_needed(
+    type_count: u32,
+    types: &[u32],
+    relationship_count: u32,
+    relationships: &[u32],
+    count: u32,
+    links: &[u32],
+    id: u32,
+    t: u32,
+) -> bool
+    ensures { λ r. ⌜ ((os : List Object) → r ≡ typeNeeded
+        (schemaOf «type_count» (now (types .entry)) «relationship_count» (now (relationships .entry)))
+        (linksWith os count (now (links .entry))) id t) ⌝ }
+{
+    let mut row: u32 = 0;
+    while row < count {
+        if needs_type(
+            type_count,
+            types,
+            relationship_count,
+            relationships,
+            links,
+            row,
+            id,
+            t,
+        ) {
+            return true;
+        }
+        row += 1;
+    }
+    false
+}
