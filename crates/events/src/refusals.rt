@@ -10,7 +10,7 @@ ghost use Rattle.meaning.specs.Limits.{cellCount, validId, fitsWord};
 ghost use Rattle.meaning.specs.Schema.{ObjectType, Relationship, Schema, knownType, knownRelationship, under, sourceType, targetType};
 ghost use Rattle.meaning.specs.Register.{Object, Link, present, isUnder, hasLink};
 ghost use Rattle.meaning.specs.Events.{Lent, eventRefusal, insert, delete, set, join, part, special, general, linked, needsType, typeNeeded, strictlyAbove, strictlyUnder, hasCell, linkOf};
-ghost use Rattle.tables.specs.Columns.{typesOf, relationshipsOf, schemaOf, registerOf, linkRow};
+ghost use Rattle.tables.specs.Columns.{typesOf, relationshipsOf, schemaOf, registerOf, linkRow, eventOf, eventRow};
 ghost use Rattle.rows.specs.Rows.{signed};
 ghost use Rattle.tables.specs.Refusals.{foundOf};
 ghost use Rattle.register.specs.Tables.{objectsWith, linksWith, ObjectsAscend, LinksAscend};
@@ -521,4 +521,135 @@ fn of_general(
         return Found::At(12);
     }
     Found::Nothing
+}
+
+// The first refusal that an event of three fields meets. A field that its kind does not use is 0, else 7 is met, as for an unknown kind.
+fn of_event(
+    type_count: u32,
+    types: &[u32],
+    relationship_count: u32,
+    relationships: &[u32],
+    objects_lent: usize,
+    links_lent: usize,
+    object_count: u32,
+    objects: &[u32],
+    link_count: u32,
+    links: &[u32],
+    kind: u32,
+    x: u32,
+    y: u32,
+    z: u32,
+) -> Found
+    requires { ⌜ (ObjectsAscend «object_count» (now objects)) × (LinksAscend «link_count» (now links)) ⌝ }
+    ensures { λ r. ⌜ ((w : ℕ) → r ≡ foundOf (eventRefusal
+        (schemaOf «type_count» (now (types .entry)) «relationship_count» (now (relationships .entry)))
+        (record { objects = «objects_lent»; links = «links_lent»; words = w })
+        (registerOf «object_count» (now (objects .entry)) «link_count» (now (links .entry)))
+        (eventOf kind x y z))) ⌝ }
+{
+    if kind == 2 {
+        return of_set(type_count, types, object_count, objects, x, y);
+    }
+    if kind == 3 {
+        return of_join(
+            type_count,
+            types,
+            relationship_count,
+            relationships,
+            links_lent,
+            object_count,
+            objects,
+            link_count,
+            links,
+            x,
+            y,
+            z,
+        );
+    }
+    if kind == 4 {
+        return of_part(
+            relationship_count,
+            object_count,
+            objects,
+            link_count,
+            links,
+            x,
+            y,
+            z,
+        );
+    }
+    if z != 0 {
+        return Found::At(7);
+    }
+    if kind == 0 {
+        return of_insert(type_count, objects_lent, object_count, objects, x, y);
+    }
+    if kind == 5 {
+        return of_special(type_count, types, object_count, objects, x, y);
+    }
+    if kind == 6 {
+        return of_general(
+            type_count,
+            types,
+            relationship_count,
+            relationships,
+            object_count,
+            objects,
+            link_count,
+            links,
+            x,
+            y,
+        );
+    }
+    if kind != 1 {
+        return Found::At(7);
+    }
+    if y != 0 {
+        return Found::At(7);
+    }
+    of_delete(object_count, objects, link_count, links, x)
+}
+
+// The first refusal that the event in a row of the table of events meets, on the register that it meets.
+pub fn refusal(
+    type_count: u32,
+    types: &[u32],
+    relationship_count: u32,
+    relationships: &[u32],
+    objects_lent: usize,
+    links_lent: usize,
+    object_count: u32,
+    objects: &[u32],
+    link_count: u32,
+    links: &[u32],
+    events: &[u32],
+    row: u32,
+) -> Found
+    requires { ⌜ (ObjectsAscend «object_count» (now objects)) × (LinksAscend «link_count» (now links)) ⌝ }
+    ensures { λ r. ⌜ ((w : ℕ) → r ≡ foundOf (eventRefusal
+        (schemaOf «type_count» (now (types .entry)) «relationship_count» (now (relationships .entry)))
+        (record { objects = «objects_lent»; links = «links_lent»; words = w })
+        (registerOf «object_count» (now (objects .entry)) «link_count» (now (links .entry)))
+        (eventRow (now (events .entry)) row))) ⌝ }
+{
+    let kind = rows::word(events, 4, row, 0);
+    let x = rows::word(events, 4, row, 1);
+    let y = rows::word(events, 4, row, 2);
+    let z = rows::word(events, 4, row, 3);
+    of_event(
+        type_count,
+        types,
+        relationship_count,
+        relationships,
+        objects_lent,
+        links_lent,
+        object_count,
+        objects,
+        link_count,
+        links,
+        kind,
+        x,
+        y,
+        z,
+    )
 }
