@@ -2,6 +2,7 @@
 --   Hits       the first row that passes a test
 --   Places     rows that ascend, and what stands at a key's place
 --   Searches   what a search for an object or a link finds, and what it means for the register
+--   Changes    the rows after one is put in, taken out or changed
 --   Rows       the row of an id, and the id of a row
 --   Cells      the cells of an object's row
 --   Far        the far ends of a role, by the rows of the links
@@ -13,6 +14,7 @@
 pub mod Hits
 pub mod Places
 pub mod Searches
+pub mod Changes
 pub mod Rows
 pub mod Cells
 pub mod Far

@@ -6,6 +6,8 @@
 --   Zeros     words that are 0
 --   Words     a word and its signed value
 --   Keys      rows by their keys
+--   Moves     the rows after a row is put in, taken out or changed
+--   Listed    the list of rows after that
 pub mod Offsets
 pub mod Meet
 pub mod Shift
@@ -13,3 +15,5 @@ pub mod Parts
 pub mod Zeros
 pub mod Words
 pub mod Keys
+pub mod Moves
+pub mod Listed

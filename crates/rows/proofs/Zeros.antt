@@ -5,7 +5,9 @@ use mathlib.Core.List.{List, [], _∷_}
 use Prim.Native.Nat.{ℕ, zero, suc, _+_, _-_, _*_, _≤_, _<_}
 use native.Mathlib.Numerals.{add-one}
 use native.Mathlib.Nat.{add-sub-of-le}
+use native.Mathlib.Omega.{arith}
 use lib.Dec.{T, eqb, eqb→eq}
+use mir.Facts.{yes-and, yes-eqb}
 use lib.ListN.{length, getD, drop}
 use lib.Seq.{drop-cons, getD-drop}
 use Rattle.rows.specs.Rows.{allZero, zeroPast}
@@ -29,3 +31,11 @@ pub zero-past : (t : List ℕ) (width used k : ℕ) → T (zeroPast t width used
 zero-past t width used k h l =
     ap (λ (n : ℕ). getD t n 0) (sym (add-sub-of-le l)) ∙ sym (getD-drop (used * width) t (k - used * width) 0)
     ∙ zero-at (drop (used * width) t) (k - used * width) h
+
+-- and words that are all 0 make the list zeros
+zeros-all : (l : List ℕ) → ((k : ℕ) → getD l k 0 ≡ 0) → T (allZero l)
+zeros-all [] h = tt
+zeros-all (w ∷ ws) h = yes-and (eqb w 0) (allZero ws) (yes-eqb (h 0)) (zeros-all ws (λ k. h (suc k)))
+
+pub past-zero : (t : List ℕ) (width used : ℕ) → ((k : ℕ) → used * width ≤ k → getD t k 0 ≡ 0) → T (zeroPast t width used)
+past-zero t width used h = zeros-all (drop (used * width) t) (λ k. getD-drop (used * width) t k 0 ∙ h (used * width + k) (omega arith))

@@ -3,7 +3,7 @@ use Prim.Native.Nat.{ℕ, zero, suc, _+_, _-_, _*_, _/_, _%_, _^_}
 use mathlib.Core.Bool.{Bool, true, _&&_, cond}
 use mathlib.Core.List.{List, [], _∷_, _++_}
 use lib.Dec.{ltb, leb, eqb}
-use lib.ListN.{length, getD, take, drop, replicate}
+use lib.ListN.{length, getD, take, drop, replicate, set}
 use lib.IntN.{ℤ, pos, negsuc}
 
 -- the word in a column of a row; 0 past the end
@@ -51,6 +51,17 @@ unfoldable pub withRow : List ℕ → ℕ → ℕ → List ℕ → List ℕ
 withRow t width row words =
     let a = row * width in
     cond (eqb (length words) width && leb (a + width) (length t)) (take a t ++ words ++ drop (a + width) t) t
+
+-- t with one word of a row changed
+unfoldable pub withWord : List ℕ → ℕ → ℕ → ℕ → ℕ → List ℕ
+withWord t width row column word = set t (row * width + column) word
+
+-- t with zeros in a row from a column on
+unfoldable pub withoutColumns : List ℕ → ℕ → ℕ → ℕ → List ℕ
+withoutColumns t width row column =
+    let a = row * width + column in
+    let e = row * width + width in
+    cond (leb column width && leb e (length t)) (take a t ++ replicate (width - column) 0 ++ drop e t) t
 
 -- all words `by` places on, after zeros, as many as there were; and as many places back, before zeros
 unfoldable pub shiftedUp : List ℕ → ℕ → List ℕ

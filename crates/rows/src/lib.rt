@@ -2,7 +2,7 @@
 ghost use mathlib.Core.Path.{_≡_};
 ghost use Rattle.meaning.specs.Lists.{before};
 ghost use Rattle.rows.specs.Keys.{keyAt, KeysAscend, LowerBound};
-ghost use Rattle.rows.specs.Rows.{wordAt, wholeRows, rowsLent, zeroPast, copied, withRow, shiftedUp, shiftedDown, withGap, withoutRow, clearedPast};
+ghost use Rattle.rows.specs.Rows.{wordAt, wholeRows, rowsLent, zeroPast, copied, withRow, withWord, withoutColumns, shiftedUp, shiftedDown, withGap, withoutRow, clearedPast};
 
 // The word in a column of a row; 0 past the end.
 pub fn word(t: &[u32], width: u32, row: u32, column: u32) -> u32
@@ -85,6 +85,16 @@ pub fn write_row(t: &mut [u32], width: u32, row: u32, words: &[u32])
     copy_words(&mut t[at..], words, n);
 }
 
+// Puts a word in a column of a row, where the slice has the word.
+pub fn put_word(t: &mut [u32], width: u32, row: u32, column: u32, word: u32)
+    ensures { λ _. ⌜ now (t .exit) ≡ withWord (now (t .entry)) width row column word ⌝ }
+{
+    let at = (row as usize) * (width as usize) + (column as usize);
+    if at < t.len() {
+        t[at] = word;
+    }
+}
+
 // Moves all words up, the last ones out, and puts zeros first.
 fn shift_up(t: &mut [u32], by: usize)
     ensures { λ _. ⌜ now (t .exit) ≡ shiftedUp (now (t .entry)) by ⌝ }
@@ -140,6 +150,22 @@ pub fn close_gap(t: &mut [u32], width: u32, at: u32, used: u32)
     }
     let start = (at as usize) * n;
     shift_down(&mut t[start..end], n);
+}
+
+// Makes the words of a row 0 from a column on, where the slice has the row.
+pub fn clear_columns(t: &mut [u32], width: u32, row: u32, column: u32)
+    ensures { λ _. ⌜ now (t .exit) ≡ withoutColumns (now (t .entry)) width row column ⌝ }
+{
+    let end = (row as usize) * (width as usize) + (width as usize);
+    if width < column {
+        return;
+    }
+    if t.len() < end {
+        return;
+    }
+    let by = (width - column) as usize;
+    let start = end - by;
+    shift_down(&mut t[start..end], by);
 }
 
 // Makes every word past the used rows 0.

@@ -1,0 +1,3 @@
+-- Events on the register's tables.
+--   Effects   what an event does to a table, and when it can
+pub mod Effects

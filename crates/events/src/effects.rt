@@ -1,0 +1,111 @@
+// What an event that is not refused does to the table of objects or of links. Each answers how many rows are used after it.
+use tables::Found;
+ghost use Prim.Native.Nat.{_≤_, _<_};
+ghost use Rattle.meaning.specs.Limits.{cellCount};
+ghost use Rattle.meaning.specs.Schema.{Schema, Relationship, cellsOf};
+ghost use Rattle.meaning.specs.Events.{insert, delete, set, join, part, special, general, linkOf};
+ghost use mathlib.Core.List.{List};
+ghost use Rattle.rows.specs.Rows.{signed};
+ghost use Rattle.tables.specs.Columns.{typesOf};
+ghost use Rattle.events.specs.Effects.{ObjectsApplied, LinksApplied, CanInsert, CanChange, CanJoin, CanPart};
+
+// Insert: a row in the place of the id, with cells 0.
+fn put_object(count: u32, objects: &mut [u32], id: u32, t: u32) -> u32
+    requires { ⌜ CanInsert count (now objects) id ⌝ }
+    ensures { λ r. ⌜ ((S : Schema) → ObjectsApplied S (insert id t) count (now (objects .entry)) r (now (objects .exit))) ⌝ }
+{
+    let key = [id];
+    let at = rows::place(&*objects, 10, count, 1, &key);
+    rows::open_gap(&mut *objects, 10, at, count);
+    let words = [id, t, 0, 0, 0, 0, 0, 0, 0, 0];
+    rows::write_row(&mut *objects, 10, at, &words);
+    count + 1
+}
+
+// Delete: the object's row taken out.
+fn take_object(count: u32, objects: &mut [u32], id: u32) -> u32
+    requires { ⌜ CanChange count (now objects) id ⌝ }
+    ensures { λ r. ⌜ ((S : Schema) → ObjectsApplied S (delete id) count (now (objects .entry)) r (now (objects .exit))) ⌝ }
+{
+    match register::object_row(count, &*objects, id) {
+        Found::At(row) => {
+            rows::close_gap(&mut *objects, 10, row, count);
+            count - 1
+        }
+        Found::Nothing => count,
+    }
+}
+
+// Set: a word in a cell of the object's row.
+fn put_cell(count: u32, objects: &mut [u32], id: u32, cell: u32, word: u32)
+    requires { ⌜ (CanChange count (now objects) id) × (cell < cellCount) ⌝ }
+    ensures { λ _. ⌜ ((S : Schema) → ObjectsApplied S (set id cell (signed word)) count (now (objects .entry)) count (now (objects .exit))) ⌝ }
+{
+    match register::object_row(count, &*objects, id) {
+        Found::At(row) => rows::put_word(&mut *objects, 10, row, 2 + cell, word),
+        Found::Nothing => {}
+    }
+}
+
+// Special: the type in the object's row.
+fn put_type(count: u32, objects: &mut [u32], id: u32, t: u32)
+    requires { ⌜ CanChange count (now objects) id ⌝ }
+    ensures { λ _. ⌜ ((S : Schema) → ObjectsApplied S (special id t) count (now (objects .entry)) count (now (objects .exit))) ⌝ }
+{
+    match register::object_row(count, &*objects, id) {
+        Found::At(row) => rows::put_word(&mut *objects, 10, row, 1, t),
+        Found::Nothing => {}
+    }
+}
+
+// General: the type in the object's row, and 0 in the cells that it lacks.
+fn put_higher_type(
+    type_count: u32,
+    types: &[u32],
+    count: u32,
+    objects: &mut [u32],
+    id: u32,
+    t: u32,
+)
+    requires { ⌜ (CanChange count (now objects) id) × (cellsOf (typesOf «type_count» (now types)) t ≤ cellCount) ⌝ }
+    ensures { λ _. ⌜ ((rs : List Relationship) →
+        ObjectsApplied (record { types = typesOf «type_count» (now (types .entry)); relationships = rs })
+        (general id t) count (now (objects .entry)) count (now (objects .exit))) ⌝ }
+{
+    match register::object_row(count, &*objects, id) {
+        Found::At(row) => {
+            rows::put_word(&mut *objects, 10, row, 1, t);
+            let cells = schema::cells_of(type_count, types, t);
+            rows::clear_columns(&mut *objects, 10, row, 2 + cells);
+        }
+        Found::Nothing => {}
+    }
+}
+
+// Join: a row in the place of the link.
+fn put_link(count: u32, links: &mut [u32], relationship: u32, source: u32, target: u32) -> u32
+    requires { ⌜ CanJoin count (now links) (linkOf relationship source target) ⌝ }
+    ensures { λ r. ⌜ ((S : Schema) →
+        LinksApplied S (join relationship source target) count (now (links .entry)) r (now (links .exit))) ⌝ }
+{
+    let key = [relationship, source, target];
+    let at = rows::place(&*links, 3, count, 3, &key);
+    rows::open_gap(&mut *links, 3, at, count);
+    rows::write_row(&mut *links, 3, at, &key);
+    count + 1
+}
+
+// Part: the link's row taken out.
+fn take_link(count: u32, links: &mut [u32], relationship: u32, source: u32, target: u32) -> u32
+    requires { ⌜ CanPart count (now links) (linkOf relationship source target) ⌝ }
+    ensures { λ r. ⌜ ((S : Schema) →
+        LinksApplied S (part relationship source target) count (now (links .entry)) r (now (links .exit))) ⌝ }
+{
+    match register::link_row(count, &*links, relationship, source, target) {
+        Found::At(row) => {
+            rows::close_gap(&mut *links, 3, row, count);
+            count - 1
+        }
+        Found::Nothing => count,
+    }
+}
