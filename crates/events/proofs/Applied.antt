@@ -12,7 +12,7 @@ use lib.IntN.{ℤ, pos}
 use lib.ListN.{length, getD, take, replicate, set as replaceAt}
 use lib.Seq.{getD-set-other}
 use mir.Facts.{eqb-yes, yes-eqb, eqb-no, ltb-yes, ltb-no, T-not}
-use Rattle.meaning.specs.Lists.{same}
+use Rattle.meaning.specs.Lists.{sameList}
 use Rattle.meaning.specs.Limits.{cellCount}
 use Rattle.meaning.specs.Schema.{Schema, ObjectType, Relationship, cellsOf}
 use Rattle.meaning.specs.Register.{Object, Link, objectKey, linkKey, sameLink}
@@ -270,7 +270,7 @@ module _ (S : Schema) (n : ℕ) (links : List ℕ) (x y z : ℕ) where
                   objects = os;
                   links =
                       row-put-in 3 linkRow link-by-words links n r linkKey (λ u v. refl) (x ∷ y ∷ z ∷ []) refl (can .room) l refl b
-                      (λ i h e. T-not (sameLink l (linkRow links i)) (subst (λ k. T (same (linkKey l) k)) (sym e) (same-refl (linkKey l))) (missed-all (sameLink l) (linkRow links) n (can .absent) i h))
+                      (λ i h e. T-not (sameLink l (linkRow links i)) (subst (λ k. T (sameList (linkKey l) k)) (sym e) (same-refl (linkKey l))) (missed-all (sameLink l) (linkRow links) n (can .absent) i h))
                       p;
                 };
         lengths = inserted-length links 3 r n (x ∷ y ∷ z ∷ []) (b .within) (can .room) refl;

@@ -11,9 +11,9 @@ use native.Mathlib.Omega.{arith}
 use lib.Dec.{T, ltb, eqb}
 use lib.ListN.{length, getD}
 use mir.Facts.{not-T, T-not, ltb-yes, ltb-no, eqb-yes, eqb-no}
-use Rattle.meaning.specs.Lists.{before, keep, place}
-use Rattle.meaning.proofs.Lists.{Ascending, decide, cond-yes, cond-no}
-use Rattle.meaning.proofs.Order.{Before, before-irreflexive, before-total, fault-none}
+use Rattle.meaning.specs.Lists.{before, keep, putInOrder, Ascending, Before}
+use Rattle.meaning.proofs.Lists.{decide, cond-yes, cond-no}
+use Rattle.meaning.proofs.Order.{before-irreflexive, before-total, fault-none}
 use Rattle.rows.specs.Rows.{wordAt, readRows, withoutRow}
 use Rattle.rows.specs.Keys.{LowerBound}
 use Rattle.rows.proofs.Moves.{inserted, inserted-before, inserted-row, inserted-after, without-before, without-after}
@@ -54,7 +54,7 @@ module _ {A : Type 0} (width : ℕ) (read : List ℕ → ℕ → A) (by-words : 
           (⊎-elim (λ (e : key x ≡ key (read t r)). absurd (absent r h (sym e))) (λ u. absurd (T-not (before (key (read t r)) (key x)) u (b .above r (le-refl r) h))))
           (before-total (key x) (key (read t r)) (one-length x (read t r)))
 
-      pub row-put-in : readRows (read grown) (n + 1) ≡ place key x (readRows (read t) n)
+      pub row-put-in : readRows (read grown) (n + 1) ≡ putInOrder key x (readRows (read t) n)
       row-put-in =
           ap (readRows (read grown)) (add-one n)
           ∙ sym

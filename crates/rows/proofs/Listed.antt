@@ -9,7 +9,7 @@ use native.Mathlib.Omega.{arith}
 use lib.Dec.{T}
 use lib.ListN.{take, replicate, set}
 use mir.Facts.{not-T}
-use Rattle.meaning.specs.Lists.{before, keep, place}
+use Rattle.meaning.specs.Lists.{before, keep, putInOrder}
 use Rattle.meaning.proofs.Lists.{cond-yes, cond-no, not-not}
 use Rattle.meaning.proofs.Order.{before-irreflexive, before-transitive}
 use Rattle.rows.specs.Rows.{rowsFrom, readRows}
@@ -43,20 +43,20 @@ module _ {A : Type 0} (read read' : ℕ → A) (r count : ℕ) (lower : (i : ℕ
       (below : (i : ℕ) → i < r → T (before (key (read i)) (key x)))
       (above : r < count → T (before (key x) (key (read r))))
     where
-      place-from : (j n : ℕ) → j ≤ r → r ≤ j + n → j + n ≡ count → place key x (rowsFrom read j n) ≡ rowsFrom read' j (suc n)
+      place-from : (j n : ℕ) → j ≤ r → r ≤ j + n → j + n ≡ count → putInOrder key x (rowsFrom read j n) ≡ rowsFrom read' j (suc n)
       place-from j zero l h e =
           let here : j ≡ r = omega arith in
           ap (λ y. y ∷ []) (sym own ∙ ap read' (sym here))
       place-from j (suc n) l h e =
           ⊎-elim here (λ q. there q (place-from (suc j) n q (omega arith) (omega arith))) (eq-or-lt-of-le l)
         where
-          here : j ≡ r → place key x (rowsFrom read j (suc n)) ≡ rowsFrom read' j (suc (suc n))
+          here : j ≡ r → putInOrder key x (rowsFrom read j (suc n)) ≡ rowsFrom read' j (suc (suc n))
           here q =
               let t : T (before (key x) (key (read j))) = subst (λ i. T (before (key x) (key (read i)))) (sym q) (above (omega arith)) in
               cond-yes (before (key x) (key (read j))) _ _ t
               ∙ ap₂ _∷_ (sym own ∙ ap read' (sym q)) (sym (rows-on read read' j (suc n) (λ i b k. upper i (omega arith) (omega arith))))
 
-          there : j < r → place key x (rowsFrom read (suc j) n) ≡ rowsFrom read' (suc j) (suc n) → place key x (rowsFrom read j (suc n)) ≡ rowsFrom read' j (suc (suc n))
+          there : j < r → putInOrder key x (rowsFrom read (suc j) n) ≡ rowsFrom read' (suc j) (suc n) → putInOrder key x (rowsFrom read j (suc n)) ≡ rowsFrom read' j (suc (suc n))
           there q rest =
               let t = below j q in
               let back : T (not (before (key x) (key (read j)))) =
@@ -65,7 +65,7 @@ module _ {A : Type 0} (read read' : ℕ → A) (r count : ℕ) (lower : (i : ℕ
               cond-no (before (key x) (key (read j))) _ _ back ∙ cond-yes (before (key (read j)) (key x)) _ _ t
               ∙ ap₂ _∷_ (sym (lower j q)) rest
 
-      pub rows-placed : r ≤ count → place key x (readRows read count) ≡ readRows read' (suc count)
+      pub rows-placed : r ≤ count → putInOrder key x (readRows read count) ≡ readRows read' (suc count)
       rows-placed h = place-from 0 count zero-le (omega arith) (omega arith)
 
   -- ---- row r taken out, which alone passes the test
