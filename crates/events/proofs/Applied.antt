@@ -18,7 +18,7 @@ use Rattle.meaning.specs.Schema.{Schema, ObjectType, Relationship, cellsOf}
 use Rattle.meaning.specs.Register.{Object, Link, objectKey, linkKey, sameLink}
 use Rattle.meaning.specs.Events.{Event, amended, insert, delete, set, join, part, special, general, linkOf, newObject, withCell, withType, withHigherType, apply}
 use Rattle.meaning.proofs.Lists.{decide}
-use Rattle.meaning.proofs.Order.{same-eq, same-refl}
+use Rattle.meaning.proofs.Order.{same-list-eq, same-list-refl}
 use Rattle.rows.specs.Rows.{wordAt, rowsFrom, readRows, signed, zeroPast, withWord, withoutColumns, withoutRow}
 use Rattle.rows.specs.Keys.{keyAt, LowerBound}
 use Rattle.rows.proofs.Offsets.{row-before}
@@ -257,7 +257,7 @@ module _ (S : Schema) (n : ℕ) (links : List ℕ) (x y z : ℕ) where
   l = linkOf x y z
 
   is-key : (k : Link) → T (sameLink l k) → linkKey k ≡ linkKey l
-  is-key k t = sym (same-eq (linkKey l) (linkKey k) t)
+  is-key k t = sym (same-list-eq (linkKey l) (linkKey k) t)
 
   pub link-put-in : (r : ℕ) → CanJoin n links l → LowerBound (keyAt links 3 3) n (x ∷ y ∷ z ∷ []) r
       → LinksApplied S (join x y z) n links (n + 1) (inserted links 3 r n (x ∷ y ∷ z ∷ []))
@@ -270,7 +270,7 @@ module _ (S : Schema) (n : ℕ) (links : List ℕ) (x y z : ℕ) where
                   objects = os;
                   links =
                       row-put-in 3 linkRow link-by-words links n r linkKey (λ u v. refl) (x ∷ y ∷ z ∷ []) refl (can .room) l refl b
-                      (λ i h e. T-not (sameLink l (linkRow links i)) (subst (λ k. T (sameList (linkKey l) k)) (sym e) (same-refl (linkKey l))) (missed-all (sameLink l) (linkRow links) n (can .absent) i h))
+                      (λ i h e. T-not (sameLink l (linkRow links i)) (subst (λ k. T (sameList (linkKey l) k)) (sym e) (same-list-refl (linkKey l))) (missed-all (sameLink l) (linkRow links) n (can .absent) i h))
                       p;
                 };
         lengths = inserted-length links 3 r n (x ∷ y ∷ z ∷ []) (b .within) (can .room) refl;
