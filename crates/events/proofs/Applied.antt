@@ -29,7 +29,7 @@ use Rattle.tables.specs.Columns.{objectRow, linkRow}
 use Rattle.register.specs.Tables.{objectsWith, linksWith, ObjectsAscend, LinksAscend, objectPlace, linkPlace}
 use Rattle.register.proofs.Hits.{hit-some}
 use Rattle.register.proofs.Changes.{ByWords, row-put-in, row-taken-out, row-changed, missed-all}
-use Rattle.events.specs.Effects.{ObjectsApplied, LinksApplied, CanInsert, CanChange, CanJoin, CanPart}
+use Rattle.events.specs.Effects.{Applied, ObjectsApplied, LinksApplied, CanInsert, CanChange, CanJoin, CanPart}
 
 -- ---- rows by their words
 
@@ -296,3 +296,31 @@ module _ (S : Schema) (n : ℕ) (links : List ℕ) (x y z : ℕ) where
           lengths = without-length links 3 r n (there .0) (can .lent);
           zeros = λ p. shrunk-zeros links 3 n p r left (there .0) (can .lent) (omega arith);
         }
+
+-- ---- both tables
+
+module _ (S : Schema) (e : Event) (n : ℕ) (objects : List ℕ) (m : ℕ) (links : List ℕ) where
+  pub objects-applied : {k : ℕ} {now : List ℕ} → ObjectsApplied S e n objects k now → Applied S e n objects m links k now m links
+  objects-applied a =
+      record {
+        effect = a .effect (readRows (linkRow links) m);
+        objects-length = a .lengths;
+        links-length = refl;
+        objects-zero = a .zeros;
+        links-zero = λ z. z;
+      }
+
+  pub links-applied : {k : ℕ} {now : List ℕ} → LinksApplied S e m links k now → Applied S e n objects m links n objects k now
+  links-applied a =
+      record {
+        effect = a .effect (readRows (objectRow objects) n);
+        objects-length = refl;
+        links-length = a .lengths;
+        objects-zero = λ z. z;
+        links-zero = a .zeros;
+      }
+
+-- the same of an event that is another's name
+pub as-applied : {S : Schema} {n : ℕ} {objects : List ℕ} {m : ℕ} {links : List ℕ} {n′ : ℕ} {objects′ : List ℕ} {m′ : ℕ} {links′ : List ℕ} {e d : Event}
+    → d ≡ e → Applied S e n objects m links n′ objects′ m′ links′ → Applied S d n objects m links n′ objects′ m′ links′
+as-applied {S} {n} {objects} {m} {links} {n′} {objects′} {m′} {links′} q a = subst (λ e. Applied S e n objects m links n′ objects′ m′ links′) (sym q) a
