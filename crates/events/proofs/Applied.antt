@@ -92,13 +92,13 @@ module _ (S : Schema) (n : ℕ) (objects : List ℕ) (id : ℕ) where
       record {
         effect =
             λ ls z.
-                record {
-                  objects =
-                      row-put-in 10 objectRow object-by-words objects n r objectKey (λ x y. refl) (newWords id t) refl (can .room) (newObject id t) refl b
-                      (λ i h e. T-not (hasId id (objectRow objects i)) (yes-eqb (ap (λ k. getD k 0 0) e)) (missed-all (hasId id) (objectRow objects) n (can .absent) i h))
-                      z;
-                  links = ls;
-                };
+            record {
+              objects =
+                  row-put-in 10 objectRow object-by-words objects n r objectKey (λ x y. refl) (newWords id t) refl (can .room) (newObject id t) refl b
+                  (λ i h e. T-not (hasId id (objectRow objects i)) (yes-eqb (ap (λ k. getD k 0 0) e)) (missed-all (hasId id) (objectRow objects) n (can .absent) i h))
+                  z;
+              links = ls;
+            };
         lengths = inserted-length objects 10 r n (newWords id t) (b .within) (can .room) refl;
         zeros = λ z. grown-zeros objects 10 n z r (newWords id t) (b .within) (can .room) refl (omega arith);
       }
@@ -117,12 +117,12 @@ module _ (S : Schema) (n : ℕ) (objects : List ℕ) (id : ℕ) where
         record {
           effect =
               λ ls z.
-                  record {
-                    objects =
-                        row-taken-out 10 objectRow object-by-words objects n r objectKey (can .ascend) (hasId id) (id ∷ []) (has-key id) (found .0) (found .1) (can .lent) left s
-                        z;
-                    links = ls;
-                  };
+              record {
+                objects =
+                    row-taken-out 10 objectRow object-by-words objects n r objectKey (can .ascend) (hasId id) (id ∷ []) (has-key id) (found .0) (found .1) (can .lent) left s
+                    z;
+                links = ls;
+              };
           lengths = without-length objects 10 r n (found .0) (can .lent);
           zeros = λ z. shrunk-zeros objects 10 n z r left (found .0) (can .lent) (omega arith);
         }
@@ -266,13 +266,13 @@ module _ (S : Schema) (n : ℕ) (links : List ℕ) (x y z : ℕ) where
       record {
         effect =
             λ os p.
-                record {
-                  objects = os;
-                  links =
-                      row-put-in 3 linkRow link-by-words links n r linkKey (λ u v. refl) (x ∷ y ∷ z ∷ []) refl (can .room) l refl b
-                      (λ i h e. T-not (sameLink l (linkRow links i)) (subst (λ k. T (same (linkKey l) k)) (sym e) (same-refl (linkKey l))) (missed-all (sameLink l) (linkRow links) n (can .absent) i h))
-                      p;
-                };
+            record {
+              objects = os;
+              links =
+                  row-put-in 3 linkRow link-by-words links n r linkKey (λ u v. refl) (x ∷ y ∷ z ∷ []) refl (can .room) l refl b
+                  (λ i h e. T-not (sameLink l (linkRow links i)) (subst (λ k. T (same (linkKey l) k)) (sym e) (same-refl (linkKey l))) (missed-all (sameLink l) (linkRow links) n (can .absent) i h))
+                  p;
+            };
         lengths = inserted-length links 3 r n (x ∷ y ∷ z ∷ []) (b .within) (can .room) refl;
         zeros = λ p. grown-zeros links 3 n p r (x ∷ y ∷ z ∷ []) (b .within) (can .room) refl (omega arith);
       }
@@ -287,12 +287,12 @@ module _ (S : Schema) (n : ℕ) (links : List ℕ) (x y z : ℕ) where
         record {
           effect =
               λ os p.
-                  record {
-                    objects = os;
-                    links =
-                        row-taken-out 3 linkRow link-by-words links n r linkKey (can .ascend) (sameLink l) (linkKey l) is-key (there .0) (there .1) (can .lent) left s
-                        p;
-                  };
+              record {
+                objects = os;
+                links =
+                    row-taken-out 3 linkRow link-by-words links n r linkKey (can .ascend) (sameLink l) (linkKey l) is-key (there .0) (there .1) (can .lent) left s
+                    p;
+              };
           lengths = without-length links 3 r n (there .0) (can .lent);
           zeros = λ p. shrunk-zeros links 3 n p r left (there .0) (can .lent) (omega arith);
         }

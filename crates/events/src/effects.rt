@@ -61,14 +61,7 @@ fn put_type(count: u32, objects: &mut [u32], id: u32, t: u32)
 }
 
 // General: the type in the object's row, and 0 in the cells that it lacks.
-fn put_higher_type(
-    type_count: u32,
-    types: &[u32],
-    count: u32,
-    objects: &mut [u32],
-    id: u32,
-    t: u32,
-)
+fn put_higher_type(type_count: u32, types: &[u32], count: u32, objects: &mut [u32], id: u32, t: u32)
     requires { ⌜ (CanChange count (now objects) id) × (cellsOf (typesOf «type_count» (now types)) t ≤ cellCount) ⌝ }
     ensures { λ _. ⌜ ((rs : List Relationship) →
         ObjectsApplied (record { types = typesOf «type_count» (now (types .entry)); relationships = rs })
@@ -134,30 +127,51 @@ pub fn effect(
 {
     if kind == 0 {
         let n = put_object(object_count, &mut *objects, x, y);
-        return Held { objects: n, links: link_count };
+        return Held {
+            objects: n,
+            links: link_count,
+        };
     }
     if kind == 1 {
         let n = take_object(object_count, &mut *objects, x);
-        return Held { objects: n, links: link_count };
+        return Held {
+            objects: n,
+            links: link_count,
+        };
     }
     if kind == 2 {
         put_cell(object_count, &mut *objects, x, y, z);
-        return Held { objects: object_count, links: link_count };
+        return Held {
+            objects: object_count,
+            links: link_count,
+        };
     }
     if kind == 3 {
         let n = put_link(link_count, &mut *links, x, y, z);
-        return Held { objects: object_count, links: n };
+        return Held {
+            objects: object_count,
+            links: n,
+        };
     }
     if kind == 4 {
         let n = take_link(link_count, &mut *links, x, y, z);
-        return Held { objects: object_count, links: n };
+        return Held {
+            objects: object_count,
+            links: n,
+        };
     }
     if kind == 5 {
         put_type(object_count, &mut *objects, x, y);
-        return Held { objects: object_count, links: link_count };
+        return Held {
+            objects: object_count,
+            links: link_count,
+        };
     }
     if kind == 6 {
         put_higher_type(type_count, types, object_count, &mut *objects, x, y);
     }
-    Held { objects: object_count, links: link_count }
+    Held {
+        objects: object_count,
+        links: link_count,
+    }
 }
