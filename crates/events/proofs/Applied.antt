@@ -29,7 +29,7 @@ use Rattle.tables.specs.Columns.{objectRow, linkRow}
 use Rattle.register.specs.Tables.{objectsWith, linksWith, ObjectsAscend, LinksAscend, objectPlace, linkPlace}
 use Rattle.register.proofs.Hits.{hit-some}
 use Rattle.register.proofs.Changes.{ByWords, row-put-in, row-taken-out, row-changed, missed-all}
-use Rattle.events.specs.Effects.{ObjectsApplied, LinksApplied, CanInsert, CanChange, CanJoin, CanPart}
+use Rattle.events.specs.Effects.{Applied, ObjectsApplied, LinksApplied, CanInsert, CanChange, CanJoin, CanPart}
 
 -- ---- rows by their words
 
@@ -92,13 +92,13 @@ module _ (S : Schema) (n : ℕ) (objects : List ℕ) (id : ℕ) where
       record {
         effect =
             λ ls z.
-                record {
-                  objects =
-                      row-put-in 10 objectRow object-by-words objects n r objectKey (λ x y. refl) (newWords id t) refl (can .room) (newObject id t) refl b
-                      (λ i h e. T-not (hasId id (objectRow objects i)) (yes-eqb (ap (λ k. getD k 0 0) e)) (missed-all (hasId id) (objectRow objects) n (can .absent) i h))
-                      z;
-                  links = ls;
-                };
+            record {
+              objects =
+                  row-put-in 10 objectRow object-by-words objects n r objectKey (λ x y. refl) (newWords id t) refl (can .room) (newObject id t) refl b
+                  (λ i h e. T-not (hasId id (objectRow objects i)) (yes-eqb (ap (λ k. getD k 0 0) e)) (missed-all (hasId id) (objectRow objects) n (can .absent) i h))
+                  z;
+              links = ls;
+            };
         lengths = inserted-length objects 10 r n (newWords id t) (b .within) (can .room) refl;
         zeros = λ z. grown-zeros objects 10 n z r (newWords id t) (b .within) (can .room) refl (omega arith);
       }
@@ -117,12 +117,12 @@ module _ (S : Schema) (n : ℕ) (objects : List ℕ) (id : ℕ) where
         record {
           effect =
               λ ls z.
-                  record {
-                    objects =
-                        row-taken-out 10 objectRow object-by-words objects n r objectKey (can .ascend) (hasId id) (id ∷ []) (has-key id) (found .0) (found .1) (can .lent) left s
-                        z;
-                    links = ls;
-                  };
+              record {
+                objects =
+                    row-taken-out 10 objectRow object-by-words objects n r objectKey (can .ascend) (hasId id) (id ∷ []) (has-key id) (found .0) (found .1) (can .lent) left s
+                    z;
+                links = ls;
+              };
           lengths = without-length objects 10 r n (found .0) (can .lent);
           zeros = λ z. shrunk-zeros objects 10 n z r left (found .0) (can .lent) (omega arith);
         }
@@ -266,13 +266,13 @@ module _ (S : Schema) (n : ℕ) (links : List ℕ) (x y z : ℕ) where
       record {
         effect =
             λ os p.
-                record {
-                  objects = os;
-                  links =
-                      row-put-in 3 linkRow link-by-words links n r linkKey (λ u v. refl) (x ∷ y ∷ z ∷ []) refl (can .room) l refl b
-                      (λ i h e. T-not (sameLink l (linkRow links i)) (subst (λ k. T (sameList (linkKey l) k)) (sym e) (same-list-refl (linkKey l))) (missed-all (sameLink l) (linkRow links) n (can .absent) i h))
-                      p;
-                };
+            record {
+              objects = os;
+              links =
+                  row-put-in 3 linkRow link-by-words links n r linkKey (λ u v. refl) (x ∷ y ∷ z ∷ []) refl (can .room) l refl b
+                  (λ i h e. T-not (sameLink l (linkRow links i)) (subst (λ k. T (sameList (linkKey l) k)) (sym e) (same-list-refl (linkKey l))) (missed-all (sameLink l) (linkRow links) n (can .absent) i h))
+                  p;
+            };
         lengths = inserted-length links 3 r n (x ∷ y ∷ z ∷ []) (b .within) (can .room) refl;
         zeros = λ p. grown-zeros links 3 n p r (x ∷ y ∷ z ∷ []) (b .within) (can .room) refl (omega arith);
       }
@@ -287,12 +287,40 @@ module _ (S : Schema) (n : ℕ) (links : List ℕ) (x y z : ℕ) where
         record {
           effect =
               λ os p.
-                  record {
-                    objects = os;
-                    links =
-                        row-taken-out 3 linkRow link-by-words links n r linkKey (can .ascend) (sameLink l) (linkKey l) is-key (there .0) (there .1) (can .lent) left s
-                        p;
-                  };
+              record {
+                objects = os;
+                links =
+                    row-taken-out 3 linkRow link-by-words links n r linkKey (can .ascend) (sameLink l) (linkKey l) is-key (there .0) (there .1) (can .lent) left s
+                    p;
+              };
           lengths = without-length links 3 r n (there .0) (can .lent);
           zeros = λ p. shrunk-zeros links 3 n p r left (there .0) (can .lent) (omega arith);
         }
+
+-- ---- both tables
+
+module _ (S : Schema) (e : Event) (n : ℕ) (objects : List ℕ) (m : ℕ) (links : List ℕ) where
+  pub objects-applied : {k : ℕ} {now : List ℕ} → ObjectsApplied S e n objects k now → Applied S e n objects m links k now m links
+  objects-applied a =
+      record {
+        effect = a .effect (readRows (linkRow links) m);
+        objects-length = a .lengths;
+        links-length = refl;
+        objects-zero = a .zeros;
+        links-zero = λ z. z;
+      }
+
+  pub links-applied : {k : ℕ} {now : List ℕ} → LinksApplied S e m links k now → Applied S e n objects m links n objects k now
+  links-applied a =
+      record {
+        effect = a .effect (readRows (objectRow objects) n);
+        objects-length = refl;
+        links-length = a .lengths;
+        objects-zero = λ z. z;
+        links-zero = a .zeros;
+      }
+
+-- the same of an event that is another's name
+pub as-applied : {S : Schema} {n : ℕ} {objects : List ℕ} {m : ℕ} {links : List ℕ} {n′ : ℕ} {objects′ : List ℕ} {m′ : ℕ} {links′ : List ℕ} {e d : Event}
+    → d ≡ e → Applied S e n objects m links n′ objects′ m′ links′ → Applied S d n objects m links n′ objects′ m′ links′
+as-applied {S} {n} {objects} {m} {links} {n′} {objects′} {m′} {links′} q a = subst (λ e. Applied S e n objects m links n′ objects′ m′ links′) (sym q) a

@@ -1,6 +1,6 @@
 -- A row of the table of events that is no event of document 01: refusal 7 meets it.
 use Prim.Native.Nat.{ℕ, zero, suc}
-use mathlib.Core.Path.{_≡_, refl, sym, ap, _∙_}
+use mathlib.Core.Path.{_≡_, refl, sym, ap, subst, _∙_}
 use mathlib.Core.Bool.{Bool, true, false, cond}
 use mathlib.Core.Option.{some}
 use lib.Dec.{eqb}
@@ -90,3 +90,29 @@ module _ {kind : ℕ} (x y z : ℕ) where
   pub second-unused : kind ≡ 1 → (y ≡ 0 → ⊥) → eventOf kind x y z ≡ noEvent
   unfolding eventOf
   second-unused e d = rw (e, ne-eqb y 0 d)
+
+-- of a kind that has an unused field, a row that is some event is one of that kind
+other-than : (b : Bool) (e : Event) → (cond b e noEvent ≡ noEvent → ⊥) → cond b e noEvent ≡ e
+other-than true e d = refl
+other-than false e d = absurd (d refl)
+
+module _ {kind : ℕ} (x y z : ℕ) (some-event : eventOf kind x y z ≡ noEvent → ⊥) where
+  pub is-insert : kind ≡ 0 → eventOf kind x y z ≡ insert x y
+  unfolding eventOf
+  is-insert e = subst (λ k. (eventOf k x y z ≡ noEvent → ⊥) → eventOf k x y z ≡ insert x y) (sym e) (other-than (eqb z 0) (insert x y)) some-event
+
+  pub is-special : kind ≡ 5 → eventOf kind x y z ≡ special x y
+  unfolding eventOf
+  is-special e = subst (λ k. (eventOf k x y z ≡ noEvent → ⊥) → eventOf k x y z ≡ special x y) (sym e) (other-than (eqb z 0) (special x y)) some-event
+
+  pub is-general : kind ≡ 6 → eventOf kind x y z ≡ general x y
+  unfolding eventOf
+  is-general e = subst (λ k. (eventOf k x y z ≡ noEvent → ⊥) → eventOf k x y z ≡ general x y) (sym e) (other-than (eqb z 0) (general x y)) some-event
+
+  pub is-delete : kind ≡ 1 → eventOf kind x y z ≡ delete x
+  unfolding eventOf
+  is-delete e = subst (λ k. (eventOf k x y z ≡ noEvent → ⊥) → eventOf k x y z ≡ delete x) (sym e) (both (eqb y 0) (eqb z 0)) some-event
+    where
+      both : (u v : Bool) → (cond u (cond v (delete x) noEvent) noEvent ≡ noEvent → ⊥) → cond u (cond v (delete x) noEvent) noEvent ≡ delete x
+      both true v d = other-than v (delete x) d
+      both false v d = absurd (d refl)

@@ -5,11 +5,12 @@ use mathlib.Core.List.{List}
 use mathlib.Core.Option.{none}
 use lib.Dec.{T}
 use lib.ListN.{length}
-use Rattle.meaning.specs.Limits.{maxObjects, maxLinks}
-use Rattle.meaning.specs.Schema.{Schema}
+use Rattle.meaning.specs.Limits.{maxObjects, maxLinks, cellCount}
+use Rattle.meaning.specs.Schema.{ObjectType, Schema, cellsOf}
 use Rattle.meaning.specs.Register.{Object, Link}
-use Rattle.meaning.specs.Events.{Event, apply}
+use Rattle.meaning.specs.Events.{Event, insert, delete, set, join, part, special, general, linkOf, apply}
 use Rattle.rows.specs.Rows.{zeroPast}
+use Rattle.tables.specs.Columns.{registerOf}
 use Rattle.register.specs.Tables.{objectsWith, linksWith, ObjectsAscend, LinksAscend, objectPlace, linkPlace}
 
 -- the table of objects, with n used rows, is m used rows of `now` after the event; "rows past the used ones are 0"
@@ -49,3 +50,21 @@ pub record CanPart (n : ℕ) (links : List ℕ) (l : Link) : Type 0 where
   pub ascend : LinksAscend n links
   pub there : linkPlace n links l ≡ none → ⊥
   pub lent : n * 3 ≤ length links
+
+-- What no refusal gives an event on tables of n objects and m links. For a general: "0 to 8 cells" of a type.
+unfoldable pub Can : List ObjectType → ℕ → List ℕ → ℕ → List ℕ → Event → Type 0
+Can types n objects m links (insert id t) = CanInsert n objects id
+Can types n objects m links (delete id) = CanChange n objects id
+Can types n objects m links (set id k v) = CanChange n objects id × (k < cellCount)
+Can types n objects m links (join r a b) = CanJoin m links (linkOf r a b)
+Can types n objects m links (part r a b) = CanPart m links (linkOf r a b)
+Can types n objects m links (special id t) = CanChange n objects id
+Can types n objects m links (general id t) = CanChange n objects id × (cellsOf types t ≤ cellCount)
+
+-- Tables after the event: their register is what `apply` says, they are as long as before, and "rows past the used ones are 0".
+pub record Applied (S : Schema) (e : Event) (n : ℕ) (objects : List ℕ) (m : ℕ) (links : List ℕ) (n′ : ℕ) (objects′ : List ℕ) (m′ : ℕ) (links′ : List ℕ) : Type 0 where
+  pub effect : registerOf n′ objects′ m′ links′ ≡ apply S e (registerOf n objects m links)
+  pub objects-length : length objects′ ≡ length objects
+  pub links-length : length links′ ≡ length links
+  pub objects-zero : T (zeroPast objects 10 n) → T (zeroPast objects′ 10 n′)
+  pub links-zero : T (zeroPast links 3 m) → T (zeroPast links′ 3 m′)

@@ -1,4 +1,5 @@
 // What an event that is not refused does to the table of objects or of links. Each answers how many rows are used after it.
+use crate::Held;
 use tables::Found;
 ghost use Prim.Native.Nat.{_≤_, _<_};
 ghost use Rattle.meaning.specs.Limits.{cellCount};
@@ -6,8 +7,9 @@ ghost use Rattle.meaning.specs.Schema.{Schema, Relationship, cellsOf};
 ghost use Rattle.meaning.specs.Events.{insert, delete, set, join, part, special, general, linkOf};
 ghost use mathlib.Core.List.{List};
 ghost use Rattle.rows.specs.Rows.{signed};
-ghost use Rattle.tables.specs.Columns.{typesOf};
-ghost use Rattle.events.specs.Effects.{ObjectsApplied, LinksApplied, CanInsert, CanChange, CanJoin, CanPart};
+ghost use Rattle.tables.specs.Columns.{typesOf, noEvent, eventOf};
+ghost use mathlib.Core.Path.{_≡_};
+ghost use Rattle.events.specs.Effects.{Can, Applied, ObjectsApplied, LinksApplied, CanInsert, CanChange, CanJoin, CanPart};
 
 // Insert: a row in the place of the id, with cells 0.
 fn put_object(count: u32, objects: &mut [u32], id: u32, t: u32) -> u32
@@ -59,14 +61,7 @@ fn put_type(count: u32, objects: &mut [u32], id: u32, t: u32)
 }
 
 // General: the type in the object's row, and 0 in the cells that it lacks.
-fn put_higher_type(
-    type_count: u32,
-    types: &[u32],
-    count: u32,
-    objects: &mut [u32],
-    id: u32,
-    t: u32,
-)
+fn put_higher_type(type_count: u32, types: &[u32], count: u32, objects: &mut [u32], id: u32, t: u32)
     requires { ⌜ (CanChange count (now objects) id) × (cellsOf (typesOf «type_count» (now types)) t ≤ cellCount) ⌝ }
     ensures { λ _. ⌜ ((rs : List Relationship) →
         ObjectsApplied (record { types = typesOf «type_count» (now (types .entry)); relationships = rs })
@@ -107,5 +102,76 @@ fn take_link(count: u32, links: &mut [u32], relationship: u32, source: u32, targ
             count - 1
         }
         Found::Nothing => count,
+    }
+}
+
+// What an event of three fields does to the tables; it answers the used rows after it. The event is one that is not refused.
+pub fn effect(
+    type_count: u32,
+    types: &[u32],
+    object_count: u32,
+    objects: &mut [u32],
+    link_count: u32,
+    links: &mut [u32],
+    kind: u32,
+    x: u32,
+    y: u32,
+    z: u32,
+) -> Held
+    requires { ⌜ (Can (typesOf «type_count» (now types)) «object_count» (now objects) «link_count» (now links) (eventOf kind x y z))
+        × (eventOf kind x y z ≡ noEvent → ⊥) ⌝ }
+    ensures { λ r. ⌜ ((rs : List Relationship) →
+        Applied (record { types = typesOf «type_count» (now (types .entry)); relationships = rs }) (eventOf kind x y z)
+        «object_count» (now (objects .entry)) «link_count» (now (links .entry))
+        (r .objects) (now (objects .exit)) (r .links) (now (links .exit))) ⌝ }
+{
+    if kind == 0 {
+        let n = put_object(object_count, &mut *objects, x, y);
+        return Held {
+            objects: n,
+            links: link_count,
+        };
+    }
+    if kind == 1 {
+        let n = take_object(object_count, &mut *objects, x);
+        return Held {
+            objects: n,
+            links: link_count,
+        };
+    }
+    if kind == 2 {
+        put_cell(object_count, &mut *objects, x, y, z);
+        return Held {
+            objects: object_count,
+            links: link_count,
+        };
+    }
+    if kind == 3 {
+        let n = put_link(link_count, &mut *links, x, y, z);
+        return Held {
+            objects: object_count,
+            links: n,
+        };
+    }
+    if kind == 4 {
+        let n = take_link(link_count, &mut *links, x, y, z);
+        return Held {
+            objects: object_count,
+            links: n,
+        };
+    }
+    if kind == 5 {
+        put_type(object_count, &mut *objects, x, y);
+        return Held {
+            objects: object_count,
+            links: link_count,
+        };
+    }
+    if kind == 6 {
+        put_higher_type(type_count, types, object_count, &mut *objects, x, y);
+    }
+    Held {
+        objects: object_count,
+        links: link_count,
     }
 }

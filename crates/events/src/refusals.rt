@@ -65,7 +65,8 @@ fn has_cell(type_count: u32, types: &[u32], count: u32, objects: &[u32], id: u32
         r ≡ hasCell (typesOf «type_count» (now (types .entry))) (objectsWith count (now (objects .entry)) ls) id cell) ⌝ }
 {
     match register::object_row(count, objects, id) {
-        Found::At(row) => cell < schema::cells_of(type_count, types, columns::type_of(objects, row)),
+        Found::At(row) => cell
+            < schema::cells_of(type_count, types, columns::type_of(objects, row)),
         Found::Nothing => false,
     }
 }
@@ -232,11 +233,7 @@ fn type_needed(
 fn known_type(type_count: u32, id: u32, t: u32) -> bool
     ensures { λ r. ⌜ ((types : List ℕ) → r ≡ (validId id && knownType (typesOf «type_count» types) t)) ⌝ }
 {
-    if valid_id(id) {
-        t < type_count
-    } else {
-        false
-    }
+    if valid_id(id) { t < type_count } else { false }
 }
 
 // 7: whether a relationship and two ids are known.
@@ -307,14 +304,7 @@ fn both_under(
 }
 
 // The first refusal that an insert meets.
-fn of_insert(
-    type_count: u32,
-    lent: usize,
-    count: u32,
-    objects: &[u32],
-    id: u32,
-    t: u32,
-) -> Found
+fn of_insert(type_count: u32, lent: usize, count: u32, objects: &[u32], id: u32, t: u32) -> Found
     requires { ⌜ ObjectsAscend count (now objects) ⌝ }
     ensures { λ r. ⌜ ((types : List ℕ) (rs : List Relationship) (ls : List Link) (m w : ℕ) → r ≡ foundOf (eventRefusal
         (record { types = typesOf «type_count» types; relationships = rs }) (record { objects = lent; links = m; words = w })
@@ -351,14 +341,7 @@ fn of_delete(object_count: u32, objects: &[u32], link_count: u32, links: &[u32],
 }
 
 // The first refusal that a set meets.
-fn of_set(
-    type_count: u32,
-    types: &[u32],
-    count: u32,
-    objects: &[u32],
-    id: u32,
-    cell: u32,
-) -> Found
+fn of_set(type_count: u32, types: &[u32], count: u32, objects: &[u32], id: u32, cell: u32) -> Found
     requires { ⌜ ObjectsAscend count (now objects) ⌝ }
     ensures { λ r. ⌜ ((rs : List Relationship) (lent : Lent) (ls : List Link) (word : ℕ) → r ≡ foundOf (eventRefusal
         (record { types = typesOf «type_count» (now (types .entry)); relationships = rs }) lent
@@ -456,14 +439,7 @@ fn of_part(
 }
 
 // The first refusal that a special meets.
-fn of_special(
-    type_count: u32,
-    types: &[u32],
-    count: u32,
-    objects: &[u32],
-    id: u32,
-    t: u32,
-) -> Found
+fn of_special(type_count: u32, types: &[u32], count: u32, objects: &[u32], id: u32, t: u32) -> Found
     requires { ⌜ ObjectsAscend count (now objects) ⌝ }
     ensures { λ r. ⌜ ((rs : List Relationship) (lent : Lent) (ls : List Link) → r ≡ foundOf (eventRefusal
         (record { types = typesOf «type_count» (now (types .entry)); relationships = rs }) lent

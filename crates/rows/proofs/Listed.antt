@@ -60,8 +60,8 @@ module _ {A : Type 0} (read read' : ℕ → A) (r count : ℕ) (lower : (i : ℕ
           there q rest =
               let t = below j q in
               let back : T (not (before (key x) (key (read j)))) =
-                  not-T (before (key x) (key (read j)))
-                  (λ u. before-irreflexive (key x) (before-transitive (key x) (key (read j)) (key x) u t)) in
+              not-T (before (key x) (key (read j)))
+              (λ u. before-irreflexive (key x) (before-transitive (key x) (key (read j)) (key x) u t)) in
               cond-no (before (key x) (key (read j))) _ _ back ∙ cond-yes (before (key (read j)) (key x)) _ _ t
               ∙ ap₂ _∷_ (sym (lower j q)) rest
 

@@ -119,15 +119,15 @@ module _ (t : List ℕ) (width at used : ℕ) (words : List ℕ) (h : at ≤ use
   inserted-is =
       let s = spots in
       let long : a + width ≤ length (framed t (zeros width) moved a e) =
-          omega (arith, s .row-used, s .end-is, framed-length t (zeros width) moved a e gap-sum room) in
+      omega (arith, s .row-used, s .end-is, framed-length t (zeros width) moved a e gap-sum room) in
       let front : length (take a t) ≡ a = length-take-le a t (omega (arith, s .row-used, s .end-is)) in
       let back : length (take a t ++ zeros width) ≡ a + width =
-          omega (arith, length-append (take a t) (zeros width), zeros-length width) in
+      omega (arith, length-append (take a t) (zeros width), zeros-length width) in
       let regroup : framed t (zeros width) moved a e ≡ (take a t ++ zeros width) ++ (moved ++ drop e t) = append-assoc (take a t ++ zeros width) moved (drop e t) in
       let taken : take a (framed t (zeros width) moved a e) ≡ take a t =
-          ap (take a) (regroup ∙ append-assoc (take a t) (zeros width) (moved ++ drop e t)) ∙ take-at (take a t) (zeros width ++ (moved ++ drop e t)) a front in
+      ap (take a) (regroup ∙ append-assoc (take a t) (zeros width) (moved ++ drop e t)) ∙ take-at (take a t) (zeros width ++ (moved ++ drop e t)) a front in
       let dropped : drop (a + width) (framed t (zeros width) moved a e) ≡ moved ++ drop e t =
-          ap (drop (a + width)) regroup ∙ drop-at (take a t ++ zeros width) (moved ++ drop e t) (a + width) back in
+      ap (drop (a + width)) regroup ∙ drop-at (take a t ++ zeros width) (moved ++ drop e t) (a + width) back in
       rw (gap, eq-eqb _ _ full, le-leb _ _ long, taken, dropped) (sym (append-assoc (take a t ++ words) moved (drop e t)))
 
   pub inserted-length : length (inserted t width at used words) ≡ length t
