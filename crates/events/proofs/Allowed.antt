@@ -4,20 +4,25 @@ use mathlib.Core.Path.{_≡_, refl, sym, ap, subst, _∙_}
 use mathlib.Core.Bool.{Bool, true, false, _&&_, not, cond}
 use mathlib.Core.List.{List, [], _∷_}
 use mathlib.Core.Option.{Option, none, some, Option·some-ne-none}
+use native.Mathlib.Nat.{le-trans}
 use native.Mathlib.Omega.{arith}
-use lib.Dec.{T, leb, ltb}
-use lib.ListN.{length}
+use lib.Dec.{T, leb, ltb, eqb}
+use lib.ListN.{length, length-map}
 use mir.Facts.{and-yes, T-not, T-not-not, leb-no, ltb-yes}
 use Rattle.meaning.specs.Limits.{maxObjects, maxLinks, cellCount, validId, fitsWord}
 use Rattle.meaning.specs.Schema.{Schema}
-use Rattle.meaning.specs.Register.{Link, Register, present, hasLink}
-use Rattle.meaning.specs.Events.{Event, insert, delete, set, join, part, special, general, Lent, linkOf, Check, _when_, firstMet, knownEvent, checks, eventRefusal}
+use Rattle.meaning.specs.Register.{Link, Register, objectKey, linkKey, present, sameLink, hasLink}
+use Rattle.meaning.specs.Events.{Event, insert, delete, set, join, part, special, general, Lent, linkOf, newObject, withCell, withType, withHigherType, apply, Check, _when_, firstMet, knownEvent, checks, eventRefusal}
+use Rattle.meaning.proofs.Lists.{length-keep}
+use Rattle.meaning.proofs.Order.{length-place}
+use Rattle.meaning.proofs.Registers.{RegisterFits}
+use Rattle.meaning.proofs.Effects.{apply-fits}
 use Rattle.rows.specs.Rows.{readRows}
 use Rattle.tables.specs.Columns.{objectRow, linkRow, registerOf, noEvent}
 use Rattle.schema.proofs.Rows.{length-rows}
 use Rattle.register.specs.Tables.{objectPlace, linkPlace}
 use Rattle.register.proofs.Rows.{place-there}
-use Rattle.events.specs.Effects.{CanInsert, CanChange, CanJoin, CanPart, Can}
+use Rattle.events.specs.Effects.{CanInsert, CanChange, CanJoin, CanPart, Can, Applied}
 use Rattle.events.specs.Steps.{Ready}
 use Rattle.events.proofs.Fields.{no-event-refused}
 use Rattle.events.proofs.Tests.{test-found, link-present, link-absent}
@@ -96,3 +101,51 @@ module _ (S : Schema) (lent : Lent) (n : ℕ) (objects : List ℕ) (m : ℕ) (li
   -- what is no event is refused
   pub some-event : (e : Event) → eventRefusal S lent g e ≡ none → e ≡ noEvent → ⊥
   some-event e ok q = Option·some-ne-none 7 (sym (ap (eventRefusal S lent g) q ∙ no-event-refused S lent g) ∙ ok)
+
+  -- ---- the tables fit after the event
+
+  objects-before : length (readRows (objectRow objects) n) ≤ lent .objects
+  objects-before = omega (arith, length-rows (objectRow objects) n, ready .objects-used)
+
+  links-before : length (readRows (linkRow links) m) ≤ lent .links
+  links-before = omega (arith, length-rows (linkRow links) m, ready .links-used)
+
+  objects-within : (e : Event) → eventRefusal S lent g e ≡ none → length ((apply S e g) .objects) ≤ lent .objects
+  unfolding apply eventRefusal checks
+  objects-within (insert id t) ok =
+      let u = unmet (checks S lent g (insert id t)) ok in
+      let left = room-left maxObjects (lent .objects) (length (readRows (objectRow objects) n)) n (length-rows (objectRow objects) n) (u .1 .1 .0) in
+      omega (arith, left .1, length-rows (objectRow objects) n, length-place objectKey (newObject id t) (readRows (objectRow objects) n))
+  objects-within (delete id) ok = le-trans (length-keep (λ o. not (eqb (o .id) id)) (readRows (objectRow objects) n)) objects-before
+  objects-within (set id k v) ok = rw (length-map (readRows (objectRow objects) n) (λ o. cond (eqb (o .id) id) (withCell k v o) o)) objects-before
+  objects-within (join r a b) ok = objects-before
+  objects-within (part r a b) ok = objects-before
+  objects-within (special id t) ok = rw (length-map (readRows (objectRow objects) n) (λ o. cond (eqb (o .id) id) (withType t o) o)) objects-before
+  objects-within (general id t) ok = rw (length-map (readRows (objectRow objects) n) (λ o. cond (eqb (o .id) id) (withHigherType (S .types) t o) o)) objects-before
+
+  links-within : (e : Event) → eventRefusal S lent g e ≡ none → length ((apply S e g) .links) ≤ lent .links
+  unfolding apply eventRefusal checks
+  links-within (insert id t) ok = links-before
+  links-within (delete id) ok = links-before
+  links-within (set id k v) ok = links-before
+  links-within (join r a b) ok =
+      let u = unmet (checks S lent g (join r a b)) ok in
+      let left = room-left maxLinks (lent .links) (length (readRows (linkRow links) m)) m (length-rows (linkRow links) m) (u .1 .1 .1 .1 .0) in
+      omega (arith, left .1, length-rows (linkRow links) m, length-place linkKey (linkOf r a b) (readRows (linkRow links) m))
+  links-within (part r a b) ok = le-trans (length-keep (λ l. not (sameLink (linkOf r a b) l)) (readRows (linkRow links) m)) links-before
+  links-within (special id t) ok = links-before
+  links-within (general id t) ok = links-before
+
+  -- so the next event meets tables of the same kind
+  pub ready-after : (e : Event) → eventRefusal S lent g e ≡ none → {n′ : ℕ} {objects′ : List ℕ} {m′ : ℕ} {links′ : List ℕ} → Applied S e n objects m links n′ objects′ m′ links′ → Ready S lent n′ objects′ m′ links′
+  ready-after e ok {n′} {objects′} {m′} {links′} a =
+      let objects-now : n′ ≡ length ((apply S e g) .objects) = sym (length-rows (objectRow objects′) n′) ∙ ap (λ h. length (h .objects)) (a .effect) in
+      let links-now : m′ ≡ length ((apply S e g) .links) = sym (length-rows (linkRow links′) m′) ∙ ap (λ h. length (h .links)) (a .effect) in
+      record {
+        types-fit = ready .types-fit;
+        fits = subst (RegisterFits S) (sym (a .effect)) (apply-fits S (ready .types-fit) lent g (ready .fits) e ok);
+        objects-lent = omega (arith, a .objects-length, ready .objects-lent);
+        links-lent = omega (arith, a .links-length, ready .links-lent);
+        objects-used = omega (arith, objects-now, objects-within e ok);
+        links-used = omega (arith, links-now, links-within e ok);
+      }
