@@ -80,8 +80,7 @@ word-requires-4 c κs = search needs
 effect-requires : tie.Need-effect-requires
 effect-requires c κs =
     let words = c .before .before in
-    let s = start words in
-    (
+    let s = start words in (
       subst (tables-can s) (sym (row-event words)) (can (S s) (lent s 0) _ _ _ _ (s .pre) (event s) (unrefused words 0)),
       λ p. some-event (S s) (lent s 0) _ _ _ _ (s .pre) (event s) (unrefused words 0) (sym (row-event words) ∙ p),
     )
