@@ -16,7 +16,7 @@ use Rattle.tables.specs.declared.Found.{Found}
 use Rattle.tables.specs.declared.Found.the-variants.{At}
 
 module _ (S : Schema) (lent : Lent) (g : Register) where
-  no-event-refused : eventRefusal S lent g noEvent ≡ some 7
+  pub no-event-refused : eventRefusal S lent g noEvent ≡ some 7
   unfolding eventRefusal checks firstMet knownEvent validId
   no-event-refused = refl
 

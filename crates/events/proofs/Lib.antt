@@ -1,7 +1,9 @@
 -- Laws behind the events.
 --   Applied   the register's tables after an event
 --   Tests     what the code's tests say of the register
---   Fields    rows of the table of events that are no event
+--   Fields    rows of the table of events, and those that are no event
+--   Allowed   what an event that is not refused can do
 pub mod Applied
 pub mod Tests
 pub mod Fields
+pub mod Allowed

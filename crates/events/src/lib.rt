@@ -1,12 +1,90 @@
-// Document 01's events on the register's tables: the refusals of one event, and its effect.
+// Document 01's events on the register's tables: the refusals of one event, its effect, and both as one step.
 mod effects;
 mod refusals;
 
 pub use effects::effect;
 pub use refusals::refusal;
+use tables::Found;
+ghost use Prim.Native.Nat.{ℕ};
+ghost use Rattle.tables.specs.Columns.{schemaOf, eventRow};
+ghost use Rattle.events.specs.Steps.{Ready, StepDone};
 
 // How many rows of the register's tables are used.
 pub struct Held {
     pub objects: u32,
     pub links: u32,
+}
+
+// The refusal that an event met, if it met one, and the used rows after it.
+pub struct Stepped {
+    pub refused: Found,
+    pub held: Held,
+}
+
+// One event on the register's tables: its refusal, or its effect.
+pub fn step(
+    type_count: u32,
+    types: &[u32],
+    relationship_count: u32,
+    relationships: &[u32],
+    objects_lent: usize,
+    links_lent: usize,
+    held: Held,
+    objects: &mut [u32],
+    links: &mut [u32],
+    events: &[u32],
+    row: u32,
+) -> Stepped
+    requires { ⌜ Ready (schemaOf «type_count» (now types) «relationship_count» (now relationships))
+        (record { objects = «objects_lent»; links = «links_lent»; words = 0 })
+        (held .objects) (now objects) (held .links) (now links) ⌝ }
+    ensures { λ r. ⌜ ((w : ℕ) →
+        StepDone (schemaOf «type_count» (now (types .entry)) «relationship_count» (now (relationships .entry)))
+        (record { objects = «objects_lent»; links = «links_lent»; words = w }) (eventRow (now (events .entry)) row)
+        (held .objects) (now (objects .entry)) (held .links) (now (links .entry))
+        (r .refused) (r .held .objects) (now (objects .exit)) (r .held .links) (now (links .exit))) ⌝ }
+{
+    let object_count = held.objects;
+    let link_count = held.links;
+    match refusal(
+        type_count,
+        types,
+        relationship_count,
+        relationships,
+        objects_lent,
+        links_lent,
+        object_count,
+        &*objects,
+        link_count,
+        &*links,
+        events,
+        row,
+    ) {
+        Found::At(number) => Stepped {
+            refused: Found::At(number),
+            held: held,
+        },
+        Found::Nothing => {
+            let kind = rows::word(events, 4, row, 0);
+            let x = rows::word(events, 4, row, 1);
+            let y = rows::word(events, 4, row, 2);
+            let z = rows::word(events, 4, row, 3);
+            let after = effect(
+                type_count,
+                types,
+                object_count,
+                &mut *objects,
+                link_count,
+                &mut *links,
+                kind,
+                x,
+                y,
+                z,
+            );
+            Stepped {
+                refused: Found::Nothing,
+                held: after,
+            }
+        }
+    }
 }
