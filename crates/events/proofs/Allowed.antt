@@ -14,7 +14,7 @@ use Rattle.meaning.specs.Schema.{Schema}
 use Rattle.meaning.specs.Register.{Link, Register, objectKey, linkKey, present, sameLink, hasLink}
 use Rattle.meaning.specs.Events.{Event, insert, delete, set, join, part, special, general, Lent, linkOf, newObject, withCell, withType, withHigherType, apply, Check, _when_, firstMet, knownEvent, checks, eventRefusal}
 use Rattle.meaning.proofs.Lists.{length-keep}
-use Rattle.meaning.proofs.Order.{length-place}
+use Rattle.meaning.proofs.Order.{length-put}
 use Rattle.meaning.proofs.Registers.{RegisterFits}
 use Rattle.meaning.proofs.Effects.{apply-fits}
 use Rattle.rows.specs.Rows.{readRows}
@@ -115,7 +115,7 @@ module _ (S : Schema) (lent : Lent) (n : ℕ) (objects : List ℕ) (m : ℕ) (li
   objects-within (insert id t) ok =
       let u = unmet (checks S lent g (insert id t)) ok in
       let left = room-left maxObjects (lent .objects) (length (readRows (objectRow objects) n)) n (length-rows (objectRow objects) n) (u .1 .1 .0) in
-      omega (arith, left .1, length-rows (objectRow objects) n, length-place objectKey (newObject id t) (readRows (objectRow objects) n))
+      omega (arith, left .1, length-rows (objectRow objects) n, length-put objectKey (newObject id t) (readRows (objectRow objects) n))
   objects-within (delete id) ok = le-trans (length-keep (λ o. not (eqb (o .id) id)) (readRows (objectRow objects) n)) objects-before
   objects-within (set id k v) ok = rw (length-map (readRows (objectRow objects) n) (λ o. cond (eqb (o .id) id) (withCell k v o) o)) objects-before
   objects-within (join r a b) ok = objects-before
@@ -131,7 +131,7 @@ module _ (S : Schema) (lent : Lent) (n : ℕ) (objects : List ℕ) (m : ℕ) (li
   links-within (join r a b) ok =
       let u = unmet (checks S lent g (join r a b)) ok in
       let left = room-left maxLinks (lent .links) (length (readRows (linkRow links) m)) m (length-rows (linkRow links) m) (u .1 .1 .1 .1 .0) in
-      omega (arith, left .1, length-rows (linkRow links) m, length-place linkKey (linkOf r a b) (readRows (linkRow links) m))
+      omega (arith, left .1, length-rows (linkRow links) m, length-put linkKey (linkOf r a b) (readRows (linkRow links) m))
   links-within (part r a b) ok = le-trans (length-keep (λ l. not (sameLink (linkOf r a b) l)) (readRows (linkRow links) m)) links-before
   links-within (special id t) ok = links-before
   links-within (general id t) ok = links-before
