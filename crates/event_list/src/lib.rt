@@ -1,0 +1,2 @@
+// The event list of a rule: document 01's reach rules without objects.
+mod mark;
