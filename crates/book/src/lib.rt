@@ -2,7 +2,7 @@
 use tables::Found;
 
 pub mod body;
-mod typing;
+pub mod typing;
 
 use typing::Place;
 ghost use mathlib.Core.Path.{_≡_};

@@ -39,7 +39,7 @@ pub struct Place {
 }
 
 // The type of a collection's members.
-fn member_type(relationships: &[u32], bodies: &[u32], starts: &[u32; 65], at: Place) -> u32
+pub fn member_type(relationships: &[u32], bodies: &[u32], starts: &[u32; 65], at: Place) -> u32
     requires { ⌜ (Starts (bodyOf (now bodies) (at .rule)) (now starts) (at .end)) × T (reads collection (ending (bodyOf (now bodies) (at .rule)) (at .end))) ⌝ }
     ensures { λ r. ⌜ r ≡ memberOf (relationshipsOf (at .relationships) (now (relationships .entry))) ((ending (bodyOf (now (bodies .entry)) (at .rule)) (at .end)) .form) ⌝ }
 {

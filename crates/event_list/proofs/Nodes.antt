@@ -23,7 +23,7 @@ use Rattle.book.specs.Marks.{firstSort, secondSort}
 use Rattle.book.specs.Types.{memberOf}
 use Rattle.book.proofs.Types.{operatorHere, partsHere}
 use Rattle.event_list.specs.Marks.{wordsAt, marked}
-use Rattle.event_list.specs.Lists.{partLists, markedBy, partMarks, leafLists}
+use Rattle.event_list.specs.Lists.{partLists, markedBy, partMarks, leafLists, sumMarks}
 use Rattle.event_list.proofs.Marks.{none-listed}
 
 module _ (place : ℕ) where
@@ -56,10 +56,6 @@ module _ (place : ℕ) where
     by-parts : (p q : Passing) (listed others : Direction → List EventType) → (markedBy (passed p set) listed place || markedBy (passed q set) others place) ≡ markedBy set (λ d. through _++_ p listed d ++ through _++_ q others d) place
     by-parts p q listed others = ap₂ _||_ (by-part p listed) (by-part q others) ∙ by-two (through _++_ p listed) (through _++_ q others)
 
--- a sum lists the sets of its members' cell besides; what is no sum lists nothing besides
-abbrev pub sumMarks : Schema → ℕ → ℕ → ℕ → ℕ → Part → Bool
-sumMarks S set place code x b = cond (eqb code 17) (markedBy set (λ d. setOf (memberOf (S .relationships) b) x ∷ []) place) false
-
 -- the variables' types in the second part, with one more where the first is a collection
 abbrev pub inner : Schema → List ℕ → ℕ → Part → List ℕ
 inner S ts first a = cond (eqb first 2) (bind ts (memberOf (S .relationships) a)) ts
@@ -72,7 +68,7 @@ module _ (S : Schema) (ts : List ℕ) (set place : ℕ) where
   abbrev pub nodeMarks : List Sort → Operator → ℕ → BodyRow → Part → Part → Bool
   nodeMarks parts o code r a b =
       cond (eqb (secondSort parts) 3) (markedBy set (leafLists S ts code (r .x) (r .y)) place)
-      (cond (eqb (firstSort parts) 3) (sumMarks S set place code (r .x) b || partMarks S b ts (passTo set o 1) place)
+      (cond (eqb (firstSort parts) 3) (sumMarks (S .relationships) set place code (r .x) b || partMarks S b ts (passTo set o 1) place)
       (partMarks S a ts (passTo set o 0) place || partMarks S b (inner S ts (firstSort parts) a) (passTo set o 1) place))
 
   module _ (small : set < 4) where
@@ -145,7 +141,7 @@ module _ (rows : ℕ → BodyRow) (i : ℕ) (sound : T ((ending rows (suc i)) .s
   leaf-here e = simp (eq-eqb (secondSort sorts) 3 e) at marks-here
 
   module _ (n : secondSort sorts ≡ 3 → ⊥) where
-    pub one-here : firstSort sorts ≡ 3 → (sumMarks S set place ((rows i) .code) ((rows i) .x) b || partMarks S b ts (passTo set op 1) place) ≡ partMarks S ((ending rows (suc i)) .form) ts set place
+    pub one-here : firstSort sorts ≡ 3 → (sumMarks (S .relationships) set place ((rows i) .code) ((rows i) .x) b || partMarks S b ts (passTo set op 1) place) ≡ partMarks S ((ending rows (suc i)) .form) ts set place
     one-here e = simp (ne-eqb (secondSort sorts) 3 n, eq-eqb (firstSort sorts) 3 e) at marks-here
 
     pub two-here : (firstSort sorts ≡ 3 → ⊥) → (partMarks S a ts (passTo set op 0) place || partMarks S b (inner S ts (firstSort sorts) a) (passTo set op 1) place) ≡ partMarks S ((ending rows (suc i)) .form) ts set place

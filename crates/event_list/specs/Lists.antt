@@ -3,12 +3,13 @@ use Prim.Native.Nat.{ℕ}
 use mathlib.Core.Bool.{Bool, true, false, cond}
 use mathlib.Core.List.{List, [], _∷_}
 use lib.Dec.{eqb}
-use Rattle.meaning.specs.Schema.{Schema}
+use Rattle.meaning.specs.Schema.{Relationship, Schema}
 use Rattle.meaning.specs.Forms.{variable}
 use Rattle.meaning.specs.Reach.{Direction}
 use Rattle.meaning.specs.EventList.{EventType, setOf, roleLists, allLists, kindLists, lists}
 use Rattle.tables.specs.Bodies.{Part, part}
 use Rattle.directions.specs.Sets.{someOf}
+use Rattle.book.specs.Types.{memberOf}
 use Rattle.event_list.specs.Marks.{marked}
 
 -- of a form of any sort
@@ -34,3 +35,7 @@ leafLists S ts code x y d =
     (cond (eqb code 21) (typeLists S true x d)
     (cond (eqb code 20) (roleLists y d)
     (cond (eqb code 15) (setOf (variable ts x) y ∷ []) [])))
+
+-- a sum lists the sets of its members' cell besides; what is no sum lists nothing besides
+abbrev pub sumMarks : List Relationship → ℕ → ℕ → ℕ → ℕ → Part → Bool
+sumMarks relationships set place code x b = cond (eqb code 17) (markedBy set (λ d. setOf (memberOf relationships b) x ∷ []) place) false

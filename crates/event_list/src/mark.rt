@@ -70,7 +70,15 @@ fn both(a: bool, b: bool) -> bool
 
 // Marks what brings an object into a type, or takes one out, if it is listed: the one kind for a whole object, the other for one that
 // changes its type, where the type has a parent.
-fn put_type(listed: bool, whole: bool, parent: bool, coming: u32, changing: u32, t: u32, marks: &mut [bool])
+fn put_type(
+    listed: bool,
+    whole: bool,
+    parent: bool,
+    coming: u32,
+    changing: u32,
+    t: u32,
+    marks: &mut [bool],
+)
     requires { ⌜ (length (now marks) ≡ places) × (coming < 7) × (changing < 7) ⌝ }
     ensures { λ _. ⌜ Added (now (marks .entry)) (now (marks .exit)) (λ place.
         listed && ((whole && sameList (coming ∷ t ∷ 0 ∷ []) (wordsAt place)) || (parent && sameList (changing ∷ t ∷ 0 ∷ []) (wordsAt place)))) ⌝ }
@@ -86,8 +94,24 @@ fn put_members(type_count: u32, types: &[u32], whole: bool, t: u32, set: u32, ma
         (markedBy set (typeLists (record { types = typesOf «type_count» (now (types .entry)); relationships = rs }) whole t))) ⌝ }
 {
     let parent = schema::has_parent(type_count, types, t);
-    put_type(directions::contains(set, UP), whole, parent, INSERT, SPECIAL, t, marks);
-    put_type(directions::contains(set, DOWN), whole, parent, DELETE, GENERAL, t, marks);
+    put_type(
+        directions::contains(set, UP),
+        whole,
+        parent,
+        INSERT,
+        SPECIAL,
+        t,
+        marks,
+    );
+    put_type(
+        directions::contains(set, DOWN),
+        whole,
+        parent,
+        DELETE,
+        GENERAL,
+        t,
+        marks,
+    );
 }
 
 // Marks what moves a role.
