@@ -51,7 +51,7 @@ fn faulty(
         end: n,
         depth: 1,
     };
-    !typing::typed(types, relationships, bodies, &starts, &env, form)
+    !typing::typed(types, relationships, bodies, &starts, &mut env, form)
 }
 
 // The first faulty rule.
