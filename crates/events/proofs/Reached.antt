@@ -133,17 +133,22 @@ module _ (S : Schema) (lent : Lent) (start : Register) (read : ℕ → Event) (c
     next : row < count → eventsFrom row ≡ read row ∷ eventsFrom (suc row)
     next h = let e : count - row ≡ suc (count - suc row) = omega arith in ap (rowsFrom read row) e
 
-    pub reached-refused : row < count → {number : ℕ} → eventRefusal S lent here (read row) ≡ some number
-        → batchRefusal S lent start (readRows read count) ≡ some (record { number = number; place = row })
+    -- so the batch's refusal is this event's, if it meets one
+    by-this : row < count → {o : Option ℕ} → eventRefusal S lent here (read row) ≡ o → batchRefusal S lent start (readRows read count)
+        ≡ firstOf (Option·map (λ k. record { number = k; place = row }) o) (refusalFrom S lent (suc row) (apply S (read row) here) (eventsFrom (suc row)))
     unfolding refusalFrom
-    reached-refused h e =
+    by-this h e =
         r .refusal-left ∙ ap (refusalFrom S lent row here) (next h)
         ∙ ap (λ o. firstOf (Option·map (λ k. record { number = k; place = row }) o) (refusalFrom S lent (suc row) (apply S (read row) here) (eventsFrom (suc row)))) e
+
+    pub reached-refused : row < count → {number : ℕ} → eventRefusal S lent here (read row) ≡ some number
+        → batchRefusal S lent start (readRows read count) ≡ some (record { number = number; place = row })
+    reached-refused h e = by-this h e
 
     -- past an event that has its effect
     pub reached-more : row < count → eventRefusal S lent here (read row) ≡ none → {n′ : ℕ} {objects′ : List ℕ} {m′ : ℕ} {links′ : List ℕ} → Applied S (read row) n objects m links n′ objects′ m′ links′
         → {seen : ℕ} → seen ≡ metType here (read row) → Reached (row + 1) n′ objects′ m′ links′ (replaceAt met row seen)
-    unfolding refusalFrom after stepsOf
+    unfolding after stepsOf
     reached-more h ok {n′} {objects′} {m′} {links′} a {seen} q =
         rw (add-one row)
         (record {
@@ -151,10 +156,7 @@ module _ (S : Schema) (lent : Lent) (start : Register) (read : ℕ → Event) (c
           within = h;
           fit = fit-after S lent n objects m links (r .fit) (read row) ok a;
           met-length = length-set met row seen ∙ r .met-length;
-          refusal-left =
-              r .refusal-left ∙ ap (refusalFrom S lent row here) (next h)
-              ∙ ap (λ o. firstOf (Option·map (λ k. record { number = k; place = row }) o) (refusalFrom S lent (suc row) (apply S (read row) here) (eventsFrom (suc row)))) ok
-              ∙ ap (λ g. refusalFrom S lent (suc row) g (eventsFrom (suc row))) (sym (a .effect));
+          refusal-left = by-this h ok ∙ ap (λ g. refusalFrom S lent (suc row) g (eventsFrom (suc row))) (sym (a .effect));
           end-left =
               r .end-left ∙ ap (after S here) (next h) ∙ ap (λ g. after S g (eventsFrom (suc row))) (sym (a .effect));
           met-left =

@@ -73,7 +73,8 @@ pub record RunLeft (S : Schema) (lent : Lent) (g : Register) (es : List Event) (
   pub fit : Fit S lent n objects m links
   pub met-types : take (length es) met ≡ map metBy (stepsOf S g es)
 
--- A run of the events es from register g: the first refusal, "its refusals are met there"; where none is met, what the batch leaves.
+-- A run of the events es from register g: the first refusal, "its refusals are met there"; where none is met, what the batch leaves. Where one is met, the
+-- tables worked on are the scratch, "whose contents after a call are never stated", and the counts and met types say nothing.
 pub record RunDone (S : Schema) (lent : Lent) (g : Register) (es : List Event) (ran : Ran) (objects links : List ℕ) : Type 0 where
   pub verdict-is : ran .verdict ≡ verdictOf (batchRefusal S lent g es)
   pub left : ran .verdict ≡ Clear → RunLeft S lent g es (ran .held .objects) objects (ran .held .links) links (ran .met)
