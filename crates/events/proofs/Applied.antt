@@ -41,13 +41,13 @@ object-parts : (t : List ℕ) (i : ℕ) (o : Object) → wordAt t 10 i 0 ≡ o .
 unfolding objectRow
 object-parts t i o e f g = λ z. record { id = e z; type = f z; cells = g z }
 
-object-by-words : ByWords 10 objectRow
+pub object-by-words : ByWords 10 objectRow
 unfolding objectRow
 object-by-words t u i j same =
     object-parts t i (objectRow u j) (same 0 (omega arith)) (same 1 (omega arith))
     (rows-same (λ k. signed (wordAt u 10 j (2 + k))) (λ k. signed (wordAt t 10 i (2 + k))) 0 cellCount (λ k l h. ap signed (same (2 + k) (omega arith))))
 
-link-by-words : ByWords 3 linkRow
+pub link-by-words : ByWords 3 linkRow
 unfolding linkRow
 link-by-words t u i j same =
     λ z. linkOf (same 0 (omega arith) z) (same 1 (omega arith) z) (same 2 (omega arith) z)

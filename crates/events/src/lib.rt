@@ -1,10 +1,13 @@
-// Document 01's events on the register's tables: the refusals of one event, its effect, and both as one step.
+// Document 01's events on the register's tables: the refusals of one event, its effect, both as one step, and the run of a batch.
 mod effects;
 mod refusals;
+mod runs;
 
 pub use effects::effect;
 pub use refusals::refusal;
+pub use runs::run;
 use tables::Found;
+use tables::Verdict;
 ghost use Prim.Native.Nat.{ℕ};
 ghost use Rattle.tables.specs.Columns.{schemaOf, eventRow};
 ghost use Rattle.events.specs.Steps.{Ready, StepDone};
@@ -19,6 +22,14 @@ pub struct Held {
 pub struct Stepped {
     pub refused: Found,
     pub held: Held,
+}
+
+// The refusal that a batch met with its event's number, if it met one; else the used rows after it, and for each event the type that its object had when
+// the event came, 32 for none.
+pub struct Ran {
+    pub verdict: Verdict,
+    pub held: Held,
+    pub met: [u32; 256],
 }
 
 // One event on the register's tables: its refusal, or its effect.
