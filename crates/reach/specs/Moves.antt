@@ -1,0 +1,19 @@
+-- Document 01, "Reach rules", of the form that ends before row e of a rule's body, at the ids of the variables' rows: whether some direction of a set
+-- moves it.
+use Prim.Native.Nat.{ℕ}
+use mathlib.Core.Bool.{Bool}
+use mathlib.Core.List.{List}
+use Rattle.meaning.specs.Reach.{Change, Direction, moves}
+use Rattle.tables.specs.Bodies.{Part, part}
+use Rattle.directions.specs.Sets.{someOf}
+use Rattle.ocl.specs.Site.{Site, formAt, idsOf}
+
+-- a form of any sort moves in a direction
+unfoldable pub partMoves : Change → Part → List ℕ → Direction → Bool
+partMoves c (part s f) ids d = moves c f ids d
+
+abbrev pub movedBy : Change → Part → List ℕ → ℕ → Bool
+movedBy c p ids set = someOf set (partMoves c p ids)
+
+unfoldable pub movesAt : Change → Site → ℕ → List ℕ → ℕ → ℕ → Bool
+movesAt c w e vars depth set = movedBy c (formAt w e) (idsOf w depth vars) set
