@@ -16,11 +16,11 @@ use Rattle.meaning.specs.Limits.{maxTypes, maxObjects, maxEvents}
 use Rattle.meaning.specs.Register.{hasLink}
 use Rattle.meaning.specs.Events.{Event, insert, delete, set, join, part, special, general, linkOf}
 use Rattle.meaning.specs.Reach.{Step, Change, Direction, allMoves}
-use Rattle.tables.specs.Columns.{eventRow, eventsOf}
-use Rattle.register.specs.Tables.{objectPlace}
+use Rattle.tables.specs.Columns.{typesOf, registerOf, eventRow, eventsOf}
+use Rattle.tables.specs.declared.Counts.{Counts}
+use Rattle.register.specs.Tables.{ObjectsAscend, objectPlace}
 use Rattle.register.specs.Chains.{Chained}
 use Rattle.events.specs.Runs.{metBy}
-use Rattle.ocl.specs.Site.{Site, typesAt, registerAt}
 use Rattle.directions.specs.Sets.{has}
 
 -- the id that an event names at its first place (0) and at its second
@@ -51,14 +51,14 @@ rowNamed n objects none = maxObjects
 rowNamed n objects (some id) = orPast (objectPlace n objects id)
 
 -- the row that a place names
-abbrev pub placeRow : Site → List ℕ → ℕ → ℕ
-placeRow w events p = rowNamed (w .counts .objects) (w .objects) (namedAt (eventRow events (p / 2)) (p % 2))
+abbrev pub placeRow : ℕ → List ℕ → List ℕ → ℕ → ℕ
+placeRow n objects events p = rowNamed n objects (namedAt (eventRow events (p / 2)) (p % 2))
 
 -- The batch c as the code has it: it ends in the register of the tables, its events are the first rows of their table, and each met the type that is kept.
-pub record Seen (c : Change) (w : Site) (count : ℕ) (events : List ℕ) (met : ℕ → ℕ) : Type 0 where
+pub record Seen (c : Change) (n : Counts) (types objects links : List ℕ) (count : ℕ) (events : List ℕ) (met : ℕ → ℕ) : Type 0 where
   pub few : count ≤ maxEvents
-  pub types-are : c .schema .types ≡ typesAt w
-  pub end-is : c .end ≡ registerAt w
+  pub types-are : c .schema .types ≡ typesOf (n .types) types
+  pub end-is : c .end ≡ registerOf (n .objects) objects (n .links) links
   pub events-are : map (λ (s : Step). s .event) (c .steps) ≡ eventsOf count events
   pub met-is : (i : ℕ) (s : Step) → getElem? (c .steps) i ≡ some s → met i ≡ metBy s
 
@@ -83,14 +83,16 @@ abbrev pub itself : ℕ → ℕ
 itself p = p
 
 -- the table is that of the batch
-pub record Traced (c : Change) (w : Site) (count : ℕ) (events trace : List ℕ) : Type 0 where
-  pub seen : Seen c w count events (metWord trace)
-  pub row-is : (p : ℕ) → p < 2 * count → getD trace p 0 ≡ placeRow w events p
-  pub chained : Chained itself (placeRow w events) (2 * count) (nextPlace trace) (firstPlace trace) 0
+pub record Traced (c : Change) (n : Counts) (types objects links : List ℕ) (count : ℕ) (events trace : List ℕ) : Type 0 where
+  pub seen : Seen c n types objects links count events (metWord trace)
+  pub ascends : ObjectsAscend (n .objects) objects
+  pub objects-few : n .objects ≤ maxObjects
+  pub row-is : (p : ℕ) → p < 2 * count → getD trace p 0 ≡ placeRow (n .objects) objects events p
+  pub chained : Chained itself (placeRow (n .objects) objects events) (2 * count) (nextPlace trace) (firstPlace trace) 0
   pub there-is : (i : ℕ) → i < count → (r a b : ℕ) → eventRow events i ≡ join r a b → eqb (thereWord trace i) 1 ≡ hasLink (c .end) (linkOf r a b)
   pub all-is : (t : ℕ) → t < maxTypes → (d : Direction) → has (allSet trace t) d ≡ allMoves c t d
   pub all-small : (t : ℕ) → t < maxTypes → allSet trace t < 4
 
 -- it is that of some batch
-abbrev pub Traces : Site → ℕ → List ℕ → List ℕ → Type 0
-Traces w count events trace = (c : Change) × Traced c w count events trace
+abbrev pub Traces : Counts → List ℕ → List ℕ → List ℕ → ℕ → List ℕ → List ℕ → Type 0
+Traces n types objects links count events trace = (c : Change) × Traced c n types objects links count events trace
