@@ -1,5 +1,6 @@
 // Which way a movement passes from a part to its form: one table, and nothing else says a direction.
 ghost use mathlib.Core.Path.{_≡_};
+ghost use mathlib.Core.Bool.{_&&_};
 ghost use mathlib.Core.Option.{some};
 ghost use Prim.Native.Nat.{_+_, _*_, _<_};
 ghost use lib.ListN.{getD};
@@ -53,6 +54,17 @@ pub fn contains(set: u32, direction: u32) -> bool
         return true;
     }
     set == 3
+}
+
+// Whether a direction is in both of two sets.
+pub fn shared(a: u32, b: u32, direction: u32) -> bool
+    ensures { λ r. ⌜ r ≡ (holdsOne a direction && holdsOne b direction) ⌝ }
+{
+    if contains(a, direction) {
+        contains(b, direction)
+    } else {
+        false
+    }
 }
 
 // The directions of a part that move its form in a direction of the set.

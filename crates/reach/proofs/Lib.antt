@@ -3,3 +3,5 @@
 --   Abilities   the parts of a form are able where the form is
 pub mod Abilities
 pub mod Nodes
+pub mod Leaves
+pub mod Members

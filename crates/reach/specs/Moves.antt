@@ -4,7 +4,8 @@ use Prim.Native.Nat.{ℕ}
 use mathlib.Core.Bool.{Bool, false, cond}
 use mathlib.Core.List.{List}
 use lib.Dec.{eqb}
-use Rattle.meaning.specs.Forms.{variable}
+use Rattle.meaning.specs.Lists.{any}
+use Rattle.meaning.specs.Forms.{bind, variable}
 use Rattle.meaning.specs.Reach.{Change, Direction, roleMoves, allMoves, cellMoves, kindMoves, moves}
 use Rattle.tables.specs.Bodies.{Part, part}
 use Rattle.directions.specs.Sets.{someOf}
@@ -27,3 +28,7 @@ leafMoves c ids code x y d =
 
 unfoldable pub movesAt : Change → Site → ℕ → List ℕ → ℕ → ℕ → Bool
 movesAt c w e vars depth set = movedBy c (formAt w e) (idsOf w depth vars) set
+
+-- the form that ends before row e moves at a member of a collection, by the members' ids
+abbrev pub movesOver : Change → Site → ℕ → List ℕ → ℕ → List ℕ → ℕ → Bool
+movesOver c w e vars depth members set = any (λ m. movedBy c (formAt w e) (bind (idsOf w depth vars) m) set) members
