@@ -7,23 +7,24 @@ use mathlib.Core.List.{List, [], _∷_}
 use mathlib.Core.Option.{some}
 use native.Mathlib.Nat.{eq-or-lt-of-le}
 use native.Mathlib.Omega.{arith}
-use lib.Dec.{T}
+use lib.Dec.{T, leb}
 use lib.ListN.{length, getD, set, length-set, length-append}
 use lib.Seq.{getD-set-same, getD-set-other}
-use mir.Facts.{and-yes}
+use mir.Facts.{and-yes, ltb-yes}
+use borrow.Author.Tests.{eq-eqb, ne-eqb, eqb-false, leb-false}
 use Rattle.meaning.specs.Limits.{maxRelationships}
-use Rattle.meaning.specs.Schema.{Schema}
+use Rattle.meaning.specs.Schema.{Schema, knownType}
 use Rattle.meaning.specs.Forms.{Sort, truth, number, collection, bind}
-use Rattle.tables.specs.Codes.{Operator, operatorOf}
+use Rattle.tables.specs.Codes.{Operator, comparing, negating, connecting, quantifying, kindOf, literal, cellOf, sizeOf, sumOf, combining, roleOf, allOf, selecting, operatorOf, codeOf, shapeOf}
 use Rattle.tables.specs.Bodies.{Part, part, sortOf, sameSort, asTruth, asNumber, asCollection, reads, ending, firstPart, secondPart}
-use Rattle.tables.proofs.Readings.{ending-start, sound-pos}
+use Rattle.tables.proofs.Readings.{ending-start, sound-pos, code-of}
 use Rattle.book.specs.Marks.{firstSort, secondSort}
-use Rattle.book.specs.Types.{typedPart, memberOf, summed}
-use Rattle.book.proofs.Types.{operatorHere, partsHere, coded-here, second-here, first-here, binds-here, one-here, plain-here, bound-here, fails-here}
+use Rattle.book.specs.Types.{typedPart, memberOf, summed, typedLeaf}
+use Rattle.book.proofs.Types.{operatorHere, partsHere, coded-here, second-here, first-here, binds-here, leaf-here, one-here, plain-here, bound-here, fails-here}
 use Rattle.ocl.specs.Site.{Site, rowsAt, formAt, codeAt}
 use Rattle.ocl.specs.Ready.{scopedAs, Ready}
 use Rattle.ocl.proofs.Scopes.{in-scope}
-use Rattle.reach.specs.Able.{Able}
+use Rattle.reach.specs.Able.{Able, LeafAble, OverAble}
 
 -- a well-typed form names bound variables
 scoped-part : (S : Schema) → length (S .relationships) ≤ maxRelationships → (ts : List ℕ) (u : Sort) (p : Part) → T (sameSort u (sortOf p)) → T (typedPart S ts p) → T (scopedAs u (length ts) p)
@@ -37,6 +38,36 @@ scoped-part S few ts number (part collection f) h t = absurd h
 scoped-part S few ts collection (part truth f) h t = absurd h
 scoped-part S few ts collection (part number f) h t = absurd h
 scoped-part S few ts collection (part collection f) h t = in-scope S few ts f t
+
+-- the codes of rows without parts
+leaf-codes : (o : Operator) → secondSort ((shapeOf o) .parts) ≡ 3 → (codeOf o ≡ 14 → ⊥) → (codeOf o ≡ 15 → ⊥) → (codeOf o ≡ 20 → ⊥) → (codeOf o ≡ 21 → ⊥) → codeOf o ≡ 13
+unfolding shapeOf codeOf
+leaf-codes (comparing o) h a b c d = absurd (eqb-false 1 3 refl h)
+leaf-codes negating h a b c d = absurd (eqb-false 0 3 refl h)
+leaf-codes (connecting o) h a b c d = absurd (eqb-false 0 3 refl h)
+leaf-codes (quantifying q) h a b c d = absurd (eqb-false 0 3 refl h)
+leaf-codes kindOf h a b c d = refl
+leaf-codes literal h a b c d = absurd (a refl)
+leaf-codes cellOf h a b c d = absurd (b refl)
+leaf-codes sizeOf h a b c d = absurd (eqb-false 2 3 refl h)
+leaf-codes sumOf h a b c d = absurd (eqb-false 2 3 refl h)
+leaf-codes (combining o) h a b c d = absurd (eqb-false 1 3 refl h)
+leaf-codes roleOf h a b c d = absurd (c refl)
+leaf-codes allOf h a b c d = absurd (d refl)
+leaf-codes selecting h a b c d = absurd (eqb-false 0 3 refl h)
+
+-- what a well-typed row without parts names
+leaf-known : (S : Schema) (ts : List ℕ) (code x y : ℕ) → T (typedLeaf S ts code x y) → code ≡ 21 → x < length (S .types)
+unfolding typedLeaf knownType
+leaf-known S ts code x y t e = ltb-yes (simp (eq-eqb code 21 e, ne-eqb code 14 (λ q. eqb-false 21 14 refl (sym e ∙ q))) at t)
+
+leaf-bound : (S : Schema) (ts : List ℕ) (code x y : ℕ) → T (typedLeaf S ts code x y) → (code ≡ 14 → ⊥) → (code ≡ 21 → ⊥) → x < length ts
+unfolding typedLeaf
+leaf-bound S ts code x y t a b = step (leb (length ts) x) refl
+  where
+    step : (b : Bool) → leb (length ts) x ≡ b → x < length ts
+    step true q = absurd (simp (ne-eqb code 14 a, ne-eqb code 21 b, q) at t)
+    step false q = leb-false (length ts) x q
 
 cond-first : (a b : Bool) → T (cond a b false) → T a × T b
 cond-first true b t = (tt, t)
@@ -106,6 +137,21 @@ module _ {S : Schema} {w : Site} {starts : List ℕ} {e : ℕ} {vars : List ℕ}
   middle-is : getD starts (e - 1) 0 ≡ (ending (rowsAt w) (e - 1)) .start
   middle-is = able .right (e - 1) (omega arith)
 
+  pub leaf-able : secondSort sorts ≡ 3 → LeafAble (w .counts .objects) vars depth (codeAt w e) ((rowsAt w (e - 1)) .x)
+  leaf-able h =
+      let r = rowsAt w (e - 1) in
+      let leaf = subst T (sym (leaf-here (rowsAt w) (e - 1) last-sound S (able .scope) h)) typed-last in
+      let is = code-of (codeAt w e) op coded in
+      let past = positive in
+      record {
+        held = able .held;
+        shallow = omega (arith, able .room);
+        there = able .there;
+        codes = λ a b c d. sym is ∙ leaf-codes op h (λ q. a (sym is ∙ q)) (λ q. b (sym is ∙ q)) (λ q. c (sym is ∙ q)) (λ q. d (sym is ∙ q));
+        known = λ q. omega (arith, leaf-known S (able .scope) (codeAt w e) (r .x) (r .y) leaf q, able .types-few);
+        bound = λ a b. subst (λ d. r .x < d) (able .scope-long) (leaf-bound S (able .scope) (codeAt w e) (r .x) (r .y) leaf a b);
+      }
+
   module _ (n : secondSort sorts ≡ 3 → ⊥) where
     second-sound : T ((ending (rowsAt w) (e - 1)) .sound)
     second-sound = second-here (rowsAt w) (e - 1) last-sound n
@@ -167,21 +213,30 @@ module _ {S : Schema} {w : Site} {starts : List ℕ} {e : ℕ} {vars : List ℕ}
             let h = positive in
             let member = memberOf (S .relationships) first-form in
             subst (λ k. Able S w starts (e - 1) k (depth + 1)) (sym q) (
-                record {
-                  steady = able .steady;
-                  indexed = able .indexed;
-                  words = able .words;
-                  types-are = able .types-are;
-                  types-few = able .types-few;
-                  relationships-few = able .relationships-few;
-                  few = omega (arith, able .few);
-                  room = omega (arith, able .room);
-                  held = length-set vars depth row ∙ able .held;
-                  there = inner-there there;
-                  right = λ j k. able .right j (omega arith);
-                  sound = second-sound;
-                  scope = bind (able .scope) member;
-                  scope-long = omega (arith, length-append (able .scope) (member ∷ []), able .scope-long);
-                  typed = cond-first (typedPart S (able .scope) first-form) (typedPart S (bind (able .scope) member) (formAt w (e - 1)))
-                      (subst T (sym (bound-here (rowsAt w) (e - 1) last-sound S (able .scope) n m b)) typed-last) .1;
-                })
+            record {
+              steady = able .steady;
+              indexed = able .indexed;
+              words = able .words;
+              types-are = able .types-are;
+              types-few = able .types-few;
+              relationships-few = able .relationships-few;
+              few = omega (arith, able .few);
+              room = omega (arith, able .room);
+              held = length-set vars depth row ∙ able .held;
+              there = inner-there there;
+              right = λ j k. able .right j (omega arith);
+              sound = second-sound;
+              scope = bind (able .scope) member;
+              scope-long = omega (arith, length-append (able .scope) (member ∷ []), able .scope-long);
+              typed = cond-first (typedPart S (able .scope) first-form) (typedPart S (bind (able .scope) member) (formAt w (e - 1)))
+                  (subst T (sym (bound-here (rowsAt w) (e - 1) last-sound S (able .scope) n m b)) typed-last) .1;
+            })
+
+-- a form over a collection
+pub over-able : {S : Schema} {w : Site} {starts : List ℕ} {e : ℕ} {vars : List ℕ} {depth : ℕ} (able : Able S w starts e vars depth)
+    → (secondSort (sorts able) ≡ 3 → ⊥)
+    → (firstSort (sorts able) ≡ 3 → ⊥)
+    → firstSort (sorts able) ≡ 2
+    → OverAble S w starts e vars depth
+over-able able n m b =
+    record { positive = positive able; few = able .few; deep = deep able n; first = ready (first-able able n m) collection (first-reads able n m b); inner = inner-able able n m b }

@@ -5,3 +5,4 @@ pub mod Abilities
 pub mod Nodes
 pub mod Leaves
 pub mod Members
+pub mod Answers

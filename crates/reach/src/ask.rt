@@ -66,5 +66,16 @@ pub fn ask_if(
     if !second {
         return false;
     }
-    ask(n, types, objects, links, count, events, trace, row, question, x)
+    ask(
+        n,
+        types,
+        objects,
+        links,
+        count,
+        events,
+        trace,
+        row,
+        question,
+        x,
+    )
 }

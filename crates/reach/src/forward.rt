@@ -57,11 +57,37 @@ fn role_moved(
         → r ≡ someOf set (roleMoves c role (idIn (now (objects .entry)) row))) ⌝ }
 {
     let up = directions::contains(set, UP);
-    if ask::ask_if(up, true, n, types, objects, links, count, events, trace, row, ask::JOINED, role) {
+    if ask::ask_if(
+        up,
+        true,
+        n,
+        types,
+        objects,
+        links,
+        count,
+        events,
+        trace,
+        row,
+        ask::JOINED,
+        role,
+    ) {
         return true;
     }
     let down = directions::contains(set, DOWN);
-    ask::ask_if(down, true, n, types, objects, links, count, events, trace, row, ask::PARTED, role)
+    ask::ask_if(
+        down,
+        true,
+        n,
+        types,
+        objects,
+        links,
+        count,
+        events,
+        trace,
+        row,
+        ask::PARTED,
+        role,
+    )
 }
 
 // Whether the kind of the object in a row moves in a direction of the set.
@@ -83,11 +109,37 @@ fn kind_moved(
 {
     let up = directions::contains(set, UP);
     let there = schema::under(n.types, types, register::type_of(objects, row), t);
-    if ask::ask_if(up, there, n, types, objects, links, count, events, trace, row, ask::SPECIALISED, t) {
+    if ask::ask_if(
+        up,
+        there,
+        n,
+        types,
+        objects,
+        links,
+        count,
+        events,
+        trace,
+        row,
+        ask::SPECIALISED,
+        t,
+    ) {
         return true;
     }
     let down = directions::contains(set, DOWN);
-    ask::ask_if(down, true, n, types, objects, links, count, events, trace, row, ask::GENERALISED, t)
+    ask::ask_if(
+        down,
+        true,
+        n,
+        types,
+        objects,
+        links,
+        count,
+        events,
+        trace,
+        row,
+        ask::GENERALISED,
+        t,
+    )
 }
 
 // Whether the set of all objects of a type moves in a direction of the set.
@@ -144,7 +196,18 @@ fn leaf(
     let at = x as usize;
     let row = vs[at];
     if code == CELL {
-        return ask::ask(n, types, objects, links, count, events, trace, row, ask::CELL_SET, y);
+        return ask::ask(
+            n,
+            types,
+            objects,
+            links,
+            count,
+            events,
+            trace,
+            row,
+            ask::CELL_SET,
+            y,
+        );
     }
     if code == ROLE {
         return role_moved(n, types, objects, links, count, events, trace, row, y, set);
@@ -181,7 +244,18 @@ fn member_set(
         let Step::At(object, on) = step else {
             return false;
         };
-        if ask::ask(n, types, objects, links, count, events, trace, object, ask::CELL_SET, cell) {
+        if ask::ask(
+            n,
+            types,
+            objects,
+            links,
+            count,
+            events,
+            trace,
+            object,
+            ask::CELL_SET,
+            cell,
+        ) {
             return true;
         }
         word = on;
@@ -221,29 +295,113 @@ pub fn moved(
     let x = field(bodies, rule, row, 1);
     if shape(code, SECOND) == NONE {
         let y = field(bodies, rule, row, 2);
-        return leaf(n, types, objects, links, count, events, trace, vs, depth, code, x, y, set);
+        return leaf(
+            n,
+            types,
+            objects,
+            links,
+            count,
+            events,
+            trace,
+            vs,
+            depth,
+            code,
+            x,
+            y,
+            set,
+        );
     }
     let to = directions::pass(code, directions::SECOND, set);
     let second = Place(rule, row, depth);
     if shape(code, FIRST) == NONE {
-        if moved(n, types, objects, links, index, bodies, spans, count, events, trace, vs, second, to) {
+        if moved(
+            n,
+            types,
+            objects,
+            links,
+            index,
+            bodies,
+            spans,
+            count,
+            events,
+            trace,
+            vs,
+            second,
+            to,
+        ) {
             return true;
         }
         if code != SUM {
             return false;
         }
-        return member_set(n, types, objects, links, index, bodies, spans, count, events, trace, vs, second, x);
+        return member_set(
+            n,
+            types,
+            objects,
+            links,
+            index,
+            bodies,
+            spans,
+            count,
+            events,
+            trace,
+            vs,
+            second,
+            x,
+        );
     }
     let from = row as usize;
     let first = Place(rule, spans[from], depth);
     let to_first = directions::pass(code, directions::FIRST, set);
-    if moved(n, types, objects, links, index, bodies, spans, count, events, trace, vs, first, to_first) {
+    if moved(
+        n,
+        types,
+        objects,
+        links,
+        index,
+        bodies,
+        spans,
+        count,
+        events,
+        trace,
+        vs,
+        first,
+        to_first,
+    ) {
         return true;
     }
     if shape(code, FIRST) != COLLECTION {
-        return moved(n, types, objects, links, index, bodies, spans, count, events, trace, vs, second, to);
+        return moved(
+            n,
+            types,
+            objects,
+            links,
+            index,
+            bodies,
+            spans,
+            count,
+            events,
+            trace,
+            vs,
+            second,
+            to,
+        );
     }
-    over(n, types, objects, links, index, bodies, spans, count, events, trace, vs, at, to)
+    over(
+        n,
+        types,
+        objects,
+        links,
+        index,
+        bodies,
+        spans,
+        count,
+        events,
+        trace,
+        vs,
+        at,
+        to,
+    )
 }
 
 // Whether some direction of the set moves the second part of a form over a collection at some member.
@@ -287,7 +445,21 @@ fn over(
         inner[new] = object;
         let deeper = depth + 1;
         let to = Place(rule, row, deeper);
-        if moved(n, types, objects, links, index, bodies, spans, count, events, trace, &inner, to, set) {
+        if moved(
+            n,
+            types,
+            objects,
+            links,
+            index,
+            bodies,
+            spans,
+            count,
+            events,
+            trace,
+            &inner,
+            to,
+            set,
+        ) {
             return true;
         }
         word = on;
