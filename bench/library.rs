@@ -83,6 +83,36 @@ pub fn read(text: &[u8], t: &mut Tables, events: &mut [u32]) -> [u32; 7] {
     answer
 }
 
+extern "C" {
+    /// 0 and the used rows of objects and links after the batch, in the scratch; or 1, number, place
+    fn checker_run(
+        types_used: u32, relationships_used: u32, rules_used: u32, objects_used: u32, links_used: u32,
+        types: *const u32, types_len: usize, relationships: *const u32, relationships_len: usize,
+        rules: *const u32, rules_len: usize, bodies: *const u32, bodies_len: usize,
+        objects: *const u32, objects_len: usize, links: *const u32, links_len: usize,
+        scratch_objects: *mut u32, scratch_objects_len: usize, scratch_links: *mut u32, scratch_links_len: usize,
+        events_used: u32, events: *const u32, events_len: usize,
+        answer: *mut u32,
+    );
+}
+
+// Runs a batch of events, four words each, on tables of which so many rows of objects and links are used. The register after it is in the scratch.
+pub fn run(t: &Tables, used: (u32, u32), events: &[u32], scratch: &mut (Vec<u32>, Vec<u32>)) -> [u32; 3] {
+    let mut answer = [0; 3];
+    unsafe {
+        checker_run(
+            (t.types.len() / 2) as u32, (t.relationships.len() / 2) as u32, (t.rules.len() / 2) as u32, used.0, used.1,
+            t.types.as_ptr(), t.types.len(), t.relationships.as_ptr(), t.relationships.len(),
+            t.rules.as_ptr(), t.rules.len(), t.bodies.as_ptr(), t.bodies.len(),
+            t.objects.as_ptr(), t.objects.len(), t.links.as_ptr(), t.links.len(),
+            scratch.0.as_mut_ptr(), scratch.0.len(), scratch.1.as_mut_ptr(), scratch.1.len(),
+            (events.len() / 4) as u32, events.as_ptr(), events.len(),
+            answer.as_mut_ptr(),
+        );
+    }
+    answer
+}
+
 pub type Call<'a> = Box<dyn FnMut() + 'a>;
 
 // What is timed, with its answer kept from the compiler's sight.

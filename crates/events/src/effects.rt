@@ -125,53 +125,20 @@ pub fn effect(
         «object_count» (now (objects .entry)) «link_count» (now (links .entry))
         (r .objects) (now (objects .exit)) (r .links) (now (links .exit))) ⌝ }
 {
-    if kind == 0 {
-        let n = put_object(object_count, &mut *objects, x, y);
-        return Held {
-            objects: n,
-            links: link_count,
-        };
-    }
-    if kind == 1 {
-        let n = take_object(object_count, &mut *objects, x);
-        return Held {
-            objects: n,
-            links: link_count,
-        };
-    }
-    if kind == 2 {
-        put_cell(object_count, &mut *objects, x, y, z);
-        return Held {
-            objects: object_count,
-            links: link_count,
-        };
-    }
-    if kind == 3 {
-        let n = put_link(link_count, &mut *links, x, y, z);
-        return Held {
-            objects: object_count,
-            links: n,
-        };
-    }
-    if kind == 4 {
-        let n = take_link(link_count, &mut *links, x, y, z);
-        return Held {
-            objects: object_count,
-            links: n,
-        };
-    }
-    if kind == 5 {
-        put_type(object_count, &mut *objects, x, y);
-        return Held {
-            objects: object_count,
-            links: link_count,
-        };
-    }
-    if kind == 6 {
-        put_higher_type(type_count, types, object_count, &mut *objects, x, y);
+    let mut n = object_count;
+    let mut m = link_count;
+    match kind {
+        0 => n = put_object(object_count, &mut *objects, x, y),
+        1 => n = take_object(object_count, &mut *objects, x),
+        2 => put_cell(object_count, &mut *objects, x, y, z),
+        3 => m = put_link(link_count, &mut *links, x, y, z),
+        4 => m = take_link(link_count, &mut *links, x, y, z),
+        5 => put_type(object_count, &mut *objects, x, y),
+        6 => put_higher_type(type_count, types, object_count, &mut *objects, x, y),
+        _ => {}
     }
     Held {
-        objects: object_count,
-        links: link_count,
+        objects: n,
+        links: m,
     }
 }

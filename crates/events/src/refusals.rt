@@ -4,7 +4,7 @@ use tables::Found;
 ghost use mathlib.Core.Path.{_≡_};
 ghost use mathlib.Core.Bool.{_&&_, _||_, not};
 ghost use mathlib.Core.List.{List};
-ghost use Prim.Native.Nat.{ℕ, min};
+ghost use Prim.Native.Nat.{ℕ, _≤_, min};
 ghost use lib.Dec.{ltb, leb, eqb};
 ghost use Rattle.meaning.specs.Limits.{cellCount, validId, fitsWord};
 ghost use Rattle.meaning.specs.Schema.{ObjectType, Relationship, Schema, knownType, knownRelationship, under, sourceType, targetType};
@@ -499,14 +499,13 @@ fn of_general(
     Found::Nothing
 }
 
-// The first refusal that an event of three fields meets. A field that its kind does not use is 0, else 7 is met, as for an unknown kind.
-fn of_event(
+// The first refusal that a join or a part meets.
+fn of_link_event(
     type_count: u32,
     types: &[u32],
     relationship_count: u32,
     relationships: &[u32],
-    objects_lent: usize,
-    links_lent: usize,
+    lent: usize,
     object_count: u32,
     objects: &[u32],
     link_count: u32,
@@ -516,23 +515,20 @@ fn of_event(
     y: u32,
     z: u32,
 ) -> Found
-    requires { ⌜ (ObjectsAscend «object_count» (now objects)) × (LinksAscend «link_count» (now links)) ⌝ }
-    ensures { λ r. ⌜ ((w : ℕ) → r ≡ foundOf (eventRefusal
+    requires { ⌜ (ObjectsAscend «object_count» (now objects)) × (LinksAscend «link_count» (now links)) × (3 ≤ kind) × (kind ≤ 4) ⌝ }
+    ensures { λ r. ⌜ ((m w : ℕ) → r ≡ foundOf (eventRefusal
         (schemaOf «type_count» (now (types .entry)) «relationship_count» (now (relationships .entry)))
-        (record { objects = «objects_lent»; links = «links_lent»; words = w })
+        (record { objects = m; links = lent; words = w })
         (registerOf «object_count» (now (objects .entry)) «link_count» (now (links .entry)))
         (eventOf kind x y z))) ⌝ }
 {
-    if kind == 2 {
-        return of_set(type_count, types, object_count, objects, x, y);
-    }
     if kind == 3 {
         return of_join(
             type_count,
             types,
             relationship_count,
             relationships,
-            links_lent,
+            lent,
             object_count,
             objects,
             link_count,
@@ -542,23 +538,46 @@ fn of_event(
             z,
         );
     }
-    if kind == 4 {
-        return of_part(
-            relationship_count,
-            object_count,
-            objects,
-            link_count,
-            links,
-            x,
-            y,
-            z,
-        );
-    }
+    of_part(
+        relationship_count,
+        object_count,
+        objects,
+        link_count,
+        links,
+        x,
+        y,
+        z,
+    )
+}
+
+// The first refusal that an event of at most two fields meets. A field that its kind does not use is 0, else 7 is met, as for an unknown kind.
+fn of_short_event(
+    type_count: u32,
+    types: &[u32],
+    relationship_count: u32,
+    relationships: &[u32],
+    lent: usize,
+    object_count: u32,
+    objects: &[u32],
+    link_count: u32,
+    links: &[u32],
+    kind: u32,
+    x: u32,
+    y: u32,
+    z: u32,
+) -> Found
+    requires { ⌜ (ObjectsAscend «object_count» (now objects)) × (kind ≡ 2 → ⊥) × (kind ≡ 3 → ⊥) × (kind ≡ 4 → ⊥) ⌝ }
+    ensures { λ r. ⌜ ((m w : ℕ) → r ≡ foundOf (eventRefusal
+        (schemaOf «type_count» (now (types .entry)) «relationship_count» (now (relationships .entry)))
+        (record { objects = lent; links = m; words = w })
+        (registerOf «object_count» (now (objects .entry)) «link_count» (now (links .entry)))
+        (eventOf kind x y z))) ⌝ }
+{
     if z != 0 {
         return Found::At(7);
     }
     if kind == 0 {
-        return of_insert(type_count, objects_lent, object_count, objects, x, y);
+        return of_insert(type_count, lent, object_count, objects, x, y);
     }
     if kind == 5 {
         return of_special(type_count, types, object_count, objects, x, y);
@@ -584,6 +603,65 @@ fn of_event(
         return Found::At(7);
     }
     of_delete(object_count, objects, link_count, links, x)
+}
+
+// The first refusal that an event of three fields meets.
+fn of_event(
+    type_count: u32,
+    types: &[u32],
+    relationship_count: u32,
+    relationships: &[u32],
+    objects_lent: usize,
+    links_lent: usize,
+    object_count: u32,
+    objects: &[u32],
+    link_count: u32,
+    links: &[u32],
+    kind: u32,
+    x: u32,
+    y: u32,
+    z: u32,
+) -> Found
+    requires { ⌜ (ObjectsAscend «object_count» (now objects)) × (LinksAscend «link_count» (now links)) ⌝ }
+    ensures { λ r. ⌜ ((w : ℕ) → r ≡ foundOf (eventRefusal
+        (schemaOf «type_count» (now (types .entry)) «relationship_count» (now (relationships .entry)))
+        (record { objects = «objects_lent»; links = «links_lent»; words = w })
+        (registerOf «object_count» (now (objects .entry)) «link_count» (now (links .entry)))
+        (eventOf kind x y z))) ⌝ }
+{
+    match kind {
+        2 => of_set(type_count, types, object_count, objects, x, y),
+        3 | 4 => of_link_event(
+            type_count,
+            types,
+            relationship_count,
+            relationships,
+            links_lent,
+            object_count,
+            objects,
+            link_count,
+            links,
+            kind,
+            x,
+            y,
+            z,
+        ),
+        _ => of_short_event(
+            type_count,
+            types,
+            relationship_count,
+            relationships,
+            objects_lent,
+            object_count,
+            objects,
+            link_count,
+            links,
+            kind,
+            x,
+            y,
+            z,
+        ),
+    }
 }
 
 // The first refusal that the event in a row of the table of events meets, on the register that it meets.

@@ -1,4 +1,6 @@
 // What Rust and C programs link: the checker's entries over pointers and numbers.
+mod runs;
+
 use full::Answer;
 use reader::Outcome;
 use tables::Counts;

@@ -1,0 +1,132 @@
+// Batches of events beside a plain run of them over ordered maps, in one run: the same registers, and the time of 0, 5, 40 and 256 events.
+#[allow(dead_code)]
+mod library;
+#[allow(dead_code)]
+mod park;
+
+use library::{call, median, rounds, run, Call};
+use park::{Draw, Ids, Park, Tables};
+use std::collections::{BTreeMap, BTreeSet};
+
+const SIZES: [(u32, u32); 2] = [(250, 1000), (1000, 4000)];
+const COUNTS: [usize; 4] = [0, 5, 40, 256];
+
+// A register as ordered maps.
+#[derive(Clone)]
+struct Register {
+    objects: BTreeMap<u32, (u32, [i32; 8])>,
+    links: BTreeSet<(u32, u32, u32)>,
+}
+
+fn register(p: &Park) -> Register {
+    Register { objects: p.objects.iter().map(|o| (o.0, (o.1, o.2))).collect(), links: p.links.iter().copied().collect() }
+}
+
+// The register's rows as tables.
+fn rows(g: &Register) -> (Vec<u32>, Vec<u32>) {
+    let objects = g.objects.iter().flat_map(|(id, (t, cells))| [*id, *t].into_iter().chain(cells.map(|c| c as u32))).collect();
+    (objects, g.links.iter().flat_map(|l| [l.0, l.1, l.2]).collect())
+}
+
+fn pick<T: Copy>(d: &mut Draw, of: &[T]) -> Option<T> {
+    if of.is_empty() { None } else { Some(of[d.below(of.len() as u32) as usize]) }
+}
+
+// An event of a kind that the register takes, by the kinds of docs/TABLES.md, if there is one; it is applied. Types 4 and 5 of a park stand under type 3.
+fn event(d: &mut Draw, g: &mut Register, p: &Park, kind: u32) -> Option<[u32; 4]> {
+    let of = |g: &Register, test: &dyn Fn(u32) -> bool| g.objects.iter().filter(|o| test(o.1 .0)).map(|o| *o.0).collect::<Vec<u32>>();
+    match kind {
+        0 if g.objects.len() < 1024 => {
+            let (id, t) = (1 + d.below(park::LARGEST_ID), d.below(6));
+            if g.objects.contains_key(&id) {
+                return None;
+            }
+            g.objects.insert(id, (t, [0; 8]));
+            Some([0, id, t, 0])
+        }
+        1 => {
+            let free: Vec<u32> = g.objects.keys().copied().filter(|id| !g.links.iter().any(|l| l.1 == *id || l.2 == *id)).collect();
+            let id = pick(d, &free)?;
+            g.objects.remove(&id);
+            Some([1, id, 0, 0])
+        }
+        2 => {
+            let id = pick(d, &of(g, &|_| true))?;
+            let o = g.objects.get_mut(&id).unwrap();
+            let (k, v) = (d.below(p.types[o.0 as usize].1), d.next());
+            o.1[k as usize] = v as i32;
+            Some([2, id, k, v])
+        }
+        3 if g.links.len() < 4096 => {
+            let l = (d.below(10), pick(d, &of(g, &|t| t == 0))?, pick(d, &of(g, &|t| t == 1))?);
+            g.links.insert(l).then_some([3, l.0, l.1, l.2])
+        }
+        4 => {
+            let l = pick(d, &g.links.iter().copied().collect::<Vec<_>>())?;
+            g.links.remove(&l);
+            Some([4, l.0, l.1, l.2])
+        }
+        5 | 6 => {
+            let id = pick(d, &of(g, &|t| if kind == 5 { t == 3 || t == 4 } else { t == 4 || t == 5 }))?;
+            let o = g.objects.get_mut(&id).unwrap();
+            o.0 = if kind == 5 { o.0 + 1 } else { o.0 - 1 };
+            o.1[p.types[o.0 as usize].1 as usize..].fill(0);
+            Some([kind, id, o.0, 0])
+        }
+        _ => None,
+    }
+}
+
+struct Case {
+    tables: Tables,
+    used: (u32, u32),
+    events: Vec<u32>,
+}
+
+// A park with lent rows to the limits and a batch of all kinds, whose register after it is the plain one.
+fn case(objects: u32, links: u32, ids: Ids, count: usize) -> Case {
+    let p = park::numbered(park::park(objects, links, 7), ids);
+    let (mut d, mut g, mut events) = (Draw(5), register(&p), vec![]);
+    while events.len() < 4 * count {
+        let kind = d.below(7);
+        events.extend(event(&mut d, &mut g, &p, kind).into_iter().flatten());
+    }
+    let mut tables = park::tables(&p);
+    tables.objects.resize(10 * 1024, 0);
+    tables.links.resize(3 * 4096, 0);
+    let c = Case { tables, used: (objects, links), events };
+    let mut scratch = (vec![7; 10 * 1024], vec![7; 3 * 4096]);
+    let answer = run(&c.tables, c.used, &c.events, &mut scratch);
+    let (plain_objects, plain_links) = rows(&g);
+    assert_eq!(answer, [0, (plain_objects.len() / 10) as u32, (plain_links.len() / 3) as u32]);
+    assert_eq!(scratch.0[..plain_objects.len()], plain_objects);
+    assert_eq!(scratch.1[..plain_links.len()], plain_links);
+    c
+}
+
+fn calls(cases: &[Case]) -> Vec<Call<'_>> {
+    cases
+        .iter()
+        .map(|c| {
+            let mut scratch = (vec![7; 10 * 1024], vec![7; 3 * 4096]);
+            call(move || run(&c.tables, c.used, &c.events, &mut scratch))
+        })
+        .collect()
+}
+
+fn main() {
+    let cases = park::KINDS.map(|(_, ids)| SIZES.map(|(objects, links)| COUNTS.map(|count| case(objects, links, ids, count))));
+    let figures = rounds(&mut cases.iter().flatten().map(|c| calls(c)).collect::<Vec<_>>());
+    for ((name, _), lines) in park::KINDS.iter().zip(figures.chunks(SIZES.len())) {
+        println!("{name}");
+        println!("objects  links  events  time (us)  of it the events (us)  each (us)");
+        for ((objects, links), figures) in SIZES.iter().zip(lines) {
+            for (i, count) in COUNTS.iter().enumerate() {
+                let whole = median(figures, |r| r[i]);
+                let own = median(figures, |r| r[i] - r[0]);
+                let each = if *count == 0 { 0.0 } else { own / *count as f64 };
+                println!("{objects:7}  {links:5}  {count:6}  {whole:9.1}  {own:21.1}  {each:9.2}");
+            }
+        }
+    }
+}

@@ -1,0 +1,60 @@
+// A batch of events over pointers and numbers.
+use tables::Counts;
+use tables::Verdict;
+ghost use Rattle.tables.specs.Refusals.{lentTables};
+ghost use Rattle.exports.specs.Coded.{countsOf};
+ghost use Rattle.exports.specs.Runs.{RunTold};
+
+// The events of a lent batch on a copy of the register's used rows. The answer is 0 and the used rows of the copy after the batch; or 1, a refusal's number and
+// its place. The copy stands in the scratch.
+#[no_mangle]
+pub extern "C" fn checker_run(
+    types_used: u32,
+    relationships_used: u32,
+    rules_used: u32,
+    objects_used: u32,
+    links_used: u32,
+    types: &[u32],
+    relationships: &[u32],
+    rules: &[u32],
+    bodies: &[u32],
+    objects: &[u32],
+    links: &[u32],
+    scratch_objects: &mut [u32],
+    scratch_links: &mut [u32],
+    events_used: u32,
+    events: &[u32],
+    answer: &mut [u32; 3],
+)
+    ensures { λ r. ⌜ RunTold (lentTables (countsOf «types_used» «relationships_used» «rules_used» «objects_used» «links_used»)
+        (now (types .entry)) (now (relationships .entry)) (now (rules .entry)) (now (bodies .entry)) (now (objects .entry)) (now (links .entry)))
+        (now («scratch_objects» .entry)) (now («scratch_links» .entry)) «events_used» (now (events .entry))
+        (now (answer .exit)) (now («scratch_objects» .exit)) (now («scratch_links» .exit)) ⌝ }
+{
+    let n = Counts {
+        types: types_used,
+        relationships: relationships_used,
+        rules: rules_used,
+        objects: objects_used,
+        links: links_used,
+    };
+    let ran = lent_run::run(
+        n,
+        types,
+        relationships,
+        rules,
+        bodies,
+        objects,
+        links,
+        scratch_objects,
+        scratch_links,
+        events_used,
+        events,
+    );
+    let held = ran.held;
+    let verdict = ran.verdict;
+    *answer = match verdict {
+        Verdict::Clear => [0, held.objects, held.links],
+        Verdict::Refused(number, place) => [1, number, place],
+    };
+}

@@ -1,0 +1,95 @@
+// A lent batch: every refusal up to 13 in the table's order, else the events on a copy of the register.
+use events::Held;
+use events::Ran;
+use tables::Counts;
+use tables::Verdict;
+ghost use mathlib.Core.Path.{_≡_};
+ghost use mathlib.Core.Bool.{_||_};
+ghost use Rattle.tables.specs.Refusals.{broken, lentTables};
+ghost use Rattle.tables.specs.declared.Verdict.the-variants.{Refused};
+ghost use Rattle.lent_run.specs.Lent.{shorter, eventTable, spaceBroken, LentRun};
+
+// A run that a refusal kept from beginning.
+fn refused(number: u32, place: u32) -> Ran
+    ensures { λ r. ⌜ r .verdict ≡ Refused number place ⌝ }
+{
+    let held = Held {
+        objects: 0,
+        links: 0,
+    };
+    let met = [0u32; 256];
+    Ran {
+        verdict: Verdict::Refused(number, place),
+        held,
+        met,
+    }
+}
+
+// 6, of the events and the scratch: not whole rows, or a scratch shorter than the table that is copied to it.
+fn space_broken(
+    objects: &[u32],
+    links: &[u32],
+    scratch_objects: &[u32],
+    scratch_links: &[u32],
+    events: &[u32],
+) -> bool
+    ensures { λ r. ⌜ r ≡ spaceBroken (now (objects .entry)) (now (links .entry)) (now («scratch_objects» .entry)) (now («scratch_links» .entry)) (now (events .entry)) ⌝ }
+{
+    if checks::not_whole(events, 4) {
+        return true;
+    }
+    if scratch_objects.len() < objects.len() {
+        return true;
+    }
+    scratch_links.len() < links.len()
+}
+
+// Runs a batch on a copy of the lent register's used rows. Where no refusal is met, the scratch is the register after it.
+pub fn run(
+    n: Counts,
+    types: &[u32],
+    relationships: &[u32],
+    rules: &[u32],
+    bodies: &[u32],
+    objects: &[u32],
+    links: &[u32],
+    scratch_objects: &mut [u32],
+    scratch_links: &mut [u32],
+    event_count: u32,
+    events: &[u32],
+) -> Ran
+    ensures { λ r. ⌜ LentRun (lentTables n (now (types .entry)) (now (relationships .entry)) (now (rules .entry)) (now (bodies .entry)) (now (objects .entry)) (now (links .entry)))
+        (now («scratch_objects» .entry)) (now («scratch_links» .entry)) «event_count» (now (events .entry))
+        r (now («scratch_objects» .exit)) (now («scratch_links» .exit)) ⌝ }
+{
+    if checks::too_many(events, 4, event_count as usize, 256) {
+        return refused(2, 0);
+    }
+    let broken = space_broken(objects, links, &*scratch_objects, &*scratch_links, events);
+    match checks::check(
+        n,
+        types,
+        relationships,
+        rules,
+        bodies,
+        objects,
+        links,
+        broken,
+    ) {
+        Verdict::Refused(number, place) => refused(number, place),
+        Verdict::Clear => events::run(
+            n.types,
+            types,
+            n.relationships,
+            relationships,
+            n.objects,
+            objects,
+            n.links,
+            links,
+            scratch_objects,
+            scratch_links,
+            event_count,
+            events,
+        ),
+    }
+}
