@@ -83,7 +83,6 @@ fn write_lent(
     let c = counts_of(n);
     let w = writer::write(
         c,
-        n[5],
         types,
         relationships,
         rules,

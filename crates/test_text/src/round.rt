@@ -5,6 +5,7 @@ use crate::table::differing;
 use crate::table::sum;
 use crate::trial;
 use crate::trial::counts_of;
+use crate::trial::words_of;
 use reader::Outcome;
 use writer::Written;
 
@@ -18,14 +19,7 @@ const LAST_TOO_LONG: u32 = 0x8000_0000;
 fn counts_read(o: Outcome) -> [u32; 6] {
     match o {
         Outcome::Refused(number, line) => [0u32; 6],
-        Outcome::Done {
-            types: a,
-            relationships: b,
-            rules: c,
-            objects: d,
-            links: e,
-            events: f,
-        } => [a, b, c, d, e, f],
+        Outcome::Done(n) => words_of(n),
     }
 }
 
@@ -75,7 +69,6 @@ fn write_tables(
     let c = counts_of(n);
     match writer::write(
         c,
-        n[5],
         types,
         relationships,
         rules,

@@ -71,14 +71,7 @@ pub fn byte(text: &[u8], at: usize) -> u8 {
 fn said_by(outcome: Outcome) -> Said {
     match outcome {
         Outcome::Refused(number, line) => answered(number, line, [0u32; 6]),
-        Outcome::Done {
-            types: a,
-            relationships: b,
-            rules: c,
-            objects: d,
-            links: e,
-            events: f,
-        } => answered(0, 0, [a, b, c, d, e, f]),
+        Outcome::Done(n) => answered(0, 0, words_of(n)),
     }
 }
 
@@ -93,6 +86,17 @@ fn answered(number: u32, line: u32, counts: [u32; 6]) -> Said {
     }
 }
 
+pub fn words_of(n: Counts) -> [u32; 6] {
+    [
+        n.types,
+        n.relationships,
+        n.rules,
+        n.objects,
+        n.links,
+        n.events,
+    ]
+}
+
 pub fn counts_of(n: [u32; 6]) -> Counts {
     Counts {
         types: n[0],
@@ -100,6 +104,7 @@ pub fn counts_of(n: [u32; 6]) -> Counts {
         rules: n[2],
         objects: n[3],
         links: n[4],
+        events: n[5],
     }
 }
 
@@ -137,7 +142,6 @@ fn written(
     let n = s.counts;
     let answer = writer::write(
         counts_of(n),
-        n[5],
         types,
         relationships,
         rules,
