@@ -6,3 +6,4 @@ pub mod Nodes
 pub mod Leaves
 pub mod Members
 pub mod Answers
+pub mod Questions

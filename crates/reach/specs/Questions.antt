@@ -1,10 +1,14 @@
 -- Document 01, "Reach rules": what the leaves ask of the events that name an object. Each is one question about an event, and whether some event of the
 -- batch answers it.
-use Prim.Native.Nat.{ℕ, zero, suc}
-use mathlib.Core.Bool.{Bool}
-use lib.Dec.{eqb}
+use Prim.Native.Nat.{ℕ, zero, suc, _%_}
+use mathlib.Core.Bool.{Bool, _&&_, not}
+use mathlib.Core.List.{List}
+use lib.Dec.{ltb, eqb}
+use Rattle.meaning.specs.Schema.{ObjectType, under, relationshipOf}
 use Rattle.meaning.specs.Register.{hasLink}
-use Rattle.meaning.specs.Reach.{Step, Change, someStep, joined, parted, setsCell, insertsInto, specialisesInto, generalisesFrom}
+use Rattle.meaning.specs.Events.{Event}
+use Rattle.meaning.specs.Reach.{Step, Change, someStep, inserts, sets, joins, parts, specials, generals, among, joined, parted, setsCell, insertsInto, specialisesInto, generalisesFrom}
+use Rattle.events.specs.Runs.{noType}
 
 pub data Question : Type 0 where
   cellSet : (cell : ℕ) → Question
@@ -32,3 +36,19 @@ questionOf (suc (suc zero)) x = partedBy x
 questionOf (suc (suc (suc zero))) x = insertedInto x
 questionOf (suc (suc (suc (suc zero)))) x = specialisedInto x
 questionOf (suc (suc (suc (suc (suc code))))) x = generalisedFrom x
+
+-- ---- a question at a place of an event
+
+-- the object whose type was m was under t; 32 is no type
+abbrev pub metUnder : List ObjectType → ℕ → ℕ → Bool
+metUnder types m t = ltb m noType && under types m t
+
+-- An event answers the question about the object that it names at its first place (j is 0) or its second (1), by the type that it met, and by
+-- whether the link that it joined is there at the end. The near end of a role is the source (the first place) for a role forward.
+unfoldable pub answersAt : List ObjectType → Question → Event → ℕ → ℕ → Bool → Bool
+answersAt types (cellSet k) e j met there = among sets (λ id c n. eqb c k) e
+answersAt types (joinedBy r) e j met there = among joins (λ n a b. eqb n (relationshipOf r) && (eqb j (r % 2) && there)) e
+answersAt types (partedBy r) e j met there = among parts (λ n a b. eqb n (relationshipOf r) && eqb j (r % 2)) e
+answersAt types (insertedInto t) e j met there = among inserts (λ id u n. under types u t) e
+answersAt types (specialisedInto t) e j met there = among specials (λ id u n. under types u t && not (metUnder types met t)) e
+answersAt types (generalisedFrom t) e j met there = among generals (λ id u n. metUnder types met t && not (under types u t)) e

@@ -13,15 +13,16 @@ use mathlib.Core.Option.{Option, none, some}
 use lib.Dec.{eqb}
 use lib.ListN.{getD, getElem?}
 use Rattle.meaning.specs.Limits.{maxTypes, maxObjects, maxEvents}
-use Rattle.meaning.specs.Register.{hasLink}
+use Rattle.meaning.specs.Register.{isUnder, hasLink}
 use Rattle.meaning.specs.Events.{Event, insert, delete, set, join, part, special, general, linkOf}
 use Rattle.meaning.specs.Reach.{Step, Change, Direction, allMoves}
 use Rattle.tables.specs.Columns.{typesOf, registerOf, eventRow, eventsOf}
 use Rattle.tables.specs.declared.Counts.{Counts}
 use Rattle.register.specs.Tables.{ObjectsAscend, objectPlace}
 use Rattle.register.specs.Chains.{Chained}
-use Rattle.events.specs.Runs.{metBy}
+use Rattle.events.specs.Runs.{objectOf}
 use Rattle.directions.specs.Sets.{has}
+use Rattle.reach.specs.Questions.{metUnder}
 
 -- the id that an event names at its first place (0) and at its second
 abbrev pub namedAt : Event → ℕ → Option ℕ
@@ -54,13 +55,13 @@ rowNamed n objects (some id) = orPast (objectPlace n objects id)
 abbrev pub placeRow : ℕ → List ℕ → List ℕ → ℕ → ℕ
 placeRow n objects events p = rowNamed n objects (namedAt (eventRow events (p / 2)) (p % 2))
 
--- The batch c as the code has it: it ends in the register of the tables, its events are the first rows of their table, and each met the type that is kept.
+-- The batch c as the code has it: it ends in the register of the tables, its events are the first rows of their table, and of each the type that its object had when it came is kept.
 pub record Seen (c : Change) (n : Counts) (types objects links : List ℕ) (count : ℕ) (events : List ℕ) (met : ℕ → ℕ) : Type 0 where
   pub few : count ≤ maxEvents
   pub types-are : c .schema .types ≡ typesOf (n .types) types
   pub end-is : c .end ≡ registerOf (n .objects) objects (n .links) links
   pub events-are : map (λ (s : Step). s .event) (c .steps) ≡ eventsOf count events
-  pub met-is : (i : ℕ) (s : Step) → getElem? (c .steps) i ≡ some s → met i ≡ metBy s
+  pub met-is : (i : ℕ) (s : Step) → getElem? (c .steps) i ≡ some s → (id t : ℕ) → objectOf (s .event) ≡ some id → isUnder (c .schema .types) (s .met) id t ≡ metUnder (c .schema .types) (met i) t
 
 -- the table's columns
 abbrev pub nextPlace : List ℕ → ℕ → ℕ

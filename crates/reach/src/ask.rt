@@ -1,12 +1,14 @@
 // What the leaves of the reach rules ask of the events that name an object: a chain of places for each row.
 use tables::Counts;
 ghost use mathlib.Core.Path.{_≡_};
-ghost use mathlib.Core.Bool.{_&&_};
-ghost use Prim.Native.Nat.{_<_};
+ghost use mathlib.Core.Bool.{Bool, _&&_};
+ghost use Prim.Native.Nat.{ℕ, _/_, _%_, _≤_, _<_};
+ghost use lib.Dec.{eqb};
 ghost use Rattle.meaning.specs.Reach.{Change};
+ghost use Rattle.tables.specs.Columns.{typesOf, eventOf, eventRow};
 ghost use Rattle.ocl.specs.Site.{idIn};
-ghost use Rattle.reach.specs.Questions.{asked, questionOf};
-ghost use Rattle.reach.specs.Traces.{Traced, Traces};
+ghost use Rattle.reach.specs.Questions.{asked, questionOf, metUnder, answersAt};
+ghost use Rattle.reach.specs.Traces.{thereWord, metWord, Traced, Traces};
 
 // The questions, by what they are about: a cell; a role; a type.
 pub const CELL_SET: u32 = 0;
@@ -20,6 +22,98 @@ pub const INSERTED: u32 = 3;
 pub const SPECIALISED: u32 = 4;
 
 pub const GENERALISED: u32 = 5;
+
+// The kinds of events, by their places in document 01's order.
+const INSERT: u32 = 0;
+
+const SET: u32 = 2;
+
+const JOIN: u32 = 3;
+
+const PART: u32 = 4;
+
+const SPECIAL: u32 = 5;
+
+const GENERAL: u32 = 6;
+
+// Whether the object of a type was under another; 32 is no type.
+fn met_under(type_count: u32, types: &[u32], met: u32, t: u32) -> bool
+    ensures { λ r. ⌜ r ≡ metUnder (typesOf «type_count» (now (types .entry))) met t ⌝ }
+{
+    if met < meaning::MAX_TYPES {
+        schema::under(type_count, types, met, t)
+    } else {
+        false
+    }
+}
+
+// Whether an event that names its object at a place answers a question about a link.
+fn link_answers(kind: u32, wanted: u32, relationship: u32, place: u32, role: u32, there: bool) -> bool
+    ensures { λ r. ⌜ r ≡ (eqb kind wanted && (eqb relationship (role / 2) && (eqb (place % 2) (role % 2) && there))) ⌝ }
+{
+    if kind != wanted {
+        return false;
+    }
+    if relationship != role / 2 {
+        return false;
+    }
+    if place % 2 != role % 2 {
+        return false;
+    }
+    there
+}
+
+// Whether an event that changes its object's type to `to`, or gives it one, answers a question about a type.
+fn type_answers(type_count: u32, types: &[u32], kind: u32, to: u32, z: u32, met: u32, question: u32, t: u32) -> bool
+    requires { ⌜ (3 ≤ question) × (question < 6) ⌝ }
+    ensures { λ r. ⌜ ((x : ℕ) (j : ℕ) (there : Bool) → r ≡ answersAt (typesOf «type_count» (now (types .entry))) (questionOf question t) (eventOf kind x to z) j met there) ⌝ }
+{
+    if z != 0 {
+        return false;
+    }
+    let under = schema::under(type_count, types, to, t);
+    if question == INSERTED {
+        return if kind == INSERT { under } else { false };
+    }
+    let was = met_under(type_count, types, met, t);
+    if question == SPECIALISED {
+        if kind != SPECIAL {
+            return false;
+        }
+        return if under { !was } else { false };
+    }
+    if kind != GENERAL {
+        return false;
+    }
+    if was { !under } else { false }
+}
+
+// Whether the event of a place answers a question about the object that it names there.
+fn answered(type_count: u32, types: &[u32], events: &[u32], trace: &[u16; 2593], place: u32, question: u32, x: u32) -> bool
+    requires { ⌜ (place < 512) × (question < 6) ⌝ }
+    ensures { λ r. ⌜ r ≡ answersAt (typesOf «type_count» (now (types .entry))) (questionOf question x) (eventRow (now (events .entry)) (place / 2))
+        (place % 2) (metWord (now (trace .entry)) (place / 2)) (eqb (thereWord (now (trace .entry)) (place / 2)) 1) ⌝ }
+{
+    let i = place / 2;
+    let kind = rows::word(events, 4, i, 0);
+    let a = rows::word(events, 4, i, 1);
+    let b = rows::word(events, 4, i, 2);
+    let z = rows::word(events, 4, i, 3);
+    if question == CELL_SET {
+        return if kind == SET { b == x } else { false };
+    }
+    if question == JOINED {
+        let at = (1024 + i) as usize;
+        let there = trace[at] == 1;
+        return link_answers(kind, JOIN, a, place, x, there);
+    }
+    if question == PARTED {
+        return link_answers(kind, PART, a, place, x, true);
+    }
+    let at = (1280 + i) as usize;
+    let met = rows::wide(trace[at]);
+    type_answers(type_count, types, kind, b, z, met, question, x)
+}
 
 // Whether some event of the batch answers a question about the object in a row.
 pub fn ask(
@@ -38,6 +132,16 @@ pub fn ask(
     ensures { λ r. ⌜ ((c : Change) → Traced c n (now (types .entry)) (now (objects .entry)) (now (links .entry)) count (now (events .entry)) (now (trace .entry))
         → r ≡ asked c (questionOf question x) (idIn (now (objects .entry)) row)) ⌝ }
 {
+    let head = (1568 + row) as usize;
+    let mut word = rows::wide(trace[head]);
+    while word != 0 {
+        let place = word - 1;
+        if answered(n.types, types, events, trace, place, question, x) {
+            return true;
+        }
+        let next = (512 + place) as usize;
+        word = rows::wide(trace[next]);
+    }
     false
 }
 
@@ -66,16 +170,5 @@ pub fn ask_if(
     if !second {
         return false;
     }
-    ask(
-        n,
-        types,
-        objects,
-        links,
-        count,
-        events,
-        trace,
-        row,
-        question,
-        x,
-    )
+    ask(n, types, objects, links, count, events, trace, row, question, x)
 }
