@@ -7,3 +7,4 @@ pub mod Leaves
 pub mod Members
 pub mod Answers
 pub mod Questions
+pub mod Asking

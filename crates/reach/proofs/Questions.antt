@@ -243,3 +243,35 @@ module _ (c : Change) (u : ℕ) (s : Step) (met : ℕ) (there : Bool)
       generals-same (λ id w n. eqb u id && (isUnder types (s .met) id t && not (under types w t))) (λ id w n. eqb u id && (metUnder types met t && not (under types w t))) e
       (λ id w n q. ap (λ x. eqb u id && (x && not (under types w t))) (met-is id t q))
       ∙ object-places generals u (λ id w n. metUnder types met t && not (under types w t)) refl refl e
+
+-- ---- a question at a place, by the words of the event's row
+
+module _ (ts : List ObjectType) (kind x y z j met : ℕ) (there : Bool) where
+  abbrev answer : Question → Bool
+  answer q = answersAt ts q (eventOf kind x y z) j met there
+
+  pub set-answer : (k : ℕ) → (eqb 2 kind && eqb y k) ≡ answer (cellSet k)
+  unfolding answersAt
+  set-answer k = sym (whole-words sets (λ id c n. eqb c k) x y z refl refl refl refl kind)
+
+  pub join-answer : (r : ℕ) → (eqb 3 kind && (eqb x (r / 2) && (eqb j (r % 2) && there))) ≡ answer (joinedBy r)
+  unfolding answersAt
+  join-answer r = sym (whole-words joins (λ n a b. eqb n (relationshipOf r) && (eqb j (r % 2) && there)) x y z refl refl refl refl kind)
+
+  pub part-answer : (r : ℕ) → (eqb 4 kind && (eqb x (r / 2) && (eqb j (r % 2) && true))) ≡ answer (partedBy r)
+  unfolding answersAt
+  part-answer r =
+      ap (λ b. eqb 4 kind && (eqb x (r / 2) && b)) (and-true (eqb j (r % 2)))
+      ∙ sym (whole-words parts (λ n a b. eqb n (relationshipOf r) && eqb j (r % 2)) x y z refl refl refl refl kind)
+
+  pub insert-answer : (t : ℕ) → (eqb 0 kind && (eqb z 0 && under ts y t)) ≡ answer (insertedInto t)
+  unfolding answersAt
+  insert-answer t = sym (type-words inserts (λ id u n. under ts u t) x y z refl refl refl refl kind)
+
+  pub special-answer : (t : ℕ) → (eqb 5 kind && (eqb z 0 && (under ts y t && not (metUnder ts met t)))) ≡ answer (specialisedInto t)
+  unfolding answersAt
+  special-answer t = sym (type-words specials (λ id u n. under ts u t && not (metUnder ts met t)) x y z refl refl refl refl kind)
+
+  pub general-answer : (t : ℕ) → (eqb 6 kind && (eqb z 0 && (metUnder ts met t && not (under ts y t)))) ≡ answer (generalisedFrom t)
+  unfolding answersAt
+  general-answer t = sym (type-words generals (λ id u n. metUnder ts met t && not (under ts u t)) x y z refl refl refl refl kind)

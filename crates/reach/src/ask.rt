@@ -1,7 +1,7 @@
 // What the leaves of the reach rules ask of the events that name an object: a chain of places for each row.
 use tables::Counts;
 ghost use mathlib.Core.Path.{_≡_};
-ghost use mathlib.Core.Bool.{Bool, _&&_};
+ghost use mathlib.Core.Bool.{Bool, _&&_, not};
 ghost use Prim.Native.Nat.{ℕ, _/_, _%_, _≤_, _<_};
 ghost use lib.Dec.{eqb};
 ghost use Rattle.meaning.specs.Reach.{Change};
@@ -48,10 +48,17 @@ fn met_under(type_count: u32, types: &[u32], met: u32, t: u32) -> bool
 }
 
 // Whether an event that names its object at a place answers a question about a link.
-fn link_answers(kind: u32, wanted: u32, relationship: u32, place: u32, role: u32, there: bool) -> bool
-    ensures { λ r. ⌜ r ≡ (eqb kind wanted && (eqb relationship (role / 2) && (eqb (place % 2) (role % 2) && there))) ⌝ }
+fn link_answers(
+    kind: u32,
+    wanted: u32,
+    relationship: u32,
+    place: u32,
+    role: u32,
+    there: bool,
+) -> bool
+    ensures { λ r. ⌜ r ≡ (eqb wanted kind && (eqb relationship (role / 2) && (eqb (place % 2) (role % 2) && there))) ⌝ }
 {
-    if kind != wanted {
+    if wanted != kind {
         return false;
     }
     if relationship != role / 2 {
@@ -63,33 +70,61 @@ fn link_answers(kind: u32, wanted: u32, relationship: u32, place: u32, role: u32
     there
 }
 
-// Whether an event that changes its object's type to `to`, or gives it one, answers a question about a type.
-fn type_answers(type_count: u32, types: &[u32], kind: u32, to: u32, z: u32, met: u32, question: u32, t: u32) -> bool
-    requires { ⌜ (3 ≤ question) × (question < 6) ⌝ }
-    ensures { λ r. ⌜ ((x : ℕ) (j : ℕ) (there : Bool) → r ≡ answersAt (typesOf «type_count» (now (types .entry))) (questionOf question t) (eventOf kind x to z) j met there) ⌝ }
+// Whether one holds and not the other.
+fn unless(a: bool, b: bool) -> bool
+    ensures { λ r. ⌜ r ≡ (a && not b) ⌝ }
 {
+    if a { !b } else { false }
+}
+
+// Whether an event is of the kind that is asked for, its last field is not used, and the answer holds.
+fn of_kind(kind: u32, wanted: u32, z: u32, holds: bool) -> bool
+    ensures { λ r. ⌜ r ≡ (eqb wanted kind && (eqb z 0 && holds)) ⌝ }
+{
+    if wanted != kind {
+        return false;
+    }
     if z != 0 {
         return false;
     }
-    let under = schema::under(type_count, types, to, t);
+    holds
+}
+
+// Whether an event that gives its object the type `to` answers a question about a type.
+fn type_answers(
+    type_count: u32,
+    types: &[u32],
+    kind: u32,
+    to: u32,
+    z: u32,
+    met: u32,
+    question: u32,
+    t: u32,
+) -> bool
+    requires { ⌜ (3 ≤ question) × (question < 6) ⌝ }
+    ensures { λ r. ⌜ ((x : ℕ) (j : ℕ) (there : Bool) → r ≡ answersAt (typesOf «type_count» (now (types .entry))) (questionOf question t) (eventOf kind x to z) j met there) ⌝ }
+{
+    let is = schema::under(type_count, types, to, t);
     if question == INSERTED {
-        return if kind == INSERT { under } else { false };
+        return of_kind(kind, INSERT, z, is);
     }
     let was = met_under(type_count, types, met, t);
     if question == SPECIALISED {
-        if kind != SPECIAL {
-            return false;
-        }
-        return if under { !was } else { false };
+        return of_kind(kind, SPECIAL, z, unless(is, was));
     }
-    if kind != GENERAL {
-        return false;
-    }
-    if was { !under } else { false }
+    of_kind(kind, GENERAL, z, unless(was, is))
 }
 
 // Whether the event of a place answers a question about the object that it names there.
-fn answered(type_count: u32, types: &[u32], events: &[u32], trace: &[u16; 2593], place: u32, question: u32, x: u32) -> bool
+fn answered(
+    type_count: u32,
+    types: &[u32],
+    events: &[u32],
+    trace: &[u16; 2593],
+    place: u32,
+    question: u32,
+    x: u32,
+) -> bool
     requires { ⌜ (place < 512) × (question < 6) ⌝ }
     ensures { λ r. ⌜ r ≡ answersAt (typesOf «type_count» (now (types .entry))) (questionOf question x) (eventRow (now (events .entry)) (place / 2))
         (place % 2) (metWord (now (trace .entry)) (place / 2)) (eqb (thereWord (now (trace .entry)) (place / 2)) 1) ⌝ }
@@ -100,7 +135,7 @@ fn answered(type_count: u32, types: &[u32], events: &[u32], trace: &[u16; 2593],
     let b = rows::word(events, 4, i, 2);
     let z = rows::word(events, 4, i, 3);
     if question == CELL_SET {
-        return if kind == SET { b == x } else { false };
+        return of_kind(kind, SET, 0, b == x);
     }
     if question == JOINED {
         let at = (1024 + i) as usize;
@@ -170,5 +205,16 @@ pub fn ask_if(
     if !second {
         return false;
     }
-    ask(n, types, objects, links, count, events, trace, row, question, x)
+    ask(
+        n,
+        types,
+        objects,
+        links,
+        count,
+        events,
+        trace,
+        row,
+        question,
+        x,
+    )
 }

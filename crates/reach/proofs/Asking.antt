@@ -1,0 +1,220 @@
+-- A question about the object in a row, by the places that name it.
+use Prim.Native.Nat.{ℕ, zero, suc, _+_, _-_, _*_, _/_, _%_, _≤_, _<_}
+use mathlib.Core.Path.{_≡_, refl, sym, ap, ap₂, subst, _∙_}
+use mathlib.Core.Bool.{Bool, true, false, _&&_, _||_, not, cond, or-true}
+use mathlib.Core.List.{List, [], _∷_, map}
+use mathlib.Core.Option.{Option, none, some, Option·map, Option·none-ne-some, Option·some-injective}
+use mathlib.Core.Logic.{_⊎_, inl, inr, ⊎-elim}
+use native.Mathlib.Nat.{eq-or-lt-of-le, le-of-suc-le-suc}
+use native.Mathlib.Omega.{arith}
+use lib.Dec.{T, leb, eqb}
+use lib.ListN.{length, getElem?}
+use borrow.Author.Tests.{ne-eqb, eqb-true, leb-true, leb-false}
+use Rattle.meaning.specs.Limits.{maxObjects}
+use Rattle.meaning.specs.Lists.{any, holds}
+use Rattle.meaning.specs.Events.{Event}
+use Rattle.meaning.specs.Reach.{Step, Change, someStep}
+use Rattle.rows.specs.Rows.{rowsFrom, readRows}
+use Rattle.tables.specs.Columns.{objectRow, typesOf, eventRow}
+use Rattle.tables.specs.declared.Counts.{Counts}
+use Rattle.register.specs.Tables.{objectPlace}
+use Rattle.register.specs.Chains.{lead, slotWord}
+use Rattle.register.proofs.Chains.{Lead, lead-some, lead-none}
+use Rattle.register.proofs.Hits.{hit-some}
+use Rattle.register.proofs.Rows.{guessed-place}
+use Rattle.ocl.specs.Site.{idIn}
+use Rattle.reach.specs.Questions.{Question, answers, asked, answersAt}
+use Rattle.reach.specs.Traces.{itself, namedAt, orPast, rowNamed, placeRow, thereWord, metWord, Traced}
+use Rattle.reach.proofs.Questions.{names, step-places}
+
+so-true : (b : Bool) → T b → b ≡ true
+so-true true t = refl
+so-true false t = absurd t
+
+-- ---- lists by their places
+
+any-none-at : {A : Type 0} (p : A → Bool) (l : List A) → ((i : ℕ) (x : A) → getElem? l i ≡ some x → p x ≡ false) → any p l ≡ false
+any-none-at p [] h = refl
+any-none-at p (x ∷ l) h = ap₂ _||_ (h 0 x refl) (any-none-at p l (λ i. h (suc i)))
+
+any-some-at : {A : Type 0} (p : A → Bool) (l : List A) (i : ℕ) (x : A) → getElem? l i ≡ some x → p x ≡ true → any p l ≡ true
+any-some-at p [] i x e t = absurd (Option·none-ne-some x e)
+any-some-at p (y ∷ l) zero x e t = ap (λ b. b || any p l) (ap p (Option·some-injective y x e) ∙ t)
+any-some-at p (y ∷ l) (suc i) x e t = ap (λ b. p y || b) (any-some-at p l i x e t) ∙ or-true (p y)
+
+-- of a list whose images are rows, the element at a place
+mapped-at : {A B : Type 0} (f : A → B) (read : ℕ → B) (l : List A) (k n : ℕ) → map f l ≡ rowsFrom read k n → (i : ℕ) → i < n → (x : A) × (getElem? l i ≡ some x) × (f x ≡ read (k + i))
+mapped-at f read l k zero e i h = absurd (omega arith)
+mapped-at f read [] k (suc n) e i h = let z : _≡_ {A = ℕ} 0 (suc (length (rowsFrom read (suc k) n))) = ap length e in absurd (omega arith)
+mapped-at f read (y ∷ l) k (suc n) e zero h = let at : k + 0 ≡ k = omega arith in let q : f y ≡ read k = cc in (y, refl, q ∙ ap read (sym at))
+mapped-at f read (y ∷ l) k (suc n) e (suc i) h =
+    let tail : map f l ≡ rowsFrom read (suc k) n = cc in
+    let r = mapped-at f read l (suc k) n tail i (omega arith) in
+    let at : suc k + i ≡ k + suc i = omega arith in
+    (r .0, r .1, r .2 ∙ ap read at)
+
+some-within : {A B : Type 0} (f : A → B) (read : ℕ → B) (l : List A) (k n : ℕ) → map f l ≡ rowsFrom read k n → (i : ℕ) (x : A) → getElem? l i ≡ some x → i < n
+some-within f read [] k n e i x q = absurd (Option·none-ne-some x q)
+some-within f read (y ∷ l) k zero e i x q = let z : _≡_ {A = ℕ} (suc (length (map f l))) 0 = ap length e in absurd (omega arith)
+some-within f read (y ∷ l) k (suc n) e zero x q = omega arith
+some-within f read (y ∷ l) k (suc n) e (suc i) x q =
+    let tail : map f l ≡ rowsFrom read (suc k) n = cc in
+    let r = some-within f read l (suc k) n tail i x q in omega arith
+
+-- ---- the rows that places name
+
+module _ {c : Change} {n : Counts} {types objects links : List ℕ} {count : ℕ} {events trace : List ℕ} (traced : Traced c n types objects links count events trace) {row : ℕ} (there : row < n .objects) where
+  abbrev u : ℕ
+  u = idIn objects row
+
+  abbrev key : ℕ → ℕ
+  key = placeRow (n .objects) objects events
+
+  -- the object of an id stands in the row exactly where the id is the row's
+  row-names : (o : Option ℕ) → rowNamed (n .objects) objects o ≡ row → T (holds (eqb u) o)
+  row-names none e = absurd (omega (arith, traced .objects-few))
+  row-names (some id) e = step (objectPlace (n .objects) objects id) refl e
+    where
+      step : (r : Option ℕ) → objectPlace (n .objects) objects id ≡ r → orPast r ≡ row → T (eqb u id)
+      step none q e = absurd (omega (arith, traced .objects-few))
+      step (some r) q e =
+          let hit = hit-some (λ o. eqb (o .id) id) (objectRow objects) (n .objects) q in
+          subst (λ k. T (eqb (idIn objects k) id)) e (hit .1)
+
+  names-row : (o : Option ℕ) → holds (eqb u) o ≡ true → rowNamed (n .objects) objects o ≡ row
+  names-row none e = absurd (subst (λ b. T (not b)) e tt)
+  names-row (some id) e = ap orPast (guessed-place (n .objects) objects (traced .ascends) row there (eqb-true u id e))
+
+  module _ (q : Question) where
+    -- whether the event of a place answers
+    abbrev pub answerAt : ℕ → Bool
+    answerAt p = answersAt (typesOf (n .types) types) q (eventRow events (p / 2)) (p % 2) (metWord trace (p / 2)) (eqb (thereWord trace (p / 2)) 1)
+
+    -- an event answers at its places
+    at-step : (i : ℕ) (s : Step) → getElem? (c .steps) i ≡ some s → s .event ≡ eventRow events i → i < count
+        → answers c q u s ≡ ((names u (eventRow events i) 0 && answerAt (2 * i)) || (names u (eventRow events i) 1 && answerAt (2 * i + 1)))
+    at-step i s e is h =
+        let first : 2 * i / 2 ≡ i = omega arith in
+        let even : 2 * i % 2 ≡ 0 = omega arith in
+        let second : (2 * i + 1) / 2 ≡ i = omega arith in
+        let odd : (2 * i + 1) % 2 ≡ 1 = omega arith in
+        let met = metWord trace i in
+        let end = eqb (thereWord trace i) 1 in
+        step-places c u s met end (traced .seen .met-is i s e) (λ r a b z. traced .there-is i h r a b (sym is ∙ z)) q
+        ∙ (λ k. (names u (is k) 0 && answersAt (traced .seen .types-are k) q (is k) 0 met end) || (names u (is k) 1 && answersAt (traced .seen .types-are k) q (is k) 1 met end))
+        ∙ ap₂ (λ x y. (names u (eventRow events i) 0 && x) || (names u (eventRow events i) 1 && y))
+        (λ k. answersAt (typesOf (n .types) types) q (eventRow events (sym first k)) (sym even k) (metWord trace (sym first k)) (eqb (thereWord trace (sym first k)) 1))
+        (λ k. answersAt (typesOf (n .types) types) q (eventRow events (sym second k)) (sym odd k) (metWord trace (sym second k)) (eqb (thereWord trace (sym second k)) 1))
+
+    -- the step of an event
+    step-at : (i : ℕ) → i < count → (s : Step) × (getElem? (c .steps) i ≡ some s) × (s .event ≡ eventRow events i)
+    step-at i h =
+        let r = mapped-at (λ (s : Step). s .event) (eventRow events) (c .steps) 0 count (traced .seen .events-are) i h in
+        let at : 0 + i ≡ i = omega arith in
+        (r .0, r .1, r .2 ∙ ap (eventRow events) at)
+
+    -- a place that names the row, and answers
+    pub found : (p : ℕ) → p < 2 * count → key p ≡ row → answerAt p ≡ true → true ≡ asked c q u
+    unfolding asked someStep
+    found p h k a =
+        let r = step-at (p / 2) (omega arith) in
+        sym (any-some-at (answers c q u) (c .steps) (p / 2) (r .0) (r .1) (at-step (p / 2) (r .0) (r .1) (r .2) (omega arith) ∙ side (p % 2) refl (omega arith)))
+      where
+        i : ℕ
+        i = p / 2
+
+        named : names u (eventRow events i) (p % 2) ≡ true
+        named = so-true (names u (eventRow events i) (p % 2)) (row-names (namedAt (eventRow events i) (p % 2)) k)
+
+        side : (j : ℕ) → p % 2 ≡ j → j < 2 → ((names u (eventRow events i) 0 && answerAt (2 * i)) || (names u (eventRow events i) 1 && answerAt (2 * i + 1))) ≡ true
+        side zero e l =
+            let at : p ≡ 2 * i = omega arith in
+            ap₂ (λ x y. (x && y) || (names u (eventRow events i) 1 && answerAt (2 * i + 1))) (ap (names u (eventRow events i)) (sym e) ∙ named) (ap answerAt (sym at) ∙ a)
+        side (suc zero) e l =
+            let at : p ≡ 2 * i + 1 = omega arith in
+            ap₂ (λ x y. (names u (eventRow events i) 0 && answerAt (2 * i)) || (x && y)) (ap (names u (eventRow events i)) (sym e) ∙ named) (ap answerAt (sym at) ∙ a)
+            ∙ or-true (names u (eventRow events i) 0 && answerAt (2 * i))
+        side (suc (suc j)) e l = absurd (omega arith)
+
+    -- no place that names the row answers
+    pub not-found : ((p : ℕ) → p < 2 * count → key p ≡ row → answerAt p ≡ false) → false ≡ asked c q u
+    unfolding asked someStep
+    not-found h = sym (any-none-at (answers c q u) (c .steps) still)
+      where
+        silent : (i j p : ℕ) → p < 2 * count → p / 2 ≡ i → p % 2 ≡ j → (b : Bool) → names u (eventRow events i) j ≡ b → (b && answerAt p) ≡ false
+        silent i j p l d m true e = h p l (ap₂ (λ x y. rowNamed (n .objects) objects (namedAt (eventRow events x) y)) d m ∙ names-row (namedAt (eventRow events i) j) e)
+        silent i j p l d m false e = refl
+
+        still : (i : ℕ) (s : Step) → getElem? (c .steps) i ≡ some s → answers c q u s ≡ false
+        still i s e =
+            let within = some-within (λ (t : Step). t .event) (eventRow events) (c .steps) 0 count (traced .seen .events-are) i s e in
+            let r = step-at i within in
+            let own : r .0 ≡ s = Option·some-injective (r .0) s (sym (r .1) ∙ e) in
+            at-step i s e (ap (λ (t : Step). t .event) (sym own) ∙ r .2) within
+            ∙ ap₂ _||_ (silent i 0 (2 * i) (omega arith) (omega arith) (omega arith) (names u (eventRow events i) 0) refl) (silent i 1 (2 * i + 1) (omega arith) (omega arith) (omega arith) (names u (eventRow events i) 1) refl)
+
+-- ---- the walk over a row's places
+
+le-or-lt : (m n : ℕ) → (m ≤ n) ⊎ (n < m)
+le-or-lt m n = step (leb m n) refl
+  where
+    step : (b : Bool) → leb m n ≡ b → (m ≤ n) ⊎ (n < m)
+    step true e = inl (leb-true m n e)
+    step false e = inr (leb-false m n e)
+
+-- a word of the chain is 1 + a place
+own-slot : (w : ℕ) → slotWord itself w ≡ w
+own-slot zero = refl
+own-slot (suc p) = refl
+
+-- what is left of a walk that holds the word
+abbrev pub leftOf : ℕ → ℕ
+leftOf word = cond (eqb word 0) 0 (suc (512 - word))
+
+module _ (key : ℕ → ℕ) (places row : ℕ) (silent : ℕ → Bool) where
+  -- The walk holds 1 + the first place of the row from i on, and none before is one that answers.
+  pub record Walk (word : ℕ) : Type 0 where
+    pub from : ℕ
+    pub word-is : word ≡ slotWord itself (lead key places row from)
+    pub passed : (p : ℕ) → p < from → key p ≡ row → silent p ≡ false
+
+  module _ {word : ℕ} (walk : Walk word) where
+    -- the place that the walk has come to
+    pub here : (place : ℕ) → suc place ≡ word → Lead key row (walk .from) places place
+    here place e = lead-some key row places (walk .from) (e ∙ walk .word-is ∙ own-slot (lead key places row (walk .from)))
+
+    -- after the last place, none of the row answers
+    pub all-passed : word ≡ 0 → (p : ℕ) → p < places → key p ≡ row → silent p ≡ false
+    all-passed e p h k =
+        ⊎-elim
+        (λ (l : walk .from ≤ p). absurd (lead-none key row places (walk .from) (sym e ∙ walk .word-is ∙ own-slot (lead key places row (walk .from))) p l h k))
+        (λ (l : p < walk .from). walk .passed p l k)
+        (le-or-lt (walk .from) p)
+
+    -- one place on
+    module _ (place : ℕ) (e : suc place ≡ word) (still : silent place ≡ false) {next : ℕ} (next-is : next ≡ slotWord itself (lead key places (key place) (suc place))) where
+      pub goes-on : Walk next
+      goes-on =
+          let at = here place e in
+          record {
+            from = suc place;
+            word-is = next-is ∙ ap (λ k. slotWord itself (lead key places k (suc place))) (at .leads);
+            passed = λ p h k.
+                ⊎-elim
+                (λ (l : walk .from ≤ p). ⊎-elim (λ (s : p ≡ place). ap silent s ∙ still) (λ (s : p < place). absurd (at .others p l s k)) (eq-or-lt-of-le (le-of-suc-le-suc h)))
+                (λ (l : p < walk .from). walk .passed p l k)
+                (le-or-lt (walk .from) p);
+          }
+
+      pub less-left : places ≤ 512 → leftOf next < leftOf word
+      less-left few = step next refl
+        where
+          held : (w : ℕ) → 0 < w → leftOf w ≡ suc (512 - w)
+          held w h = rw (ne-eqb w 0 (λ q. omega arith))
+
+          step : (w : ℕ) → next ≡ w → leftOf w < leftOf word
+          step zero q = rw (held word (omega arith)) (omega arith)
+          step (suc p) q =
+              let l = lead-some key (key place) places (suc place) (sym q ∙ next-is ∙ own-slot (lead key places (key place) (suc place))) in
+              let m = here place e in
+              omega (arith, held word (omega arith), held (suc p) (omega arith), l .from, l .within, m .within)
