@@ -10,7 +10,7 @@ use native.Mathlib.Omega.{arith}
 use lib.Dec.{T, ltb, leb, eqb}
 use lib.ListN.{length, getD, take, set}
 use lib.Signed.{mag}
-use lib.Seq.{length-take-le, getD-take, take-suc-set}
+use lib.Seq.{length-take-le, getD-take, take-take, take-suc-set, take-set-le}
 use mir.Facts.{and-yes}
 use borrow.Author.Tests.{lt-ltb, le-ltb, leb-true, leb-false, eqb-false, eq-eqb, ne-eqb}
 use Rattle.meaning.specs.Limits.{fitsWord}
@@ -310,3 +310,11 @@ module _ (rows : ℕ → BodyRow) (i : ℕ) (sound : T ((ending rows (suc i)) .s
 -- a variable more
 pub bind-take : (env : List ℕ) (depth t : ℕ) → depth < length env → take (depth + 1) (set env depth t) ≡ bind (take depth env) t
 bind-take env depth t h = ap (λ n. take n (set env depth t)) (add-one depth) ∙ take-suc-set env depth t h
+
+-- what is left of the types of the variables by whoever was lent one more
+pub scope-kept : (env left : List ℕ) (depth t : ℕ) → take (depth + 1) left ≡ take (depth + 1) (set env depth t) → take depth left ≡ take depth env
+scope-kept env left depth t h =
+    sym (take-take depth (depth + 1) left (omega arith))
+    ∙ ap (take depth) h
+    ∙ take-take depth (depth + 1) (set env depth t) (omega arith)
+    ∙ take-set-le depth env depth t (le-refl depth)

@@ -2,7 +2,7 @@
 use tables::Found;
 
 pub mod body;
-mod typing;
+pub mod typing;
 
 use typing::Place;
 ghost use mathlib.Core.Path.{_≡_};
@@ -51,7 +51,7 @@ fn faulty(
         end: n,
         depth: 1,
     };
-    !typing::typed(types, relationships, bodies, &starts, &env, form)
+    !typing::typed(types, relationships, bodies, &starts, &mut env, form)
 }
 
 // The first faulty rule.

@@ -39,7 +39,7 @@ pub struct Place {
 }
 
 // The type of a collection's members.
-fn member_type(relationships: &[u32], bodies: &[u32], starts: &[u32; 65], at: Place) -> u32
+pub fn member_type(relationships: &[u32], bodies: &[u32], starts: &[u32; 65], at: Place) -> u32
     requires { ⌜ (Starts (bodyOf (now bodies) (at .rule)) (now starts) (at .end)) × T (reads collection (ending (bodyOf (now bodies) (at .rule)) (at .end))) ⌝ }
     ensures { λ r. ⌜ r ≡ memberOf (relationshipsOf (at .relationships) (now (relationships .entry))) ((ending (bodyOf (now (bodies .entry)) (at .rule)) (at .end)) .form) ⌝ }
 {
@@ -118,21 +118,22 @@ fn summable(
     x < schema::cells_of(at.types, types, member)
 }
 
-// Whether a form is well typed, by the types of its variables.
+// Whether a form is well typed, by the types of its variables. The types past theirs are room for those of the variables inside it.
 pub fn typed(
     types: &[u32],
     relationships: &[u32],
     bodies: &[u32],
     starts: &[u32; 65],
-    env: &[u32; 64],
+    env: &mut [u32; 64],
     at: Place,
 ) -> bool
     requires { ⌜ (Starts (bodyOf (now bodies) (at .rule)) (now starts) (at .end))
         × T ((ending (bodyOf (now bodies) (at .rule)) (at .end)) .sound)
         × (length (now env) ≡ 64) × (at .depth + at .end ≤ 65) ⌝ }
-    ensures { λ r. ⌜ r ≡ typedPart
+    ensures { λ r. ⌜ (r ≡ typedPart
         (schemaOf (at .types) (now (types .entry)) (at .relationships) (now (relationships .entry)))
-        (take (at .depth) (now (env .entry))) ((ending (bodyOf (now (bodies .entry)) (at .rule)) (at .end)) .form) ⌝ }
+        (take (at .depth) (now (env .entry))) ((ending (bodyOf (now (bodies .entry)) (at .rule)) (at .end)) .form))
+        × (length (now (env .exit)) ≡ 64) × (take (at .depth) (now (env .exit)) ≡ take (at .depth) (now (env .entry))) ⌝ }
 {
     let row = at.end - 1;
     let code = field(bodies, at.rule, row, 0);
@@ -158,9 +159,8 @@ pub fn typed(
     if shape(code, FIRST) != COLLECTION {
         return typed(types, relationships, bodies, starts, env, second);
     }
-    let mut inner = *env;
     let new = at.depth as usize;
-    inner[new] = member_type(relationships, bodies, starts, first);
+    env[new] = member_type(relationships, bodies, starts, first);
     second.depth = at.depth + 1;
-    typed(types, relationships, bodies, starts, &inner, second)
+    typed(types, relationships, bodies, starts, env, second)
 }

@@ -1,5 +1,5 @@
 -- A rule's body that was found good, and its rows in the table of bodies.
-use Prim.Native.Nat.{ℕ, _+_, _*_, _≤_}
+use Prim.Native.Nat.{ℕ, _+_, _≤_}
 use mathlib.Core.Path.{_≡_}
 use mathlib.Core.List.{List, _++_}
 use mathlib.Core.Option.{some, bind}
@@ -8,10 +8,6 @@ use Rattle.meaning.specs.Limits.{maxForms}
 use Rattle.text.specs.Tokens.{tokensIn}
 use Rattle.text.specs.Bodies.{Written, formsIn}
 use Rattle.text.specs.Entries.{rule, bodyIn}
-
--- how many words of the table of bodies are a rule's, four to a row
-abbrev pub bodyWords : ℕ
-bodyWords = 4 * maxForms
 
 -- a text is the body of a rule of type t and the rule's own closed bracket; the body has no more forms than a rule may
 pub record WholeBody (l : List ℕ) (t : ℕ) (w : Written) : Type 0 where

@@ -12,7 +12,8 @@ ghost use Rattle.text.specs.Bodies.{Written, rowsOf};
 ghost use Rattle.text.specs.Texts.{maxText};
 ghost use Rattle.brackets.specs.Brackets.{placeOr, foundAt, noItems, itemsAt, bodyAt};
 ghost use Rattle.brackets.specs.Steps.{packed, openedBy, filledBy, lackingAfter, noBody, endedAt};
-ghost use Rattle.brackets.specs.Whole.{bodyWords, WholeBody, rowsPut};
+ghost use Rattle.tables.specs.Layouts.{bodyWords};
+ghost use Rattle.brackets.specs.Whole.{WholeBody, rowsPut};
 
 // A token, and the place after it. An item is a number's word, or 2^32 for `-` alone.
 pub enum Found {

@@ -1,21 +1,38 @@
 // Every check of a lent book and register, in the order of document 01's table of refusals.
+use tables::BODY_WIDTH;
 use tables::Counts;
+use tables::EVENT_WIDTH;
 use tables::Found;
+use tables::LINK_WIDTH;
+use tables::MAX_EVENTS;
+use tables::MAX_FORMS;
+use tables::MAX_LINKS;
+use tables::MAX_OBJECTS;
+use tables::MAX_RELATIONSHIPS;
+use tables::MAX_RULES;
+use tables::MAX_TYPES;
+use tables::OBJECT_WIDTH;
+use tables::RELATIONSHIP_WIDTH;
+use tables::RULE_WIDTH;
+use tables::TYPE_WIDTH;
 use tables::Verdict;
 ghost use mathlib.Core.Path.{_≡_};
 ghost use mathlib.Core.Bool.{_||_, not};
-ghost use Rattle.meaning.specs.Lists.{any};
-ghost use Rattle.rows.specs.Rows.{wholeRows};
+ghost use mathlib.Core.List.{[]};
 ghost use Rattle.meaning.specs.Answers.{refusal};
-ghost use Rattle.tables.specs.Refusals.{overfull, broken, tablesOf, lentTables, bookOf, registerIn, lentRefusal, verdictOf};
-ghost use Rattle.tables.specs.declared.Counts.{Counts};
+ghost use Rattle.rows.specs.Rows.{wholeRows};
+ghost use Rattle.tables.specs.Layouts.{sheetOf, bookTables, layouts};
+ghost use Rattle.tables.specs.Columns.{bookOf, registerIn};
+ghost use Rattle.tables.specs.Refusals.{overfull, anyOverfull, anyLong, notWhole, lentRefusal, refusalOf, verdictOf};
 ghost use Rattle.checks.specs.Stages.{staged};
 
+pub mod events;
+
 // 2: whether more rows are used than the limit allows or the slice has.
-pub fn too_many(t: &[u32], width: u32, used: usize, limit: usize) -> bool
-    ensures { λ r. ⌜ r ≡ overfull (record { words = now (t .entry); width = width; used = used; limit = limit }) ⌝ }
+fn too_many(t: &[u32], width: u32, used: usize, limit: u32) -> bool
+    ensures { λ r. ⌜ r ≡ overfull (now (t .entry)) width used limit ⌝ }
 {
-    if limit < used {
+    if (limit as usize) < used {
         return true;
     }
     rows::rows_lent(t, width) < used
@@ -27,8 +44,22 @@ fn or(a: bool, b: bool) -> bool
     if a { true } else { b }
 }
 
-// 2, of every table of a book and a register. A rule has 64 body rows.
-pub fn any_too_many(
+// 2: whether one of so many rules has more body rows than a body may have.
+fn any_long(rules: &[u32], count: u32) -> bool
+    ensures { λ r. ⌜ r ≡ anyLong (now (rules .entry)) count ⌝ }
+{
+    let mut row: u32 = 0;
+    while row < count {
+        if MAX_FORMS < rows::word(rules, RULE_WIDTH, row, 1) {
+            return true;
+        }
+        row += 1;
+    }
+    false
+}
+
+// 2: whether a table of a book or a register has more used rows than it may.
+fn any_overfull(
     n: Counts,
     types: &[u32],
     relationships: &[u32],
@@ -37,25 +68,35 @@ pub fn any_too_many(
     objects: &[u32],
     links: &[u32],
 ) -> bool
-    ensures { λ r. ⌜ r ≡ any overfull (tablesOf (lentTables n (now (types .entry)) (now (relationships .entry)) (now (rules .entry)) (now (bodies .entry)) (now (objects .entry)) (now (links .entry)))) ⌝ }
+    ensures { λ r. ⌜ r ≡ anyOverfull bookTables n (sheetOf (now (types .entry)) (now (relationships .entry)) (now (rules .entry)) (now (bodies .entry)) (now (objects .entry)) (now (links .entry)) []) ⌝ }
 {
-    let a = too_many(types, 2, n.types as usize, 32);
-    let b = too_many(relationships, 2, n.relationships as usize, 32);
-    let c = too_many(rules, 2, n.rules as usize, 32);
-    let d = too_many(bodies, 4, (n.rules as usize) * 64, 2048);
-    let e = too_many(objects, 10, n.objects as usize, 1024);
-    let f = too_many(links, 3, n.links as usize, 4096);
+    let a = too_many(types, TYPE_WIDTH, n.types as usize, MAX_TYPES);
+    let b = too_many(
+        relationships,
+        RELATIONSHIP_WIDTH,
+        n.relationships as usize,
+        MAX_RELATIONSHIPS,
+    );
+    let c = too_many(rules, RULE_WIDTH, n.rules as usize, MAX_RULES);
+    let d = too_many(
+        bodies,
+        BODY_WIDTH,
+        (n.rules as usize) * (MAX_FORMS as usize),
+        MAX_RULES * MAX_FORMS,
+    );
+    let e = too_many(objects, OBJECT_WIDTH, n.objects as usize, MAX_OBJECTS);
+    let f = too_many(links, LINK_WIDTH, n.links as usize, MAX_LINKS);
     or(a, or(b, or(c, or(d, or(e, or(f, false))))))
 }
 
-pub fn not_whole(t: &[u32], width: u32) -> bool
+fn not_whole(t: &[u32], width: u32) -> bool
     ensures { λ r. ⌜ r ≡ not (wholeRows (now (t .entry)) width) ⌝ }
 {
     !rows::whole(t, width)
 }
 
 // 6: whether a table of a book or a register is not whole rows.
-pub fn any_broken(
+fn any_broken(
     types: &[u32],
     relationships: &[u32],
     rules: &[u32],
@@ -63,14 +104,14 @@ pub fn any_broken(
     objects: &[u32],
     links: &[u32],
 ) -> bool
-    ensures { λ r. ⌜ ((n : Counts) → r ≡ any broken (tablesOf (lentTables n (now (types .entry)) (now (relationships .entry)) (now (rules .entry)) (now (bodies .entry)) (now (objects .entry)) (now (links .entry))))) ⌝ }
+    ensures { λ r. ⌜ r ≡ notWhole bookTables (sheetOf (now (types .entry)) (now (relationships .entry)) (now (rules .entry)) (now (bodies .entry)) (now (objects .entry)) (now (links .entry)) []) ⌝ }
 {
-    let a = not_whole(types, 2);
-    let b = not_whole(relationships, 2);
-    let c = not_whole(rules, 2);
-    let d = not_whole(bodies, 4);
-    let e = not_whole(objects, 10);
-    let f = not_whole(links, 3);
+    let a = not_whole(types, TYPE_WIDTH);
+    let b = not_whole(relationships, RELATIONSHIP_WIDTH);
+    let c = not_whole(rules, RULE_WIDTH);
+    let d = not_whole(bodies, BODY_WIDTH);
+    let e = not_whole(objects, OBJECT_WIDTH);
+    let f = not_whole(links, LINK_WIDTH);
     or(a, or(b, or(c, or(d, or(e, or(f, false))))))
 }
 
@@ -94,7 +135,7 @@ fn contents(
     objects: &[u32],
     links: &[u32],
 ) -> Verdict
-    ensures { λ r. ⌜ r ≡ verdictOf (refusal (bookOf (lentTables n (now (types .entry)) (now (relationships .entry)) (now (rules .entry)) (now (bodies .entry)) (now (objects .entry)) (now (links .entry)))) (registerIn (lentTables n (now (types .entry)) (now (relationships .entry)) (now (rules .entry)) (now (bodies .entry)) (now (objects .entry)) (now (links .entry))))) ⌝ }
+    ensures { λ r. ⌜ (let s = sheetOf (now (types .entry)) (now (relationships .entry)) (now (rules .entry)) (now (bodies .entry)) (now (objects .entry)) (now (links .entry)) [] in r ≡ verdictOf (refusal (bookOf n s) (registerIn n s))) ⌝ }
 {
     let s = schema::check(n.types, types, n.relationships, relationships);
     let b = book::check(
@@ -132,9 +173,12 @@ pub fn check(
     links: &[u32],
     scratch_short: bool,
 ) -> Verdict
-    ensures { λ r. ⌜ r ≡ verdictOf (lentRefusal (lentTables n (now (types .entry)) (now (relationships .entry)) (now (rules .entry)) (now (bodies .entry)) (now (objects .entry)) (now (links .entry))) «scratch_short») ⌝ }
+    ensures { λ r. ⌜ r ≡ verdictOf (lentRefusal n (sheetOf (now (types .entry)) (now (relationships .entry)) (now (rules .entry)) (now (bodies .entry)) (now (objects .entry)) (now (links .entry)) []) «scratch_short») ⌝ }
 {
-    if any_too_many(n, types, relationships, rules, bodies, objects, links) {
+    if any_overfull(n, types, relationships, rules, bodies, objects, links) {
+        return Verdict::Refused(2, 0);
+    }
+    if any_long(rules, n.rules) {
         return Verdict::Refused(2, 0);
     }
     let broken = any_broken(types, relationships, rules, bodies, objects, links);
@@ -142,4 +186,34 @@ pub fn check(
         return Verdict::Refused(6, 0);
     }
     contents(n, types, relationships, rules, bodies, objects, links)
+}
+
+// The same with a lent batch: 2 and 6 of its table too.
+pub fn check_all(
+    n: Counts,
+    types: &[u32],
+    relationships: &[u32],
+    rules: &[u32],
+    bodies: &[u32],
+    objects: &[u32],
+    links: &[u32],
+    events: &[u32],
+    scratch_short: bool,
+) -> Verdict
+    ensures { λ r. ⌜ r ≡ verdictOf (refusalOf layouts n (sheetOf (now (types .entry)) (now (relationships .entry)) (now (rules .entry)) (now (bodies .entry)) (now (objects .entry)) (now (links .entry)) (now (events .entry))) «scratch_short») ⌝ }
+{
+    if too_many(events, EVENT_WIDTH, n.events as usize, MAX_EVENTS) {
+        return Verdict::Refused(2, 0);
+    }
+    let short = or(not_whole(events, EVENT_WIDTH), scratch_short);
+    check(
+        n,
+        types,
+        relationships,
+        rules,
+        bodies,
+        objects,
+        links,
+        short,
+    )
 }

@@ -9,6 +9,7 @@ use Rattle.text.specs.Texts as Texts
 use Rattle.reader.specs.Reads.{readAnswer}
 use Rattle.reader.specs.declared.Outcome.the-variants as Outcomes
 use Rattle.tables.specs.Refusals.{verdictOf}
+use Rattle.tables.specs.declared.Counts.{Counts}
 use Rattle.tables.specs.declared.Verdict.the-variants.{Clear, Refused}
 use Rattle.full.specs.Answers.{answerOf}
 use Rattle.full.specs.declared.Answer.the-variants as Answers
@@ -43,7 +44,8 @@ words-refused (brokenAt rule id) e = cc
 words-refused (refused number place) e = cc
 
 pub words-taken :
-    (r : Texts.Reading) {a b c d e f : ℕ} → Outcomes.Done a b c d e f ≡ readAnswer r → 0 ∷ a ∷ b ∷ c ∷ d ∷ e ∷ f ∷ [] ≡ readWords r
+    (r : Texts.Reading) {n : Counts} → Outcomes.Done n ≡ readAnswer r
+    → 0 ∷ n .types ∷ n .relationships ∷ n .rules ∷ n .objects ∷ n .links ∷ n .events ∷ [] ≡ readWords r
 unfolding readWords
 words-taken (Texts.taken es) e = cc
 words-taken (Texts.refused number line) e = cc

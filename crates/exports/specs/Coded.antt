@@ -8,12 +8,12 @@ use Rattle.meaning.specs.Answers.{Answer, accepted, brokenAt}
 use Rattle.tables.specs.declared.Counts.{Counts}
 use Rattle.text.specs.Names.{typeName, relationshipName, ruleName, objectName, linkName}
 use Rattle.text.specs.Entries.{eventSection, countOf}
-use Rattle.text.specs.Texts.{Reading, taken, refused, reading}
-use Rattle.reader.specs.Reads.{lentRows, allWhole, unlessBroken}
+use Rattle.text.specs.Texts.{Reading, taken, refused}
 
-abbrev pub countsOf : ℕ → ℕ → ℕ → ℕ → ℕ → Counts
-countsOf types relationships rules objects links =
-    record { types = types; relationships = relationships; rules = rules; objects = objects; links = links }
+-- the used rows of a book and a register
+abbrev pub usedRows : ℕ → ℕ → ℕ → ℕ → ℕ → Counts
+usedRows types relationships rules objects links =
+    record { types = types; relationships = relationships; rules = rules; objects = objects; links = links; events = 0 }
 
 -- a refusal's number times 2^32 plus its place, or 0
 unfoldable pub coded : Option Refusal → ℕ
@@ -25,12 +25,6 @@ unfoldable pub answerWords : Answer → List ℕ
 answerWords accepted = 0 ∷ 0 ∷ 0 ∷ []
 answerWords (brokenAt rule id) = 1 ∷ rule ∷ id ∷ []
 answerWords (Answers.refused number place) = 2 ∷ number ∷ place ∷ []
-
--- what a text meets that is read into lent tables
-abbrev pub lentReading : List ℕ → List ℕ → List ℕ → List ℕ → List ℕ → List ℕ → List ℕ → List ℕ → Reading
-lentReading text types relationships rules bodies objects links events =
-    unlessBroken (reading (lentRows types relationships rules bodies objects links events) text)
-    (allWhole types relationships rules bodies objects links events)
 
 -- a reading as seven words: 0 and the rows of the six sections; 1, number, line, and zeros
 unfoldable pub readWords : Reading → List ℕ

@@ -7,12 +7,12 @@ use tables::Counts;
 use tables::Verdict;
 ghost use mathlib.Core.Path.{_≡_};
 ghost use mathlib.Core.Bool.{false};
-ghost use Rattle.tables.specs.Refusals.{lentTables, lentRefusal};
+ghost use mathlib.Core.List.{[]};
+ghost use Rattle.tables.specs.Layouts.{sheetOf};
+ghost use Rattle.tables.specs.Refusals.{lentRefusal};
 ghost use Rattle.full.specs.Answers.{lentAnswer};
-ghost use Rattle.text.specs.Names.{typeName, relationshipName, ruleName, objectName, linkName};
-ghost use Rattle.text.specs.Entries.{eventSection, tableOf, bodiesOf};
-ghost use Rattle.reader.specs.Reads.{tableAfter};
-ghost use Rattle.exports.specs.Coded.{coded, countsOf, answerWords, lentReading, readWords};
+ghost use Rattle.reader.specs.Reads.{lentReading, sheetAfter};
+ghost use Rattle.exports.specs.Coded.{coded, usedRows, answerWords, readWords};
 
 // Refusals 2, 6, 3, 4 and 5 of a lent book and register: a refusal's number times 2^32 plus its place, or 0.
 #[no_mangle]
@@ -29,7 +29,7 @@ pub extern "C" fn checker_check(
     objects: &[u32],
     links: &[u32],
 ) -> u64
-    ensures { λ r. ⌜ r ≡ coded (lentRefusal (lentTables (countsOf «types_used» «relationships_used» «rules_used» «objects_used» «links_used») (now (types .entry)) (now (relationships .entry)) (now (rules .entry)) (now (bodies .entry)) (now (objects .entry)) (now (links .entry))) false) ⌝ }
+    ensures { λ r. ⌜ r ≡ coded (lentRefusal (usedRows «types_used» «relationships_used» «rules_used» «objects_used» «links_used») (sheetOf (now (types .entry)) (now (relationships .entry)) (now (rules .entry)) (now (bodies .entry)) (now (objects .entry)) (now (links .entry)) []) false) ⌝ }
 {
     let n = Counts {
         types: types_used,
@@ -37,6 +37,7 @@ pub extern "C" fn checker_check(
         rules: rules_used,
         objects: objects_used,
         links: links_used,
+        events: 0,
     };
     match checks::check(
         n,
@@ -69,7 +70,7 @@ pub extern "C" fn checker_full_check(
     links: &[u32],
     answer: &mut [u32; 3],
 )
-    ensures { λ r. ⌜ now (answer .exit) ≡ answerWords (lentAnswer (lentTables (countsOf «types_used» «relationships_used» «rules_used» «objects_used» «links_used») (now (types .entry)) (now (relationships .entry)) (now (rules .entry)) (now (bodies .entry)) (now (objects .entry)) (now (links .entry)))) ⌝ }
+    ensures { λ r. ⌜ now (answer .exit) ≡ answerWords (lentAnswer (usedRows «types_used» «relationships_used» «rules_used» «objects_used» «links_used») (sheetOf (now (types .entry)) (now (relationships .entry)) (now (rules .entry)) (now (bodies .entry)) (now (objects .entry)) (now (links .entry)) [])) ⌝ }
 {
     let n = Counts {
         types: types_used,
@@ -77,6 +78,7 @@ pub extern "C" fn checker_full_check(
         rules: rules_used,
         objects: objects_used,
         links: links_used,
+        events: 0,
     };
     *answer = match full::check(n, types, relationships, rules, bodies, objects, links) {
         Answer::Accepted => [0, 0, 0],
@@ -98,7 +100,10 @@ pub extern "C" fn checker_read(
     events: &mut [u32],
     answer: &mut [u32; 7],
 )
-    ensures { λ r. ⌜ (now (answer .exit) ≡ readWords (lentReading (now (text .entry)) (now (types .entry)) (now (relationships .entry)) (now (rules .entry)) (now (bodies .entry)) (now (objects .entry)) (now (links .entry)) (now (events .entry)))) × (now (types .exit) ≡ tableAfter (lentReading (now (text .entry)) (now (types .entry)) (now (relationships .entry)) (now (rules .entry)) (now (bodies .entry)) (now (objects .entry)) (now (links .entry)) (now (events .entry))) (tableOf typeName) (now (types .entry))) × (now (relationships .exit) ≡ tableAfter (lentReading (now (text .entry)) (now (types .entry)) (now (relationships .entry)) (now (rules .entry)) (now (bodies .entry)) (now (objects .entry)) (now (links .entry)) (now (events .entry))) (tableOf relationshipName) (now (relationships .entry))) × (now (rules .exit) ≡ tableAfter (lentReading (now (text .entry)) (now (types .entry)) (now (relationships .entry)) (now (rules .entry)) (now (bodies .entry)) (now (objects .entry)) (now (links .entry)) (now (events .entry))) (tableOf ruleName) (now (rules .entry))) × (now (bodies .exit) ≡ tableAfter (lentReading (now (text .entry)) (now (types .entry)) (now (relationships .entry)) (now (rules .entry)) (now (bodies .entry)) (now (objects .entry)) (now (links .entry)) (now (events .entry))) bodiesOf (now (bodies .entry))) × (now (objects .exit) ≡ tableAfter (lentReading (now (text .entry)) (now (types .entry)) (now (relationships .entry)) (now (rules .entry)) (now (bodies .entry)) (now (objects .entry)) (now (links .entry)) (now (events .entry))) (tableOf objectName) (now (objects .entry))) × (now (links .exit) ≡ tableAfter (lentReading (now (text .entry)) (now (types .entry)) (now (relationships .entry)) (now (rules .entry)) (now (bodies .entry)) (now (objects .entry)) (now (links .entry)) (now (events .entry))) (tableOf linkName) (now (links .entry))) × (now (events .exit) ≡ tableAfter (lentReading (now (text .entry)) (now (types .entry)) (now (relationships .entry)) (now (rules .entry)) (now (bodies .entry)) (now (objects .entry)) (now (links .entry)) (now (events .entry))) (tableOf eventSection) (now (events .entry))) ⌝ }
+    ensures { λ r. ⌜ (let before = sheetOf (now (types .entry)) (now (relationships .entry)) (now (rules .entry)) (now (bodies .entry)) (now (objects .entry)) (now (links .entry)) (now (events .entry)) in
+        let after = sheetOf (now (types .exit)) (now (relationships .exit)) (now (rules .exit)) (now (bodies .exit)) (now (objects .exit)) (now (links .exit)) (now (events .exit)) in
+        let reading = lentReading (now (text .entry)) before in
+        (now (answer .exit) ≡ readWords reading) × (after ≡ sheetAfter reading before)) ⌝ }
 {
     *answer = match reader::read(
         text,
@@ -110,14 +115,15 @@ pub extern "C" fn checker_read(
         links,
         events,
     ) {
-        Outcome::Done {
-            types: a,
-            relationships: b,
-            rules: c,
-            objects: d,
-            links: e,
-            events: f,
-        } => [0, a, b, c, d, e, f],
+        Outcome::Done(n) => [
+            0,
+            n.types,
+            n.relationships,
+            n.rules,
+            n.objects,
+            n.links,
+            n.events,
+        ],
         Outcome::Refused(number, line) => [1, number, line, 0, 0, 0, 0],
     };
 }

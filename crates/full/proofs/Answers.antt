@@ -7,16 +7,16 @@ use Rattle.meaning.specs.Lists.{firstOf}
 use Rattle.meaning.specs.Events.{Refusal}
 use Rattle.meaning.specs.Answers as Meaning
 use Rattle.meaning.specs.Answers.{refusal, unlessRefused, fullCheck}
-use Rattle.tables.specs.Refusals.{Tables, bookOf, registerIn, verdictOf, tablesOf, tableRefusal, lentRefusal}
+use Rattle.tables.specs.Layouts.{Sheet, bookTables}
+use Rattle.tables.specs.Columns.{bookOf, registerIn}
+use Rattle.tables.specs.Refusals.{verdictOf, tableRefusal, refusalOf, lentRefusal}
+use Rattle.tables.specs.declared.Counts.{Counts}
 use Rattle.tables.specs.declared.Verdict.the-variants.{Clear, Refused}
+use Rattle.checks.proofs.Given.{clear-none}
 use Rattle.full.specs.Answers.{answerOf, lentAnswer}
 use Rattle.full.specs.Search.{found}
 use Rattle.full.specs.declared.Answer.{Answer}
 use Rattle.full.specs.declared.Answer.the-variants as Answers
-
-pub clear-none : (o : Option Refusal) → Clear ≡ verdictOf o → o ≡ none
-clear-none none e = refl
-clear-none (some r) e = cc
 
 -- ---- an answer unless a refusal is met
 
@@ -35,13 +35,13 @@ unfolding unlessRefused
 in-turn none b x = refl
 in-turn (some r) b x = refl
 
-module _ (t : Tables) where
-  all-refusals : unlessRefused (lentRefusal t false) (found t) ≡ lentAnswer t
-  unfolding lentAnswer lentRefusal fullCheck found
-  all-refusals = in-turn (tableRefusal (tablesOf t) false) (refusal (bookOf t) (registerIn t)) (found t)
+module _ (n : Counts) (s : Sheet) where
+  all-refusals : unlessRefused (lentRefusal n s false) (found n s) ≡ lentAnswer n s
+  unfolding lentAnswer refusalOf fullCheck found
+  all-refusals = in-turn (tableRefusal bookTables n s false) (refusal (bookOf n s) (registerIn n s)) (found n s)
 
-  pub answer-refused : {number place : ℕ} → Refused number place ≡ verdictOf (lentRefusal t false) → Answers.Refused number place ≡ answerOf (lentAnswer t)
-  answer-refused e = refused-answer (lentRefusal t false) (found t) e ∙ ap answerOf all-refusals
+  pub answer-refused : {number place : ℕ} → Refused number place ≡ verdictOf (lentRefusal n s false) → Answers.Refused number place ≡ answerOf (lentAnswer n s)
+  answer-refused e = refused-answer (lentRefusal n s false) (found n s) e ∙ ap answerOf all-refusals
 
-  pub answer-found : {r : Answer} → Clear ≡ verdictOf (lentRefusal t false) → r ≡ answerOf (found t) → r ≡ answerOf (lentAnswer t)
-  answer-found e z = z ∙ clear-answer (lentRefusal t false) (found t) e ∙ ap answerOf all-refusals
+  pub answer-found : {r : Answer} → Clear ≡ verdictOf (lentRefusal n s false) → r ≡ answerOf (found n s) → r ≡ answerOf (lentAnswer n s)
+  answer-found e z = z ∙ clear-answer (lentRefusal n s false) (found n s) e ∙ ap answerOf all-refusals

@@ -14,8 +14,9 @@ use Rattle.meaning.specs.Events.{Refusal}
 use Rattle.meaning.specs.Reach.{pairOf}
 use Rattle.meaning.specs.Answers.{refusalAt, bookRefusal, registerRefusal, refusal, lackedRule, refusalFor, foundAnswer, firstBroken}
 use Rattle.rows.specs.Rows.{readRows}
-use Rattle.tables.specs.Columns.{ruleRow, relationshipRow}
-use Rattle.tables.specs.Refusals.{Tables, bookOf, registerIn, lentTables, verdictOf, overfull, broken, tablesOf, tableRefusal, lentRefusal}
+use Rattle.tables.specs.Layouts.{Sheet, bookTables}
+use Rattle.tables.specs.Columns.{ruleRow, bookOf, registerIn}
+use Rattle.tables.specs.Refusals.{verdictOf, anyOverfull, anyLong, notWhole, tableRefusal, refusalOf, lentRefusal}
 use Rattle.tables.specs.declared.Counts.{Counts}
 use Rattle.tables.specs.declared.Verdict.{Verdict}
 use Rattle.tables.specs.declared.Verdict.the-variants.{Clear, Refused}
@@ -37,24 +38,24 @@ lacked false false none (some i) z rule = refl
 lacked false false none none (some i) rule = refl
 lacked false false none none none rule = refl
 
-pub verdict-for : (t : Tables) (rule : ℕ) → verdictFor (verdictOf (lentRefusal t false)) (t .ruleCount) rule ≡ verdictOf (lentRefusalFor t rule)
-unfolding lentRefusal lentRefusalFor tableRefusal refusal refusalFor bookRefusal registerRefusal lackedRule
-verdict-for t rule =
-    by-known (ltb rule (t .ruleCount))
-    ∙ ap (λ m. verdictOf (staged (ltb rule m))) (sym (length-rows (ruleRow (t .rules) (t .bodies)) (t .ruleCount)))
+pub verdict-for : (n : Counts) (s : Sheet) (rule : ℕ) → verdictFor (verdictOf (lentRefusal n s false)) (n .rules) rule ≡ verdictOf (lentRefusalFor n s rule)
+unfolding refusalOf lentRefusalFor tableRefusal refusal refusalFor bookRefusal registerRefusal lackedRule
+verdict-for n s rule =
+    by-known (ltb rule (n .rules))
+    ∙ ap (λ m. verdictOf (staged (ltb rule m))) (sym (length-rows (ruleRow (s .rules) (s .bodies)) (n .rules)))
   where
     k : Book
-    k = bookOf t
+    k = bookOf n s
 
     g : Register
-    g = registerIn t
+    g = registerIn n s
 
     staged : Bool → Option Refusal
-    staged known = firstOf (tableRefusal (tablesOf t) false) (firstOf (bookRefusal k) (firstOf (cond known none (some (record { number = 4; place = rule }))) (registerRefusal (k .schema) g)))
+    staged known = firstOf (tableRefusal bookTables n s false) (firstOf (bookRefusal k) (firstOf (cond known none (some (record { number = 4; place = rule }))) (registerRefusal (k .schema) g)))
 
-    by-known : (known : Bool) → cond known (verdictOf (lentRefusal t false)) (lacking (verdictOf (lentRefusal t false)) rule) ≡ verdictOf (staged known)
+    by-known : (known : Bool) → cond known (verdictOf (lentRefusal n s false)) (lacking (verdictOf (lentRefusal n s false)) rule) ≡ verdictOf (staged known)
     by-known true = refl
-    by-known false = lacked (any overfull (tablesOf t)) (any broken (tablesOf t) || false) (firstOf (typeFault (k .schema .types)) (relationshipFault (k .schema))) (ruleFault k) (firstOf (objectFault (k .schema .types) g) (linkFault (k .schema) g)) rule
+    by-known false = lacked (anyOverfull bookTables n s || anyLong (s .rules) (n .rules)) (notWhole bookTables s || false) (firstOf (typeFault (k .schema .types)) (relationshipFault (k .schema))) (ruleFault k) (firstOf (objectFault (k .schema .types) g) (linkFault (k .schema) g)) rule
 
 -- ---- what the code finds
 
@@ -78,21 +79,21 @@ clear-before v rules rule e = step (ltb rule rules) v e
     step false (Refused number place) e = absurd (false≢true (never-clear (eqb number 5) number place rule e))
     step false Clear e = refl
 
-pub rule-refused : (t : Tables) (rule id : ℕ) {number place : ℕ} → Refused number place ≡ verdictFor (verdictOf (lentRefusal t false)) (t .ruleCount) rule → Answers.Refused number place ≡ answerOf (lentAnswerAt t rule id)
+pub rule-refused : (n : Counts) (s : Sheet) (rule id : ℕ) {number place : ℕ} → Refused number place ≡ verdictFor (verdictOf (lentRefusal n s false)) (n .rules) rule → Answers.Refused number place ≡ answerOf (lentAnswerAt n s rule id)
 unfolding lentAnswerAt
-rule-refused t rule id e = refused-answer (lentRefusalFor t rule) (firstBroken (bookOf t) (registerIn t) (pairOf rule id ∷ [])) (e ∙ verdict-for t rule)
+rule-refused n s rule id e = refused-answer (lentRefusalFor n s rule) (firstBroken (bookOf n s) (registerIn n s) (pairOf rule id ∷ [])) (e ∙ verdict-for n s rule)
 
-module _ (t : Tables) (rule id : ℕ) (clear : Clear ≡ verdictFor (verdictOf (lentRefusal t false)) (t .ruleCount) rule) {broke : Bool} (judged : broke ≡ brokenIn t rule id) where
-  pair-answer : answerOf (foundAnswer (cond broke (some (pairOf rule id)) none)) ≡ answerOf (lentAnswerAt t rule id)
+module _ (n : Counts) (s : Sheet) (rule id : ℕ) (clear : Clear ≡ verdictFor (verdictOf (lentRefusal n s false)) (n .rules) rule) {broke : Bool} (judged : broke ≡ brokenIn n s rule id) where
+  pair-answer : answerOf (foundAnswer (cond broke (some (pairOf rule id)) none)) ≡ answerOf (lentAnswerAt n s rule id)
   unfolding lentAnswerAt firstBroken brokenIn
   pair-answer =
       ap (λ b. answerOf (foundAnswer (cond b (some (pairOf rule id)) none))) judged
-      ∙ clear-answer (lentRefusalFor t rule) (firstBroken (bookOf t) (registerIn t) (pairOf rule id ∷ [])) (clear ∙ verdict-for t rule)
+      ∙ clear-answer (lentRefusalFor n s rule) (firstBroken (bookOf n s) (registerIn n s) (pairOf rule id ∷ [])) (clear ∙ verdict-for n s rule)
 
-  pub rule-broken : broke ≡ true → Answers.Broken rule id ≡ answerOf (lentAnswerAt t rule id)
+  pub rule-broken : broke ≡ true → Answers.Broken rule id ≡ answerOf (lentAnswerAt n s rule id)
   unfolding foundAnswer
   rule-broken f = ap (λ b. answerOf (foundAnswer (cond b (some (pairOf rule id)) none))) (sym f) ∙ pair-answer
 
-  pub rule-accepted : broke ≡ false → Answers.Accepted ≡ answerOf (lentAnswerAt t rule id)
+  pub rule-accepted : broke ≡ false → Answers.Accepted ≡ answerOf (lentAnswerAt n s rule id)
   unfolding foundAnswer
   rule-accepted f = ap (λ b. answerOf (foundAnswer (cond b (some (pairOf rule id)) none))) (sym f) ∙ pair-answer

@@ -9,7 +9,10 @@ use Rattle.meaning.specs.Events.{Refusal}
 use Rattle.meaning.specs.Reach.{pairOf}
 use Rattle.meaning.specs.Answers as Meaning
 use Rattle.meaning.specs.Answers.{accepted, brokenAt, refused, refusalFor, unlessRefused, firstBroken, fullCheck}
-use Rattle.tables.specs.Refusals.{Tables, bookOf, registerIn, tablesOf, tableRefusal}
+use Rattle.tables.specs.Layouts.{Sheet, bookTables}
+use Rattle.tables.specs.Columns.{bookOf, registerIn}
+use Rattle.tables.specs.Refusals.{tableRefusal}
+use Rattle.tables.specs.declared.Counts.{Counts}
 use Rattle.tables.specs.declared.Verdict.{Verdict}
 use Rattle.tables.specs.declared.Verdict.the-variants as Verdict
 use Rattle.full.specs.declared.Answer.{Answer}
@@ -22,17 +25,17 @@ answerOf (brokenAt rule id) = Broken rule id
 answerOf (refused number place) = Refused number place
 
 -- The full check of the book and the register that the tables hold, after refusals 2 and 6 of the tables themselves.
-unfoldable pub lentAnswer : Tables → Meaning.Answer
-lentAnswer t = unlessRefused (tableRefusal (tablesOf t) false) (fullCheck (bookOf t) (registerIn t))
+unfoldable pub lentAnswer : Counts → Sheet → Meaning.Answer
+lentAnswer n s = unlessRefused (tableRefusal bookTables n s false) (fullCheck (bookOf n s) (registerIn n s))
 
 -- refusals 2, 6, 3, 4 and 5 of a question about one rule, "checked from the top"
-unfoldable pub lentRefusalFor : Tables → ℕ → Option Refusal
-lentRefusalFor t rule = firstOf (tableRefusal (tablesOf t) false) (refusalFor (bookOf t) (registerIn t) rule)
+unfoldable pub lentRefusalFor : Counts → Sheet → ℕ → Option Refusal
+lentRefusalFor n s rule = firstOf (tableRefusal bookTables n s false) (refusalFor (bookOf n s) (registerIn n s) rule)
 
 -- One rule at one object: broken there, or accepted. "A rule is *broken* at an object under its context type", so it is accepted where
 -- the object is not there or not under that type.
-unfoldable pub lentAnswerAt : Tables → ℕ → ℕ → Meaning.Answer
-lentAnswerAt t rule id = unlessRefused (lentRefusalFor t rule) (firstBroken (bookOf t) (registerIn t) (pairOf rule id ∷ []))
+unfoldable pub lentAnswerAt : Counts → Sheet → ℕ → ℕ → Meaning.Answer
+lentAnswerAt n s rule id = unlessRefused (lentRefusalFor n s rule) (firstBroken (bookOf n s) (registerIn n s) (pairOf rule id ∷ []))
 
 -- A verdict on the tables, with the stage of a lacked rule put before that of the register.
 abbrev pub lacking : Verdict → ℕ → Verdict

@@ -8,26 +8,27 @@ use Rattle.meaning.specs.Schema.{under}
 use Rattle.meaning.specs.Meaning.{broken}
 use Rattle.meaning.specs.Reach.{contextPairs, ofRule}
 use Rattle.meaning.specs.Answers.{Answer, firstBroken}
-use Rattle.tables.specs.Columns.{objectRow}
-use Rattle.tables.specs.Refusals.{Tables, bookOf, registerIn, lentTables, lentRefusal}
+use Rattle.tables.specs.Layouts.{Sheet}
+use Rattle.tables.specs.Columns.{objectRow, bookOf, registerIn}
+use Rattle.tables.specs.Refusals.{lentRefusal}
 use Rattle.tables.specs.declared.Counts.{Counts}
 use Rattle.register.specs.Slots.{Indexed}
 use Rattle.ocl.specs.Site.{Site, typesAt}
 use Rattle.ocl.specs.Values.{truthOf}
 
 -- "the first broken pair, lowest rule and then lowest id, or accepted"
-unfoldable pub found : Tables → Answer
-found t = firstBroken (bookOf t) (registerIn t) (contextPairs (bookOf t) (registerIn t))
+unfoldable pub found : Counts → Sheet → Answer
+found n s = firstBroken (bookOf n s) (registerIn n s) (contextPairs (bookOf n s) (registerIn n s))
 
 -- "A rule is *broken* at an object": the rule of that number, at the object of that id
-unfoldable pub brokenIn : Tables → ℕ → ℕ → Bool
-brokenIn t rule id = ofRule (bookOf t) (λ r. broken ((bookOf t) .schema .types) (registerIn t) r id) rule
+unfoldable pub brokenIn : Counts → Sheet → ℕ → ℕ → Bool
+brokenIn n s rule id = ofRule (bookOf n s) (λ r. broken ((bookOf n s) .schema .types) (registerIn n s) r id) rule
 
 -- the same of the object in a row, by the context type and the body of e rows
 unfoldable pub brokenRow : Site → ℕ → ℕ → ℕ → Bool
 brokenRow w context e row = under (typesAt w) ((objectRow (w .objects) row) .type) context && not (truthOf w e (row ∷ []) 1)
 
 -- no refusal is met, and the table is the index of the links
-pub record Clear (n : Counts) (types relationships rules bodies objects links index : List ℕ) : Type 0 where
-  pub unrefused : lentRefusal (lentTables n types relationships rules bodies objects links) false ≡ none
-  pub indexed : Indexed (n .objects) objects (n .links) links index
+pub record Clear (n : Counts) (s : Sheet) (index : List ℕ) : Type 0 where
+  pub unrefused : lentRefusal n s false ≡ none
+  pub indexed : Indexed (n .objects) (s .objects) (n .links) (s .links) index

@@ -4,10 +4,9 @@ use tables::Counts;
 use tables::Found;
 use tables::Verdict;
 ghost use mathlib.Core.Path.{_≡_};
-ghost use mathlib.Core.Option.{none};
+ghost use mathlib.Core.List.{[]};
 ghost use Prim.Native.Nat.{_<_};
-ghost use Rattle.tables.specs.Refusals.{lentTables, lentRefusal};
-ghost use Rattle.register.specs.Slots.{Indexed};
+ghost use Rattle.tables.specs.Layouts.{sheetOf};
 ghost use Rattle.ocl.specs.Site.{siteOf};
 ghost use Rattle.ocl.specs.Ready.{BodyReady};
 ghost use Rattle.full.specs.Answers.{answerOf, lentAnswer, verdictFor, lentAnswerAt};
@@ -68,9 +67,9 @@ fn search(
     links: &[u32],
     index: &[u16; 81920],
 ) -> Answer
-    requires { ⌜ Clear n (now types) (now relationships) (now rules) (now bodies) (now objects) (now links) (now index) ⌝ }
-    ensures { λ r. ⌜ r ≡ answerOf (found (lentTables n (now (types .entry)) (now (relationships .entry)) (now (rules .entry))
-        (now (bodies .entry)) (now (objects .entry)) (now (links .entry)))) ⌝ }
+    requires { ⌜ Clear n (sheetOf (now types) (now relationships) (now rules) (now bodies) (now objects) (now links) []) (now index) ⌝ }
+    ensures { λ r. ⌜ r ≡ answerOf (found n (sheetOf (now (types .entry)) (now (relationships .entry)) (now (rules .entry)) (now (bodies .entry))
+        (now (objects .entry)) (now (links .entry)) [])) ⌝ }
 {
     let mut answer = Answer::Accepted;
     let mut rule: u32 = 0;
@@ -115,8 +114,8 @@ pub fn check(
     objects: &[u32],
     links: &[u32],
 ) -> Answer
-    ensures { λ r. ⌜ r ≡ answerOf (lentAnswer (lentTables n (now (types .entry)) (now (relationships .entry)) (now (rules .entry))
-        (now (bodies .entry)) (now (objects .entry)) (now (links .entry)))) ⌝ }
+    ensures { λ r. ⌜ r ≡ answerOf (lentAnswer n (sheetOf (now (types .entry)) (now (relationships .entry)) (now (rules .entry)) (now (bodies .entry))
+        (now (objects .entry)) (now (links .entry)) [])) ⌝ }
 {
     match checks::check(
         n,
@@ -177,9 +176,9 @@ fn breaks_at(
     rule: u32,
     id: u32,
 ) -> bool
-    requires { ⌜ (Clear n (now types) (now relationships) (now rules) (now bodies) (now objects) (now links) (now index)) × (rule < n .rules) ⌝ }
-    ensures { λ r. ⌜ r ≡ brokenIn (lentTables n (now (types .entry)) (now (relationships .entry)) (now (rules .entry))
-        (now (bodies .entry)) (now (objects .entry)) (now (links .entry))) «rule» id ⌝ }
+    requires { ⌜ (Clear n (sheetOf (now types) (now relationships) (now rules) (now bodies) (now objects) (now links) []) (now index)) × (rule < n .rules) ⌝ }
+    ensures { λ r. ⌜ r ≡ brokenIn n (sheetOf (now (types .entry)) (now (relationships .entry)) (now (rules .entry)) (now (bodies .entry))
+        (now (objects .entry)) (now (links .entry)) []) «rule» id ⌝ }
 {
     match register::object_row(n.objects, objects, id) {
         Found::At(row) => {
@@ -217,8 +216,8 @@ pub fn check_rule(
     rule: u32,
     id: u32,
 ) -> Answer
-    ensures { λ r. ⌜ r ≡ answerOf (lentAnswerAt (lentTables n (now (types .entry)) (now (relationships .entry)) (now (rules .entry))
-        (now (bodies .entry)) (now (objects .entry)) (now (links .entry))) «rule» id) ⌝ }
+    ensures { λ r. ⌜ r ≡ answerOf (lentAnswerAt n (sheetOf (now (types .entry)) (now (relationships .entry)) (now (rules .entry)) (now (bodies .entry))
+        (now (objects .entry)) (now (links .entry)) []) «rule» id) ⌝ }
 {
     let verdict = checks::check(
         n,

@@ -5,11 +5,9 @@
 --   Decimals   a number is read as it was written, and written as it was read
 --   Cut        what the reader keeps of digits that are too many
 --   Lines      a text is its first line and what follows
---   Names      a text that starts with a name
 pub mod Runs
 pub mod Writing
 pub mod Spelling
 pub mod Decimals
 pub mod Cut
 pub mod Lines
-pub mod Names

@@ -1,11 +1,10 @@
-// The lowest layer of the text: decimals, lines, names, and bytes put into a lent text.
+// The lowest layer of the text: decimals, lines, and bytes put into a lent text.
 ghost use mathlib.Core.Path.{_≡_};
 ghost use Prim.Native.Nat.{_+_, _≤_, _<_};
 ghost use lib.ListN.{length, drop};
 ghost use Rattle.rows.specs.Rows.{signed};
 ghost use Rattle.lexical.specs.Decimals.{digitsOf, decimalOf, digitsIn, cutValue, plainValue, negative, numberIn, numberAt};
 ghost use Rattle.lexical.specs.Lines.{lineIn, lineEnded};
-ghost use Rattle.lexical.specs.Names.{startsWith};
 ghost use Rattle.lexical.specs.Writing.{written, placeAfter};
 
 // A number that was read: its two's complement word, and the place after it.
@@ -130,15 +129,6 @@ fn spell(word: u32, buffer: &mut [u8; 11]) -> usize
     sign
 }
 
-// How many bytes a word's decimal takes.
-pub fn number_length(word: u32) -> usize
-    ensures { λ r. ⌜ r ≡ length (decimalOf (signed word)) ⌝ }
-{
-    let mut buffer = [0u8; 11];
-    let start = spell(word, &mut buffer);
-    11 - start
-}
-
 // Puts bytes at a place, where they fit, and answers the place after them; else the text stays as it is, and the answer is one past its length.
 pub fn write_bytes(out: &mut [u8], at: usize, bytes: &[u8]) -> usize
     ensures { λ r. ⌜ (r ≡ placeAfter (now (out .entry)) at (now (bytes .entry))) × (now (out .exit) ≡ written (now (out .entry)) at (now (bytes .entry))) ⌝ }
@@ -200,23 +190,4 @@ pub fn is_ended(text: &[u8], at: usize) -> bool
         return text[end] == 10;
     }
     false
-}
-
-// Whether the bytes of a name stand at a place.
-pub fn starts_with(text: &[u8], at: usize, name: &[u8]) -> bool
-    ensures { λ r. ⌜ r ≡ startsWith (drop at (now (text .entry))) (now (name .entry)) ⌝ }
-{
-    let mut t = at;
-    let mut i = 0;
-    while i < name.len() {
-        if text.len() <= t {
-            return false;
-        }
-        if text[t] != name[i] {
-            return false;
-        }
-        t += 1;
-        i += 1;
-    }
-    true
 }

@@ -8,7 +8,6 @@ use operators::joined;
 use operators::stops;
 use register::slots;
 use tables::Counts;
-use walk::bound;
 use walk::cell_value;
 use walk::next_far;
 use walk::next_instance;
@@ -168,13 +167,15 @@ fn quantified(
     let depth = at.2;
     let start = start_of(spans, row);
     let of = Place(rule, start, depth);
+    let mut inner = *vs;
+    let d = depth as usize;
     let mut word = begin(n, types, objects, links, index, bodies, spans, vs, of);
     loop {
         let step = next(n, types, objects, links, index, bodies, spans, vs, of, word);
         let Step::At(object, on) = step else {
             return code == 11;
         };
-        let inner = bound(vs, depth, object);
+        inner[d] = object;
         let deeper = depth + 1;
         let to = Place(rule, row, deeper);
         let holds = truth(n, types, objects, links, index, bodies, spans, &inner, to);
@@ -387,13 +388,15 @@ fn next_selected(
     let depth = at.2;
     let start = start_of(spans, row);
     let of = Place(rule, start, depth);
+    let mut inner = *vs;
+    let d = depth as usize;
     let mut last = word;
     loop {
         let step = next(n, types, objects, links, index, bodies, spans, vs, of, last);
         let Step::At(object, on) = step else {
             return Step::Done;
         };
-        let inner = bound(vs, depth, object);
+        inner[d] = object;
         let deeper = depth + 1;
         let to = Place(rule, row, deeper);
         if truth(n, types, objects, links, index, bodies, spans, &inner, to) {

@@ -3,7 +3,7 @@ use crate::Step;
 use register::slots;
 ghost use mathlib.Core.Path.{_≡_};
 ghost use Prim.Native.Nat.{_<_, _≤_};
-ghost use lib.ListN.{getD, set};
+ghost use lib.ListN.{getD};
 ghost use Rattle.tables.specs.Columns.{typesOf};
 ghost use Rattle.ocl.specs.Values.{cellIn, weightOf};
 ghost use Rattle.ocl.specs.Walks.{farStep, instancesFrom, Stepped, Anywhere};
@@ -24,17 +24,6 @@ pub fn start_of(starts: &[u32; 65], row: u32) -> u32
 {
     let at = row as usize;
     starts[at]
-}
-
-// The variables with one more.
-pub fn bound(vars: &[u32; 64], depth: u32, row: u32) -> [u32; 64]
-    requires { ⌜ depth < 64 ⌝ }
-    ensures { λ r. ⌜ r ≡ set (now (vars .entry)) depth row ⌝ }
-{
-    let mut inner = *vars;
-    let at = depth as usize;
-    inner[at] = row;
-    inner
 }
 
 // The value of a cell of an object's row.

@@ -17,21 +17,22 @@ use Rattle.meaning.proofs.Lists.{every-getD}
 use Rattle.lexical.specs.Lines.{lineIn, lineEnded}
 use Rattle.lexical.proofs.Runs.{both}
 use Rattle.rows.specs.Rows.{withRow}
+use Rattle.tables.specs.Layouts.{Sheet, sheetOf, Layout, typeTable, relationshipTable, ruleTable, objectTable, linkTable, eventTable, bodyWords, limitOf, widthOf, linesLent}
 use Rattle.text.specs.Tokens.{isWord}
 use Rattle.text.specs.Names.{typeName, relationshipName, ruleName, objectName, linkName}
 use Rattle.text.specs.Bodies.{Written, padded, formsIn, rowsOf, wellWritten}
 use Rattle.text.specs.Entries.{Entry, row, rule, eventSection, sectionOf, entryWords, isOf, countOf, tableOf, bodiesOf, entryIn}
-use Rattle.text.specs.Texts.{maxText, limitOf, taken, readFrom, reading, filled}
+use Rattle.text.specs.Texts.{maxText, taken, readFrom, reading, filled}
 use Rattle.text.proofs.Bodies.{rows-length}
 use Rattle.text.proofs.Entries.{sayable, rowFits, by-section, padded-length}
 use Rattle.text.proofs.Blocks.{count-append, table-append}
 use Rattle.brackets.specs.Whole.{WholeBody, rowsPut}
 use Rattle.reader.specs.declared.line.Row.{Row}
 use Rattle.reader.specs.Rows.{rowHeld, bodyPlace}
-use Rattle.reader.specs.Reads.{lentRows}
-use Rattle.reader.specs.Fills.{Holds}
+use Rattle.reader.specs.Reads.{sheetWith}
+use Rattle.reader.specs.Fills.{rowPut, LinePut}
 use Rattle.reader.proofs.Bodied.{whole-body}
-use Rattle.reader.proofs.Looking.{Looking, look-starts, starts-before, look-follows, look-done, look-with, ended-fine, section-fine, row-fine, e, found, section-of, words-are, said, count-small, read-short, taken-same}
+use Rattle.reader.proofs.Looking.{Looking, LineRead, look-starts, starts-before, look-follows, look-done, look-with, ended-fine, section-fine, row-fine, e, found, section-of, words-are, said, count-small, read-short, taken-same}
 
 -- ---- words put after those of a table
 
@@ -76,25 +77,25 @@ filled-length n words fits = padded-length n words fits
 
 -- ---- what is kept of a table
 
--- as long as it was, the rows of the section from the front, zeros after them
-pub record Table (s width : ℕ) (es : List Entry) (old t : List ℕ) : Type 0 where
+-- as long as it was, with these words from the front and zeros after them; they are so many
+pub record Filled (words : List ℕ) (size : ℕ) (old t : List ℕ) : Type 0 where
   pub same : length t ≡ length old
-  pub is : t ≡ filled (length t) (tableOf s es)
-  pub wide : length (tableOf s es) ≡ countOf s es * width
+  pub is : t ≡ filled (length t) words
+  pub wide : length words ≡ size
 
-pub record Bodies (es : List Entry) (old t : List ℕ) : Type 0 where
-  pub same : length t ≡ length old
-  pub is : t ≡ filled (length t) (bodiesOf es)
-  pub wide : length (bodiesOf es) ≡ countOf ruleName es * 256
+-- the rows of the table's section
+abbrev pub Held : Layout → List Entry → Sheet → Sheet → Type 0
+Held l es old s = Filled (tableOf (l .section) es) (countOf (l .section) es * l .width) (l .words old) (l .words s)
 
-abbrev widthOf : ℕ → ℕ
-widthOf s = getD (2 ∷ 2 ∷ 2 ∷ 10 ∷ 3 ∷ 4 ∷ []) s 0
+abbrev pub HeldBodies : List Entry → Sheet → Sheet → Type 0
+HeldBodies es old s = Filled (bodiesOf es) (countOf ruleName es * bodyWords) (old .bodies) (s .bodies)
 
 width-small : (s : ℕ) → widthOf s ≤ 10
+unfolding widthOf
 width-small s = leb-true (widthOf s) 10 (is-true (leb (widthOf s) 10) (every-getD (λ n. leb n 10) (2 ∷ 2 ∷ 2 ∷ 10 ∷ 3 ∷ 4 ∷ []) s 0 tt tt))
 
 row-wide : (before : List Entry) (e : Entry) → sayable before e ≡ true → length (entryWords e) ≡ widthOf (sectionOf e)
-unfolding sayable sectionOf entryWords
+unfolding sayable sectionOf entryWords widthOf
 row-wide before (row s words) h =
     by-section before s words (λ s. length words ≡ widthOf s)
     (λ h. eqb-true (length words) 2 (both (eqb (length words) 2) _ h .0))
@@ -127,42 +128,72 @@ module _ (before : List Entry) (e : Entry) where
       step true = append-nil (entryWords e)
       step false = refl
 
-  -- a table, as `put_in` leaves it
-  module _ (fits : sayable before e ≡ true) {S : ℕ} (here : S ≡ sectionOf e) {words : List ℕ} (holds : words ≡ padded 10 (entryWords e)) where
-    pub table-goes-on : (s width : ℕ) → widthOf s ≡ width → {old t : List ℕ} → Table s width before old t → (S ≡ s → countOf s before * width + width ≤ length old) → {count : ℕ} → count ≡ countOf s before → {u : List ℕ} → u ≡ cond (eqb S s) (withRow t width count (take width words)) t → Table s width next old u
-    table-goes-on s width sized {old} {t} k room {count} counted {u} left = step (eqb S s) refl left
-      where
-        more : (b : Bool) → eqb S s ≡ b → tableOf s next ≡ tableOf s before ++ cond b (entryWords e) []
-        more b q = table-next s ∙ ap (λ b. tableOf s before ++ cond b (entryWords e) []) (ap (λ n. eqb n s) (sym here) ∙ q)
+  -- a table, as `put_line` leaves it
+  module _ (fits : sayable before e ≡ true) {held : Row} (here : held .section ≡ sectionOf e) (holds : held .words ≡ padded 10 (entryWords e)) where
+    abbrev S : ℕ
+    S = held .section
 
-        counts : (b : Bool) → eqb S s ≡ b → countOf s next ≡ countOf s before + cond b 1 0
-        counts b q = count-next s ∙ ap (λ b. countOf s before + cond b 1 0) (ap (λ n. eqb n s) (sym here) ∙ q)
+    module _ (l : Layout) (sized : widthOf (l .section) ≡ l .width)
+        {old t : List ℕ} (k : Filled (tableOf (l .section) before) (countOf (l .section) before * l .width) old t)
+        (room : S ≡ l .section → countOf (l .section) before * l .width + l .width ≤ length old)
+        {rows : ℕ} (counted : rows ≡ countOf (l .section) before) where
+      abbrev table : List Entry → List ℕ
+      table = tableOf (l .section)
 
-        step : (b : Bool) → eqb S s ≡ b → u ≡ cond b (withRow t width count (take width words)) t → Table s width next old u
-        step true q left =
-            let it : S ≡ s = eqb-true S s q in
-            let long : length (entryWords e) ≡ width = row-wide before e fits ∙ ap widthOf (sym here ∙ it) ∙ sized in
-            let taken-words : take width words ≡ entryWords e = ap (take width) holds ∙ take-at (entryWords e) (replicate (10 - length (entryWords e)) 0) width long in
-            let left-room : countOf s before * width + width ≤ length t = subst (λ n. countOf s before * width + width ≤ n) (sym (k .same)) (room it) in
-            let put : u ≡ filled (length t) (tableOf s before ++ entryWords e) = left ∙ ap₂ (λ c w. withRow t width c w) counted taken-words ∙ row-filled t (tableOf s before) (k .is) (countOf s before * width) (k .wide) width (countOf s before) (entryWords e) refl long left-room in
-            let size : length (tableOf s before ++ entryWords e) ≡ countOf s before * width + width = length-append (tableOf s before) (entryWords e) ∙ ap₂ (λ a b. a + b) (k .wide) long in
-            let as-long : length u ≡ length t = ap length put ∙ filled-length (length t) (tableOf s before ++ entryWords e) (subst (λ n. n ≤ length t) (sym size) left-room) in
-            record {
-              same = as-long ∙ k .same;
-              is = put ∙ ap₂ (λ n l. filled n l) (sym as-long) (sym (more true q));
-              wide = ap length (more true q) ∙ size ∙ sym (ap (λ n. n * width) (counts true q) ∙ one-row (countOf s before));
-            }
-          where
-            one-row : (n : ℕ) → (n + 1) * width ≡ n * width + width
-            one-row n = add-mul n 1 width ∙ ap (λ m. n * width + m) (one-mul width)
-        step false q left =
-            let none-more : tableOf s next ≡ tableOf s before = more false q ∙ append-nil (tableOf s before) in
-            let none-counted : countOf s next ≡ countOf s before = counts false q ∙ omega arith in
-            record {
-              same = ap length left ∙ k .same;
-              is = left ∙ k .is ∙ ap₂ (λ n l. filled n l) (ap length (sym left)) (sym none-more);
-              wide = ap length none-more ∙ k .wide ∙ ap (λ n. n * width) (sym none-counted);
-            }
+      abbrev count : List Entry → ℕ
+      count = countOf (l .section)
+
+      abbrev After : List ℕ → Type 0
+      After u = Filled (table next) (count next * l .width) old u
+
+      more : (b : Bool) → eqb S (l .section) ≡ b → table next ≡ table before ++ cond b (entryWords e) []
+      more b q = table-next (l .section) ∙ ap (λ b. table before ++ cond b (entryWords e) []) (ap (λ n. eqb n (l .section)) (sym here) ∙ q)
+
+      one-more : (b : Bool) → eqb S (l .section) ≡ b → count next ≡ count before + cond b 1 0
+      one-more b q = count-next (l .section) ∙ ap (λ b. count before + cond b 1 0) (ap (λ n. eqb n (l .section)) (sym here) ∙ q)
+
+      one-row : (n : ℕ) → (n + 1) * l .width ≡ n * l .width + l .width
+      one-row n = add-mul n 1 (l .width) ∙ ap (λ m. n * l .width + m) (one-mul (l .width))
+
+      put-so : S ≡ l .section → {u : List ℕ} → u ≡ withRow t (l .width) rows (take (l .width) (held .words)) → After u
+      put-so it {u} left =
+          let q = eq-eqb S (l .section) it in
+          let width = l .width in
+          let long : length (entryWords e) ≡ width = row-wide before e fits ∙ ap widthOf (sym here ∙ it) ∙ sized in
+          let taken-words : take width (held .words) ≡ entryWords e =
+          ap (take width) holds ∙ take-at (entryWords e) (replicate (10 - length (entryWords e)) 0) width long in
+          let left-room : count before * width + width ≤ length t =
+          subst (λ n. count before * width + width ≤ n) (sym (k .same)) (room it) in
+          let put : u ≡ filled (length t) (table before ++ entryWords e) =
+          left
+          ∙ ap₂ (λ c w. withRow t width c w) counted taken-words
+          ∙ row-filled t (table before) (k .is) (count before * width) (k .wide) width (count before) (entryWords e) refl long left-room in
+          let size : length (table before ++ entryWords e) ≡ count before * width + width =
+          length-append (table before) (entryWords e) ∙ ap₂ (λ a b. a + b) (k .wide) long in
+          let as-long : length u ≡ length t =
+          ap length put ∙ filled-length (length t) (table before ++ entryWords e) (subst (λ n. n ≤ length t) (sym size) left-room) in
+          record {
+            same = as-long ∙ k .same;
+            is = put ∙ ap₂ (λ n l. filled n l) (sym as-long) (sym (more true q));
+            wide = ap length (more true q) ∙ size ∙ sym (ap (λ n. n * width) (one-more true q) ∙ one-row (count before));
+          }
+
+      kept-so : eqb S (l .section) ≡ false → {u : List ℕ} → u ≡ t → After u
+      kept-so q {u} left =
+          let none-more : table next ≡ table before = more false q ∙ append-nil (table before) in
+          let none-counted : count next ≡ count before = one-more false q ∙ omega arith in
+          record {
+            same = ap length left ∙ k .same;
+            is = left ∙ k .is ∙ ap₂ (λ n l. filled n l) (ap length (sym left)) (sym none-more);
+            wide = ap length none-more ∙ k .wide ∙ ap (λ n. n * l .width) (sym none-counted);
+          }
+
+      pub table-goes-on : {u : List ℕ} → u ≡ cond (eqb S (l .section)) (withRow t (l .width) rows (take (l .width) (held .words))) t → After u
+      table-goes-on {u} left = step (eqb S (l .section)) refl left
+        where
+          step : (b : Bool) → eqb S (l .section) ≡ b → u ≡ cond b (withRow t (l .width) rows (take (l .width) (held .words))) t → After u
+          step true q left = put-so (eqb-true S (l .section) q) left
+          step false q left = kept-so q left
 
 -- ---- the bodies
 
@@ -217,192 +248,238 @@ module _ (before : List Entry) (e : Entry) (fits : sayable before e ≡ true) {S
       let (t, w, is) = as-rule q in
       (t, w, whole-body before line t w (there ∙ ap some is) (few-forms t w q is))
 
-  -- the bodies, as `put_body` leaves them
-  pub bodies-go-on : {old t : List ℕ} → Bodies before old t → (S ≡ 2 → countOf ruleName before * 256 + 256 ≤ length old) → {count : ℕ} → count ≡ countOf ruleName before → {u : List ℕ} → ((c : ℕ) (w : Written) → S ≡ 2 → WholeBody (drop (bodyPlace line) line) c w → u ≡ rowsPut t (count * 256) (rowsOf w)) → ((S ≡ 2 → ⊥) → u ≡ t) → Bodies (before ++ e ∷ []) old u
-  bodies-go-on {old} {t} k room {count} counted {u} put kept = step (eqb S 2) refl
-    where
-      counts : (b : Bool) → eqb S 2 ≡ b → countOf ruleName (before ++ e ∷ []) ≡ countOf ruleName before + cond b 1 0
-      counts b q = count-next before e ruleName ∙ ap (λ b. countOf ruleName before + cond b 1 0) (ap (λ n. eqb n 2) (sym here) ∙ q)
+  -- the bodies, as `put_line` leaves them
+  module _ {old t : List ℕ} (k : Filled (bodiesOf before) (countOf ruleName before * 256) old t)
+      (room : S ≡ 2 → countOf ruleName before * 256 + 256 ≤ length old) where
+    abbrev next′ : List Entry
+    next′ = before ++ e ∷ []
 
-      step : (b : Bool) → eqb S 2 ≡ b → Bodies (before ++ e ∷ []) old u
-      step true q =
-          let it : S ≡ 2 = eqb-true S 2 q in
-          let (c, w, is) = as-rule it in
-          let at = countOf ruleName before * 256 in
-          let more : bodiesOf (before ++ e ∷ []) ≡ bodiesOf before ++ padded 256 (rowsOf w) = bodies-next before e ∙ ap (λ e. bodiesOf before ++ bodyOf e) is in
-          let short : length (rowsOf w) ≤ 256 = omega (arith, rows-length w (well-rule before c w (ap (sayable before) (sym is) ∙ fits)), few-forms c w it is) in
-          let left-room : at + 256 ≤ length t = subst (λ n. at + 256 ≤ n) (sym (k .same)) (room it) in
-          let now : u ≡ filled (length t) (bodiesOf before ++ padded 256 (rowsOf w)) =
-          put c w it (whole-body before line c w (there ∙ ap some is) (few-forms c w it is))
-          ∙ ap (λ n. rowsPut t (n * 256) (rowsOf w)) counted
-          ∙ put-filled t (bodiesOf before) (k .is) at (k .wide) (rowsOf w)
-          ∙ pad-filled t (bodiesOf before) (k .is) at (k .wide) 256 (rowsOf w) short left-room in
-          let size : length (bodiesOf before ++ padded 256 (rowsOf w)) ≡ at + 256 = length-append (bodiesOf before) (padded 256 (rowsOf w)) ∙ ap₂ (λ a b. a + b) (k .wide) (padded-length 256 (rowsOf w) short) in
-          let as-long : length u ≡ length t = ap length now ∙ filled-length (length t) (bodiesOf before ++ padded 256 (rowsOf w)) (subst (λ n. n ≤ length t) (sym size) left-room) in
-          record {
-            same = as-long ∙ k .same;
-            is = now ∙ ap₂ (λ n l. filled n l) (sym as-long) (sym more);
-            wide = ap length more ∙ size ∙ omega (arith, counts true q);
-          }
-      step false q =
-          let not-it : S ≡ 2 → ⊥ = eqb-false S 2 q in
-          let left : u ≡ t = kept not-it in
-          let none-more : bodiesOf (before ++ e ∷ []) ≡ bodiesOf before = bodies-next before e ∙ ap (λ l. bodiesOf before ++ l) (no-body e (λ r. not-it (here ∙ r))) ∙ append-nil (bodiesOf before) in
-          record {
-            same = ap length left ∙ k .same;
-            is = left ∙ k .is ∙ ap₂ (λ n l. filled n l) (ap length (sym left)) (sym none-more);
-            wide = ap length none-more ∙ k .wide ∙ omega (arith, counts false q);
-          }
+    abbrev Next : List ℕ → Type 0
+    Next u = Filled (bodiesOf next′) (countOf ruleName next′ * 256) old u
+
+    counts : (b : Bool) → eqb S 2 ≡ b → countOf ruleName next′ ≡ countOf ruleName before + cond b 1 0
+    counts b q = count-next before e ruleName ∙ ap (λ b. countOf ruleName before + cond b 1 0) (ap (λ n. eqb n 2) (sym here) ∙ q)
+
+    body-put : (it : S ≡ 2) (c : ℕ) (w : Written) → e ≡ rule c w → {u : List ℕ} → u ≡ rowsPut t (countOf ruleName before * 256) (rowsOf w) → Next u
+    body-put it c w is {u} put =
+        let at = countOf ruleName before * 256 in
+        let body = padded 256 (rowsOf w) in
+        let more : bodiesOf next′ ≡ bodiesOf before ++ body = bodies-next before e ∙ ap (λ e. bodiesOf before ++ bodyOf e) is in
+        let well = well-rule before c w (ap (sayable before) (sym is) ∙ fits) in
+        let short : length (rowsOf w) ≤ 256 = omega (arith, rows-length w well, few-forms c w it is) in
+        let left-room : at + 256 ≤ length t = subst (λ n. at + 256 ≤ n) (sym (k .same)) (room it) in
+        let now : u ≡ filled (length t) (bodiesOf before ++ body) =
+        put
+        ∙ put-filled t (bodiesOf before) (k .is) at (k .wide) (rowsOf w)
+        ∙ pad-filled t (bodiesOf before) (k .is) at (k .wide) 256 (rowsOf w) short left-room in
+        let size : length (bodiesOf before ++ body) ≡ at + 256 =
+        length-append (bodiesOf before) body ∙ ap₂ (λ a b. a + b) (k .wide) (padded-length 256 (rowsOf w) short) in
+        let as-long : length u ≡ length t =
+        ap length now ∙ filled-length (length t) (bodiesOf before ++ body) (subst (λ n. n ≤ length t) (sym size) left-room) in
+        record {
+          same = as-long ∙ k .same;
+          is = now ∙ ap₂ (λ n l. filled n l) (sym as-long) (sym more);
+          wide = ap length more ∙ size ∙ omega (arith, counts true (eq-eqb S 2 it));
+        }
+
+    body-kept : (S ≡ 2 → ⊥) → {u : List ℕ} → u ≡ t → Next u
+    body-kept not-it {u} left =
+        let none-more : bodiesOf next′ ≡ bodiesOf before =
+        bodies-next before e ∙ ap (λ l. bodiesOf before ++ l) (no-body e (λ r. not-it (here ∙ r))) ∙ append-nil (bodiesOf before) in
+        record {
+          same = ap length left ∙ k .same;
+          is = left ∙ k .is ∙ ap₂ (λ n l. filled n l) (ap length (sym left)) (sym none-more);
+          wide = ap length none-more ∙ k .wide ∙ omega (arith, counts false (ne-eqb S 2 not-it));
+        }
+
+    pub bodies-go-on : {count : ℕ} → count ≡ countOf ruleName before → {u : List ℕ}
+        → ((c : ℕ) (w : Written) → S ≡ 2 → WholeBody (drop (bodyPlace line) line) c w → u ≡ rowsPut t (count * 256) (rowsOf w))
+        → ((S ≡ 2 → ⊥) → u ≡ t) → Next u
+    bodies-go-on {count} counted {u} put kept = step (eqb S 2) refl
+      where
+        step : (b : Bool) → eqb S 2 ≡ b → Next u
+        step true q =
+            let it : S ≡ 2 = eqb-true S 2 q in
+            let (c, w, is) = as-rule it in
+            let whole = whole-body before line c w (there ∙ ap some is) (few-forms c w it is) in
+            body-put it c w is (put c w it whole ∙ ap (λ n. rowsPut t (n * 256) (rowsOf w)) counted)
+        step false q = let not-it : S ≡ 2 → ⊥ = eqb-false S 2 q in body-kept not-it (kept not-it)
 
 -- ---- what is kept
 
--- the lines before, as they were looked through, and their rows in the tables; the tables were lent as those of index 0
-pub record Filling (text types₀ relationships₀ rules₀ bodies₀ objects₀ links₀ events₀ : List ℕ) (at : ℕ) (counts cells : List ℕ) (section : ℕ) (types relationships rules bodies objects links events : List ℕ) : Type 0 where
+-- the lines before, as they were looked through, and their rows in the tables, which were lent as `old`
+pub record Filling (text : List ℕ) (old : Sheet) (at : ℕ) (counts cells : List ℕ) (section : ℕ) (s : Sheet) : Type 0 where
   pub n : ℕ
-  pub looking : Looking text (lentRows types₀ relationships₀ rules₀ bodies₀ objects₀ links₀ events₀) at n counts cells section
-  pub types-held : Table typeName 2 (looking .before) types₀ types
-  pub relationships-held : Table relationshipName 2 (looking .before) relationships₀ relationships
-  pub rules-held : Table ruleName 2 (looking .before) rules₀ rules
-  pub bodies-held : Bodies (looking .before) bodies₀ bodies
-  pub objects-held : Table objectName 10 (looking .before) objects₀ objects
-  pub links-held : Table linkName 3 (looking .before) links₀ links
-  pub events-held : Table eventSection 4 (looking .before) events₀ events
+  pub looking : Looking text (linesLent old) at n counts cells section
+  pub types-held : Held typeTable (looking .before) old s
+  pub relationships-held : Held relationshipTable (looking .before) old s
+  pub rules-held : Held ruleTable (looking .before) old s
+  pub bodies-held : HeldBodies (looking .before) old s
+  pub objects-held : Held objectTable (looking .before) old s
+  pub links-held : Held linkTable (looking .before) old s
+  pub events-held : Held eventTable (looking .before) old s
 
-pub fill-starts : (text : List ℕ) {types relationships rules bodies objects links events : List ℕ} → Holds [] types relationships rules bodies objects links events → Filling text types relationships rules bodies objects links events 0 (replicate 6 0) (replicate 32 0) 0 types relationships rules bodies objects links events
+pub fill-starts : (text : List ℕ) {s : Sheet} → s ≡ sheetWith [] s → Filling text s 0 (replicate 6 0) (replicate 32 0) 0 s
 unfolding tableOf bodiesOf countOf
-fill-starts text {types} {relationships} {rules} {bodies} {objects} {links} {events} k =
-    let lent = lentRows types relationships rules bodies objects links events in
+fill-starts text {s} k =
+    let lent = linesLent s in
+    let none-before = sym (starts-before text lent) in
     record {
       n = 1;
       looking = look-starts text lent;
-      types-held = subst (λ es. Table typeName 2 es types types) (sym (starts-before text lent)) (record { same = refl; is = k .types-are; wide = refl });
-      relationships-held = subst (λ es. Table relationshipName 2 es relationships relationships) (sym (starts-before text lent)) (record { same = refl; is = k .relationships-are; wide = refl });
-      rules-held = subst (λ es. Table ruleName 2 es rules rules) (sym (starts-before text lent)) (record { same = refl; is = k .rules-are; wide = refl });
-      bodies-held = subst (λ es. Bodies es bodies bodies) (sym (starts-before text lent)) (record { same = refl; is = k .bodies-are; wide = refl });
-      objects-held = subst (λ es. Table objectName 10 es objects objects) (sym (starts-before text lent)) (record { same = refl; is = k .objects-are; wide = refl });
-      links-held = subst (λ es. Table linkName 3 es links links) (sym (starts-before text lent)) (record { same = refl; is = k .links-are; wide = refl });
-      events-held = subst (λ es. Table eventSection 4 es events events) (sym (starts-before text lent)) (record { same = refl; is = k .events-are; wide = refl });
+      types-held = subst (λ es. Held typeTable es s s) none-before (record { same = refl; is = ap (λ s. s .types) k; wide = refl });
+      relationships-held = subst (λ es. Held relationshipTable es s s) none-before (record { same = refl; is = ap (λ s. s .relationships) k; wide = refl });
+      rules-held = subst (λ es. Held ruleTable es s s) none-before (record { same = refl; is = ap (λ s. s .rules) k; wide = refl });
+      bodies-held = subst (λ es. HeldBodies es s s) none-before (record { same = refl; is = ap (λ s. s .bodies) k; wide = refl });
+      objects-held = subst (λ es. Held objectTable es s s) none-before (record { same = refl; is = ap (λ s. s .objects) k; wide = refl });
+      links-held = subst (λ es. Held linkTable es s s) none-before (record { same = refl; is = ap (λ s. s .links) k; wide = refl });
+      events-held = subst (λ es. Held eventTable es s s) none-before (record { same = refl; is = ap (λ s. s .events) k; wide = refl });
     }
+
+full : {words : List ℕ} {size : ℕ} {old t : List ℕ} → Filled words size old t → t ≡ filled (length old) words
+full {words} f = f .is ∙ ap (λ n. filled n words) (f .same)
 
 or-no : (a b : Bool) → (a || b) ≡ false → (a ≡ false) × (b ≡ false)
 or-no true b h = absurd (false≢true (sym h))
 or-no false b h = (refl, h)
 
-module _ {text types₀ relationships₀ rules₀ bodies₀ objects₀ links₀ events₀ : List ℕ} {at : ℕ} {counts cells : List ℕ} {section : ℕ} {types relationships rules bodies objects links events : List ℕ} (k : Filling text types₀ relationships₀ rules₀ bodies₀ objects₀ links₀ events₀ at counts cells section types relationships rules bodies objects links events) (short : length text ≤ maxText) where
+module _ {text : List ℕ} {old : Sheet} {at : ℕ} {counts cells : List ℕ} {section : ℕ} {s : Sheet}
+    (k : Filling text old at counts cells section s) (short : length text ≤ maxText) where
   abbrev lent : List ℕ
-  lent = lentRows types₀ relationships₀ rules₀ bodies₀ objects₀ links₀ events₀
+  lent = linesLent old
 
   abbrev before : List Entry
   before = k .looking .before
 
   -- every line is read
-  pub fill-ends : length text ≤ at → (es : List Entry) → reading lent text ≡ taken es → Holds es types relationships rules bodies objects links events
+  pub fill-ends : length text ≤ at → (es : List Entry) → reading lent text ≡ taken es → s ≡ sheetWith es old
   fill-ends h es q =
-      subst (λ es. Holds es types relationships rules bodies objects links events) (taken-same (sym (look-done (k .looking) h) ∙ read-short text lent short q))
-      (record {
-        types-are = k .types-held .is;
-        relationships-are = k .relationships-held .is;
-        rules-are = k .rules-held .is;
-        bodies-are = k .bodies-held .is;
-        objects-are = k .objects-held .is;
-        links-are = k .links-held .is;
-        events-are = k .events-held .is;
-      })
+      let all : s ≡ sheetWith before old =
+      λ j. sheetOf (full (k .types-held) j) (full (k .relationships-held) j) (full (k .rules-held) j) (full (k .bodies-held) j)
+      (full (k .objects-held) j) (full (k .links-held) j) (full (k .events-held) j) in
+      all ∙ ap (λ es. sheetWith es old) (taken-same (sym (look-done (k .looking) h) ∙ read-short text lent short q))
 
   -- a line
-  module _ (h : at < length text) {es : List Entry} (q : reading lent text ≡ taken es) {line : List ℕ} (l : line ≡ lineIn (drop at text)) {held : Row} (r : held ≡ rowHeld (entryIn before line)) where
-    abbrev t : readFrom (length text) lent 1 [] text ≡ taken es
-    t = read-short text lent short q
+  module _ (h : at < length text) {es : List Entry} (q : reading lent text ≡ taken es) {line : List ℕ} (l : line ≡ lineIn (drop at text))
+      {held : Row} (r : held ≡ rowHeld (entryIn before line)) where
+    abbrev is-taken : readFrom (length text) lent 1 [] text ≡ taken es
+    is-taken = read-short text lent short q
 
-    unended : not (lineEnded (drop at text)) ≡ false
-    unended = ap not (ended-fine (k .looking) h short t)
+    read : LineRead (k .looking) held
+    read =
+        record {
+          inside = h;
+          short = short;
+          ended = ended-fine (k .looking) h short is-taken;
+          held-is = r ∙ ap (λ l. rowHeld (entryIn before l)) l;
+        }
 
-    abbrev S : ℕ
-    S = held .section
+    abbrev S′ : ℕ
+    S′ = held .section
 
-    pub fill-section : S < 6
-    fill-section = section-fine (k .looking) h short refl unended l r t
+    pub fill-section : S′ < 6
+    fill-section = section-fine read is-taken
 
     abbrev E : Entry
-    E = e (k .looking) h short refl unended l r fill-section refl
+    E = e read fill-section refl
 
     fits : sayable before E ≡ true
-    fits = said (k .looking) h short refl unended l r fill-section refl
+    fits = said read fill-section refl
 
-    in-section : S ≡ sectionOf E
-    in-section = section-of (k .looking) h short refl unended l r fill-section refl
+    in-section : S′ ≡ sectionOf E
+    in-section = section-of read fill-section refl
 
     words-held : held .words ≡ padded 10 (entryWords E)
-    words-held = words-are (k .looking) h short refl unended l r fill-section refl
-
-    pub fill-words : length (held .words) ≡ 10
-    fill-words =
-        let few-words : length (entryWords E) ≤ 10 = subst (λ n. n ≤ 10) (sym (row-wide before E fits)) (width-small (sectionOf E)) in
-        ap length words-held ∙ padded-length 10 (entryWords E) few-words
+    words-held = words-are read fill-section refl
 
     there : entryIn before line ≡ some E
-    there = ap (entryIn before) l ∙ found (k .looking) h short refl unended l r fill-section refl
+    there = ap (entryIn before) l ∙ found read fill-section refl
 
     abbrev full-rows : Bool
-    full-rows = ltb (min (limitOf S) (getD lent S 0)) (suc (getD counts S 0))
+    full-rows = ltb (min (limitOf S′) (getD lent S′ 0)) (suc (getD counts S′ 0))
 
     abbrev long-body : Bool
-    long-body = eqb S 2 && ltb 64 (getD (held .words) 1 0)
+    long-body = eqb S′ 2 && ltb 64 (getD (held .words) 1 0)
 
     not-full : (full-rows || long-body) ≡ false
-    not-full = row-fine (k .looking) h short refl unended l r fill-section refl t
+    not-full = row-fine read fill-section refl is-taken
 
-    pub fill-count : getD counts S 0 < 4096
-    fill-count = count-small (k .looking) h short refl unended l r fill-section refl not-full
+    pub fill-count : getD counts S′ 0 < 4096
+    fill-count = count-small read fill-section refl not-full
 
-    left-here : suc (getD counts S 0) ≤ getD lent S 0
-    left-here = let least = ltb-false (min (limitOf S) (getD lent S 0)) (suc (getD counts S 0)) (or-no full-rows long-body not-full .0) in omega (arith, least)
+    left-here : suc (getD counts S′ 0) ≤ getD lent S′ 0
+    left-here =
+        let least = ltb-false (min (limitOf S′) (getD lent S′ 0)) (suc (getD counts S′ 0)) (or-no full-rows long-body not-full .0) in
+        omega (arith, least)
 
-    row-left : (s : ℕ) → s < 6 → S ≡ s → suc (countOf s before) ≤ getD lent s 0
-    row-left s g is = subst (λ n. suc n ≤ getD lent s 0) (k .looking .rows s g) (subst (λ s. suc (getD counts s 0) ≤ getD lent s 0) is left-here)
+    row-left : (s : ℕ) → s < 6 → S′ ≡ s → suc (countOf s before) ≤ getD lent s 0
+    row-left s g is =
+        subst (λ n. suc n ≤ getD lent s 0) (k .looking .rows s g) (subst (λ s. suc (getD counts s 0) ≤ getD lent s 0) is left-here)
 
-    few : S ≡ 2 → getD (held .words) 1 0 ≤ 64
-    few is = ltb-false 64 (getD (held .words) 1 0) (sym (ap (λ b. b && ltb 64 (getD (held .words) 1 0)) (eq-eqb S 2 is)) ∙ or-no full-rows long-body not-full .1)
+    few : S′ ≡ 2 → getD (held .words) 1 0 ≤ 64
+    few is =
+        ltb-false 64 (getD (held .words) 1 0)
+        (sym (ap (λ b. b && ltb 64 (getD (held .words) 1 0)) (eq-eqb S′ 2 is)) ∙ or-no full-rows long-body not-full .1)
 
-    room-types : S ≡ 0 → countOf typeName before * 2 + 2 ≤ length types₀
-    room-types q = omega (arith, row-left 0 (omega arith) q, div-mul-le-self (length types₀) 2)
+    -- a row is left in the table of a line's section
+    room-types : S′ ≡ 0 → countOf typeName before * 2 + 2 ≤ length (old .types)
+    unfolding linesLent
+    room-types q = omega (arith, row-left 0 (omega arith) q, div-mul-le-self (length (old .types)) 2)
 
-    room-relationships : S ≡ 1 → countOf relationshipName before * 2 + 2 ≤ length relationships₀
-    room-relationships q = omega (arith, row-left 1 (omega arith) q, div-mul-le-self (length relationships₀) 2)
+    room-relationships : S′ ≡ 1 → countOf relationshipName before * 2 + 2 ≤ length (old .relationships)
+    unfolding linesLent
+    room-relationships q = omega (arith, row-left 1 (omega arith) q, div-mul-le-self (length (old .relationships)) 2)
 
-    room-rules : S ≡ 2 → countOf ruleName before * 2 + 2 ≤ length rules₀
-    room-rules q = omega (arith, row-left 2 (omega arith) q, div-mul-le-self (length rules₀) 2)
+    room-rules : S′ ≡ 2 → countOf ruleName before * 2 + 2 ≤ length (old .rules)
+    unfolding linesLent
+    room-rules q = omega (arith, row-left 2 (omega arith) q, div-mul-le-self (length (old .rules)) 2)
 
-    room-bodies : S ≡ 2 → countOf ruleName before * 256 + 256 ≤ length bodies₀
-    room-bodies q = omega (arith, row-left 2 (omega arith) q, div-mul-le-self (length bodies₀) 256)
+    room-bodies : S′ ≡ 2 → countOf ruleName before * 256 + 256 ≤ length (old .bodies)
+    unfolding linesLent
+    room-bodies q = omega (arith, row-left 2 (omega arith) q, div-mul-le-self (length (old .bodies)) 256)
 
-    room-objects : S ≡ 3 → countOf objectName before * 10 + 10 ≤ length objects₀
-    room-objects q = omega (arith, row-left 3 (omega arith) q, div-mul-le-self (length objects₀) 10)
+    room-objects : S′ ≡ 3 → countOf objectName before * 10 + 10 ≤ length (old .objects)
+    unfolding linesLent
+    room-objects q = omega (arith, row-left 3 (omega arith) q, div-mul-le-self (length (old .objects)) 10)
 
-    room-links : S ≡ 4 → countOf linkName before * 3 + 3 ≤ length links₀
-    room-links q = omega (arith, row-left 4 (omega arith) q, div-mul-le-self (length links₀) 3)
+    room-links : S′ ≡ 4 → countOf linkName before * 3 + 3 ≤ length (old .links)
+    unfolding linesLent
+    room-links q = omega (arith, row-left 4 (omega arith) q, div-mul-le-self (length (old .links)) 3)
 
-    room-events : S ≡ 5 → countOf eventSection before * 4 + 4 ≤ length events₀
-    room-events q = omega (arith, row-left 5 (omega arith) q, div-mul-le-self (length events₀) 4)
+    room-events : S′ ≡ 5 → countOf eventSection before * 4 + 4 ≤ length (old .events)
+    unfolding linesLent
+    room-events q = omega (arith, row-left 5 (omega arith) q, div-mul-le-self (length (old .events)) 4)
 
-    pub fill-body : S ≡ 2 → (t : ℕ) × (w : Written) × WholeBody (drop (bodyPlace line) line) t w
+    pub fill-body : S′ ≡ 2 → (t : ℕ) × (w : Written) × WholeBody (drop (bodyPlace line) line) t w
     fill-body = body-whole before E fits in-section words-held few line there
 
-    pub fill-body-room : S ≡ 2 → (getD counts 2 0 + 1) * 256 ≤ length bodies
+    pub fill-body-room : S′ ≡ 2 → (getD counts 2 0 + 1) * 256 ≤ length (s .bodies)
     fill-body-room is = omega (arith, room-bodies is, k .looking .rows 2 (omega arith), k .bodies-held .same)
 
     -- the line's row is put in its table
-    pub fill-goes-on : {types₁ relationships₁ rules₁ bodies₁ objects₁ links₁ events₁ : List ℕ} → types₁ ≡ cond (eqb S 0) (withRow types 2 (getD counts 0 0) (take 2 (held .words))) types → relationships₁ ≡ cond (eqb S 1) (withRow relationships 2 (getD counts 1 0) (take 2 (held .words))) relationships → rules₁ ≡ cond (eqb S 2) (withRow rules 2 (getD counts 2 0) (take 2 (held .words))) rules → ((c : ℕ) (w : Written) → S ≡ 2 → WholeBody (drop (bodyPlace line) line) c w → bodies₁ ≡ rowsPut bodies (getD counts 2 0 * 256) (rowsOf w)) × ((S ≡ 2 → ⊥) → bodies₁ ≡ bodies) → objects₁ ≡ cond (eqb S 3) (withRow objects 10 (getD counts 3 0) (take 10 (held .words))) objects → links₁ ≡ cond (eqb S 4) (withRow links 3 (getD counts 4 0) (take 3 (held .words))) links → events₁ ≡ cond (eqb S 5) (withRow events 4 (getD counts 5 0) (take 4 (held .words))) events → {end : ℕ} {more-counts more-cells : List ℕ} → end ≡ at + length (lineIn (drop at text)) → more-counts ≡ set counts S (getD counts S 0 + 1) → more-cells ≡ cond (eqb S 0 && ltb (getD counts 0 0) 32) (set cells (getD counts 0 0) (getD (held .words) 1 0)) cells → Filling text types₀ relationships₀ rules₀ bodies₀ objects₀ links₀ events₀ (end + 1) more-counts more-cells S types₁ relationships₁ rules₁ bodies₁ objects₁ links₁ events₁
-    fill-goes-on {types₁} {relationships₁} {rules₁} {bodies₁} {objects₁} {links₁} {events₁} p-types p-relationships p-rules p-bodies p-objects p-links p-events a c d =
-        let (m, went) = look-with (k .looking) h short refl unended l r fill-section refl not-full a c d in
+    pub fill-goes-on : {after : Sheet} → LinePut line held counts s after → {end : ℕ} {more-counts more-cells : List ℕ}
+        → end ≡ at + length (lineIn (drop at text))
+        → more-counts ≡ set counts S′ (getD counts S′ 0 + 1)
+        → more-cells ≡ cond (eqb S′ 0 && ltb (getD counts 0 0) 32) (set cells (getD counts 0 0) (getD (held .words) 1 0)) cells
+        → Filling text old (end + 1) more-counts more-cells S′ after
+    unfolding widthOf
+    fill-goes-on {after} put a c d =
+        let (m, went) = look-with read fill-section refl not-full a c d in
+        let types = table-goes-on before E fits in-section words-held typeTable refl (k .types-held) room-types (k .looking .rows 0 (omega arith)) (put .types-put) in
+        let relationships = table-goes-on before E fits in-section words-held relationshipTable refl (k .relationships-held) room-relationships (k .looking .rows 1 (omega arith)) (put .relationships-put) in
+        let rules = table-goes-on before E fits in-section words-held ruleTable refl (k .rules-held) room-rules (k .looking .rows 2 (omega arith)) (put .rules-put) in
+        let bodies = bodies-go-on before E fits in-section words-held few line there (k .bodies-held) room-bodies (k .looking .rows 2 (omega arith)) (put .bodies-put) (put .bodies-kept) in
+        let objects = table-goes-on before E fits in-section words-held objectTable refl (k .objects-held) room-objects (k .looking .rows 3 (omega arith)) (put .objects-put) in
+        let links = table-goes-on before E fits in-section words-held linkTable refl (k .links-held) room-links (k .looking .rows 4 (omega arith)) (put .links-put) in
+        let events = table-goes-on before E fits in-section words-held eventTable refl (k .events-held) room-events (k .looking .rows 5 (omega arith)) (put .events-put) in
         record {
           n = k .n + 1;
           looking = m;
-          types-held = subst (λ es. Table typeName 2 es types₀ types₁) (sym went) (table-goes-on before E fits in-section words-held typeName 2 refl (k .types-held) room-types (k .looking .rows 0 (omega arith)) p-types);
-          relationships-held = subst (λ es. Table relationshipName 2 es relationships₀ relationships₁) (sym went) (table-goes-on before E fits in-section words-held relationshipName 2 refl (k .relationships-held) room-relationships (k .looking .rows 1 (omega arith)) p-relationships);
-          rules-held = subst (λ es. Table ruleName 2 es rules₀ rules₁) (sym went) (table-goes-on before E fits in-section words-held ruleName 2 refl (k .rules-held) room-rules (k .looking .rows 2 (omega arith)) p-rules);
-          bodies-held = subst (λ es. Bodies es bodies₀ bodies₁) (sym went) (bodies-go-on before E fits in-section words-held few line there (k .bodies-held) room-bodies (k .looking .rows 2 (omega arith)) (p-bodies .0) (p-bodies .1));
-          objects-held = subst (λ es. Table objectName 10 es objects₀ objects₁) (sym went) (table-goes-on before E fits in-section words-held objectName 10 refl (k .objects-held) room-objects (k .looking .rows 3 (omega arith)) p-objects);
-          links-held = subst (λ es. Table linkName 3 es links₀ links₁) (sym went) (table-goes-on before E fits in-section words-held linkName 3 refl (k .links-held) room-links (k .looking .rows 4 (omega arith)) p-links);
-          events-held = subst (λ es. Table eventSection 4 es events₀ events₁) (sym went) (table-goes-on before E fits in-section words-held eventSection 4 refl (k .events-held) room-events (k .looking .rows 5 (omega arith)) p-events);
+          types-held = subst (λ es. Held typeTable es old after) (sym went) types;
+          relationships-held = subst (λ es. Held relationshipTable es old after) (sym went) relationships;
+          rules-held = subst (λ es. Held ruleTable es old after) (sym went) rules;
+          bodies-held = subst (λ es. HeldBodies es old after) (sym went) bodies;
+          objects-held = subst (λ es. Held objectTable es old after) (sym went) objects;
+          links-held = subst (λ es. Held linkTable es old after) (sym went) links;
+          events-held = subst (λ es. Held eventTable es old after) (sym went) events;
         }

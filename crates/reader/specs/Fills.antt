@@ -1,18 +1,31 @@
--- The tables as the lines of a text fill them.
-use Prim.Native.Nat.{ℕ}
+-- The tables as the lines of a text fill them, one after the other.
+use Prim.Native.Nat.{ℕ, _*_}
 use mathlib.Core.Path.{_≡_}
+use mathlib.Core.Bool.{cond}
 use mathlib.Core.List.{List}
-use lib.ListN.{length}
-use Rattle.text.specs.Names.{typeName, relationshipName, ruleName, objectName, linkName}
-use Rattle.text.specs.Entries.{Entry, eventSection, tableOf, bodiesOf}
-use Rattle.text.specs.Texts.{filled}
+use lib.Dec.{eqb}
+use lib.ListN.{getD, take, drop}
+use Rattle.rows.specs.Rows.{withRow}
+use Rattle.tables.specs.Layouts.{Sheet, Layout, bodyWords, typeTable, relationshipTable, ruleTable, objectTable, linkTable, eventTable}
+use Rattle.text.specs.Names.{ruleName}
+use Rattle.text.specs.Bodies.{Written, rowsOf}
+use Rattle.brackets.specs.Whole.{WholeBody, rowsPut}
+use Rattle.reader.specs.declared.line.Row.{Row}
+use Rattle.reader.specs.Rows.{bodyPlace}
 
--- each table has the rows of its section from the front, and zeros after them
-pub record Holds (es : List Entry) (types relationships rules bodies objects links events : List ℕ) : Type 0 where
-  pub types-are : types ≡ filled (length types) (tableOf typeName es)
-  pub relationships-are : relationships ≡ filled (length relationships) (tableOf relationshipName es)
-  pub rules-are : rules ≡ filled (length rules) (tableOf ruleName es)
-  pub bodies-are : bodies ≡ filled (length bodies) (bodiesOf es)
-  pub objects-are : objects ≡ filled (length objects) (tableOf objectName es)
-  pub links-are : links ≡ filled (length links) (tableOf linkName es)
-  pub events-are : events ≡ filled (length events) (tableOf eventSection es)
+-- a table with a line's row in its place, where the line is of the table's section; `counts` has the rows of each section before it
+abbrev pub rowPut : Layout → Row → List ℕ → List ℕ → List ℕ
+rowPut l row counts t =
+    cond (eqb (row .section) (l .section)) (withRow t (l .width) (getD counts (l .section) 0) (take (l .width) (row .words))) t
+
+-- what a line leaves in the tables: its row, and its body's rows where it is a rule's
+pub record LinePut (line : List ℕ) (row : Row) (counts : List ℕ) (before after : Sheet) : Type 0 where
+  pub types-put : after .types ≡ rowPut typeTable row counts (before .types)
+  pub relationships-put : after .relationships ≡ rowPut relationshipTable row counts (before .relationships)
+  pub rules-put : after .rules ≡ rowPut ruleTable row counts (before .rules)
+  pub bodies-put : (t : ℕ) (w : Written) → row .section ≡ ruleName → WholeBody (drop (bodyPlace line) line) t w
+      → after .bodies ≡ rowsPut (before .bodies) (getD counts ruleName 0 * bodyWords) (rowsOf w)
+  pub bodies-kept : (row .section ≡ ruleName → ⊥) → after .bodies ≡ before .bodies
+  pub objects-put : after .objects ≡ rowPut objectTable row counts (before .objects)
+  pub links-put : after .links ≡ rowPut linkTable row counts (before .links)
+  pub events-put : after .events ≡ rowPut eventTable row counts (before .events)

@@ -1,40 +1,56 @@
 -- What a read answers, and what it leaves in the lent tables.
-use Prim.Native.Nat.{ℕ, _*_, min}
-use mathlib.Core.Bool.{Bool, _&&_, cond}
-use mathlib.Core.List.{List, [], _∷_}
+use Prim.Native.Nat.{ℕ}
+use mathlib.Core.Bool.{Bool, cond}
+use mathlib.Core.List.{List}
 use lib.ListN.{length}
-use Rattle.meaning.specs.Limits.{maxForms}
-use Rattle.rows.specs.Rows.{wholeRows, rowsLent}
+use Rattle.tables.specs.Layouts.{Sheet, sheetOf, layouts, linesLent}
+use Rattle.tables.specs.Refusals.{notWhole}
+use Rattle.tables.specs.declared.Counts.{Counts}
 use Rattle.text.specs.Names.{typeName, relationshipName, ruleName, objectName, linkName}
-use Rattle.text.specs.Entries.{Entry, eventSection, countOf}
-use Rattle.text.specs.Texts.{Reading, taken, refused, filled}
+use Rattle.text.specs.Entries.{Entry, eventSection, countOf, tableOf, bodiesOf}
+use Rattle.text.specs.Texts.{Reading, taken, refused, reading, filled}
 use Rattle.reader.specs.declared.Outcome.{Outcome}
 use Rattle.reader.specs.declared.Outcome.the-variants.{Done, Refused}
 
--- the rows lent for each section; a rule has 64 rows of the bodies
-abbrev pub lentRows : List ℕ → List ℕ → List ℕ → List ℕ → List ℕ → List ℕ → List ℕ → List ℕ
-lentRows types relationships rules bodies objects links events =
-    rowsLent types 2 ∷ rowsLent relationships 2 ∷ min (rowsLent rules 2) (rowsLent bodies (4 * maxForms))
-    ∷ rowsLent objects 10 ∷ rowsLent links 3 ∷ rowsLent events 4 ∷ []
-
--- every lent table is whole rows
-abbrev pub allWhole : List ℕ → List ℕ → List ℕ → List ℕ → List ℕ → List ℕ → List ℕ → Bool
-allWhole types relationships rules bodies objects links events =
-    wholeRows types 2 && (wholeRows relationships 2 && (wholeRows rules 2 && (wholeRows bodies 4
-    && (wholeRows objects 10 && (wholeRows links 3 && wholeRows events 4)))))
-
 -- 6, "not whole rows", after what the text meets
 unfoldable pub unlessBroken : Reading → Bool → Reading
-unlessBroken (taken es) whole = cond whole (taken es) (refused 6 0)
-unlessBroken (refused number line) whole = refused number line
+unlessBroken (taken es) broken = cond broken (refused 6 0) (taken es)
+unlessBroken (refused number line) broken = refused number line
+
+-- what a text meets that is read into lent tables
+unfoldable pub lentReading : List ℕ → Sheet → Reading
+lentReading text s = unlessBroken (reading (linesLent s) text) (notWhole layouts s)
+
+-- how many lines of each section there are
+abbrev pub countsOf : List Entry → Counts
+countsOf es =
+    record {
+      types = countOf typeName es;
+      relationships = countOf relationshipName es;
+      rules = countOf ruleName es;
+      objects = countOf objectName es;
+      links = countOf linkName es;
+      events = countOf eventSection es;
+    }
 
 -- a reading as the code gives it: the rows of each table, or a refusal
 abbrev pub readAnswer : Reading → Outcome
-readAnswer (taken es) =
-    Done (countOf typeName es) (countOf relationshipName es) (countOf ruleName es) (countOf objectName es) (countOf linkName es) (countOf eventSection es)
+readAnswer (taken es) = Done (countsOf es)
 readAnswer (refused number line) = Refused number line
 
+-- each table has the rows of its section from the front, and zeros after them
+abbrev pub sheetWith : List Entry → Sheet → Sheet
+sheetWith es s =
+    sheetOf
+    (filled (length (s .types)) (tableOf typeName es))
+    (filled (length (s .relationships)) (tableOf relationshipName es))
+    (filled (length (s .rules)) (tableOf ruleName es))
+    (filled (length (s .bodies)) (bodiesOf es))
+    (filled (length (s .objects)) (tableOf objectName es))
+    (filled (length (s .links)) (tableOf linkName es))
+    (filled (length (s .events)) (tableOf eventSection es))
+
 -- "a refusal changes nothing lent"; "After a read all unused rows are 0"
-unfoldable pub tableAfter : Reading → (List Entry → List ℕ) → List ℕ → List ℕ
-tableAfter (taken es) words table = filled (length table) (words es)
-tableAfter (refused number line) words table = table
+unfoldable pub sheetAfter : Reading → Sheet → Sheet
+sheetAfter (taken es) s = sheetWith es s
+sheetAfter (refused number line) s = s

@@ -1,32 +1,33 @@
 // Text to tables. The whole text is looked through before a row is written.
-use line::and;
+use line::or;
 use look::lesser;
+use tables::BODY_WIDTH;
+use tables::Counts;
+use tables::EVENT_WIDTH;
+use tables::LINK_WIDTH;
+use tables::MAX_FORMS;
+use tables::OBJECT_WIDTH;
+use tables::RELATIONSHIP_WIDTH;
+use tables::RULE_WIDTH;
+use tables::TYPE_WIDTH;
 ghost use mathlib.Core.Path.{_≡_};
-ghost use mathlib.Core.List.{[]};
-ghost use lib.ListN.{length};
-ghost use Rattle.text.specs.Names.{typeName, relationshipName, ruleName, objectName, linkName};
-ghost use Rattle.text.specs.Entries.{eventSection, tableOf, bodiesOf};
-ghost use Rattle.text.specs.Texts.{filled, reading};
-ghost use Rattle.reader.specs.Reads.{lentRows, allWhole, unlessBroken, readAnswer, tableAfter};
+ghost use mathlib.Core.Bool.{not};
+ghost use Rattle.rows.specs.Rows.{wholeRows};
+ghost use Rattle.tables.specs.Layouts.{sheetOf, layouts, linesLent};
+ghost use Rattle.tables.specs.Refusals.{notWhole};
+ghost use Rattle.reader.specs.Reads.{lentReading, readAnswer, sheetAfter};
 
-pub mod fill;
-pub mod line;
-pub mod look;
+mod fill;
+mod line;
+mod look;
 
 // What a read says: how many rows each table has, or a refusal's number and its line, 0 for the text's length and for the tables.
 pub enum Outcome {
-    Done {
-        types: u32,
-        relationships: u32,
-        rules: u32,
-        objects: u32,
-        links: u32,
-        events: u32,
-    },
+    Done(Counts),
     Refused(u32, u32),
 }
 
-// The rows lent for each section. A rule has 64 rows of the bodies.
+// How many lines of each section have their rows lent. A rule has its rows of the bodies too.
 fn room_of(
     types: &[u32],
     relationships: &[u32],
@@ -36,19 +37,28 @@ fn room_of(
     links: &[u32],
     events: &[u32],
 ) -> [usize; 6]
-    ensures { λ r. ⌜ r ≡ lentRows (now (types .entry)) (now (relationships .entry)) (now (rules .entry)) (now (bodies .entry)) (now (objects .entry)) (now (links .entry)) (now (events .entry)) ⌝ }
+    ensures { λ r. ⌜ r ≡ linesLent (sheetOf (now (types .entry)) (now (relationships .entry)) (now (rules .entry)) (now (bodies .entry)) (now (objects .entry)) (now (links .entry)) (now (events .entry))) ⌝ }
 {
-    let a = rows::rows_lent(types, 2);
-    let b = rows::rows_lent(relationships, 2);
-    let c = lesser(rows::rows_lent(rules, 2), rows::rows_lent(bodies, 256));
-    let d = rows::rows_lent(objects, 10);
-    let e = rows::rows_lent(links, 3);
-    let f = rows::rows_lent(events, 4);
+    let a = rows::rows_lent(types, TYPE_WIDTH);
+    let b = rows::rows_lent(relationships, RELATIONSHIP_WIDTH);
+    let c = lesser(
+        rows::rows_lent(rules, RULE_WIDTH),
+        rows::rows_lent(bodies, BODY_WIDTH * MAX_FORMS),
+    );
+    let d = rows::rows_lent(objects, OBJECT_WIDTH);
+    let e = rows::rows_lent(links, LINK_WIDTH);
+    let f = rows::rows_lent(events, EVENT_WIDTH);
     [a, b, c, d, e, f]
 }
 
-// Whether every table is whole rows.
-fn all_whole(
+fn not_whole(t: &[u32], width: u32) -> bool
+    ensures { λ r. ⌜ r ≡ not (wholeRows (now (t .entry)) width) ⌝ }
+{
+    !rows::whole(t, width)
+}
+
+// 6: whether a table is not whole rows.
+fn any_broken(
     types: &[u32],
     relationships: &[u32],
     rules: &[u32],
@@ -57,23 +67,51 @@ fn all_whole(
     links: &[u32],
     events: &[u32],
 ) -> bool
-    ensures { λ r. ⌜ r ≡ allWhole (now (types .entry)) (now (relationships .entry)) (now (rules .entry)) (now (bodies .entry)) (now (objects .entry)) (now (links .entry)) (now (events .entry)) ⌝ }
+    ensures { λ r. ⌜ r ≡ notWhole layouts (sheetOf (now (types .entry)) (now (relationships .entry)) (now (rules .entry)) (now (bodies .entry)) (now (objects .entry)) (now (links .entry)) (now (events .entry))) ⌝ }
 {
-    let a = rows::whole(types, 2);
-    let b = rows::whole(relationships, 2);
-    let c = rows::whole(rules, 2);
-    let d = rows::whole(bodies, 4);
-    let e = rows::whole(objects, 10);
-    let f = rows::whole(links, 3);
-    let g = rows::whole(events, 4);
-    and(a, and(b, and(c, and(d, and(e, and(f, g))))))
+    let a = not_whole(types, TYPE_WIDTH);
+    let b = not_whole(relationships, RELATIONSHIP_WIDTH);
+    let c = not_whole(rules, RULE_WIDTH);
+    let d = not_whole(bodies, BODY_WIDTH);
+    let e = not_whole(objects, OBJECT_WIDTH);
+    let f = not_whole(links, LINK_WIDTH);
+    let g = not_whole(events, EVENT_WIDTH);
+    or(a, or(b, or(c, or(d, or(e, or(f, or(g, false)))))))
 }
 
-// A table without a used row.
-fn clear(table: &mut [u32])
-    ensures { λ _. ⌜ now (table .exit) ≡ filled (length (now (table .entry))) [] ⌝ }
+// What a read into the tables answers: 2 of the text's length, 1 and 2 of its lines, then 6 of the tables.
+fn examine(
+    text: &[u8],
+    types: &[u32],
+    relationships: &[u32],
+    rules: &[u32],
+    bodies: &[u32],
+    objects: &[u32],
+    links: &[u32],
+    events: &[u32],
+) -> Outcome
+    ensures { λ r. ⌜ r ≡ readAnswer (lentReading (now (text .entry)) (sheetOf (now (types .entry)) (now (relationships .entry)) (now (rules .entry)) (now (bodies .entry)) (now (objects .entry)) (now (links .entry)) (now (events .entry)))) ⌝ }
 {
-    rows::clear_past(table, 1, 0);
+    if 65536 < text.len() {
+        return Outcome::Refused(2, 0);
+    }
+    let room = room_of(types, relationships, rules, bodies, objects, links, events);
+    let seen = look::look(text, &room);
+    if 0 < seen.number {
+        return Outcome::Refused(seen.number, seen.line);
+    }
+    if any_broken(types, relationships, rules, bodies, objects, links, events) {
+        return Outcome::Refused(6, 0);
+    }
+    let n = seen.counts;
+    Outcome::Done(Counts {
+        types: n[0],
+        relationships: n[1],
+        rules: n[2],
+        objects: n[3],
+        links: n[4],
+        events: n[5],
+    })
 }
 
 // Reads a text into the tables. A refusal leaves them as they are; else all unused rows are 0.
@@ -87,43 +125,34 @@ pub fn read(
     links: &mut [u32],
     events: &mut [u32],
 ) -> Outcome
-    ensures { λ r. ⌜ (r ≡ readAnswer (unlessBroken (reading (lentRows (now (types .entry)) (now (relationships .entry)) (now (rules .entry)) (now (bodies .entry)) (now (objects .entry)) (now (links .entry)) (now (events .entry))) (now (text .entry))) (allWhole (now (types .entry)) (now (relationships .entry)) (now (rules .entry)) (now (bodies .entry)) (now (objects .entry)) (now (links .entry)) (now (events .entry))))) × (now (types .exit) ≡ tableAfter (unlessBroken (reading (lentRows (now (types .entry)) (now (relationships .entry)) (now (rules .entry)) (now (bodies .entry)) (now (objects .entry)) (now (links .entry)) (now (events .entry))) (now (text .entry))) (allWhole (now (types .entry)) (now (relationships .entry)) (now (rules .entry)) (now (bodies .entry)) (now (objects .entry)) (now (links .entry)) (now (events .entry)))) (tableOf typeName) (now (types .entry))) × (now (relationships .exit) ≡ tableAfter (unlessBroken (reading (lentRows (now (types .entry)) (now (relationships .entry)) (now (rules .entry)) (now (bodies .entry)) (now (objects .entry)) (now (links .entry)) (now (events .entry))) (now (text .entry))) (allWhole (now (types .entry)) (now (relationships .entry)) (now (rules .entry)) (now (bodies .entry)) (now (objects .entry)) (now (links .entry)) (now (events .entry)))) (tableOf relationshipName) (now (relationships .entry))) × (now (rules .exit) ≡ tableAfter (unlessBroken (reading (lentRows (now (types .entry)) (now (relationships .entry)) (now (rules .entry)) (now (bodies .entry)) (now (objects .entry)) (now (links .entry)) (now (events .entry))) (now (text .entry))) (allWhole (now (types .entry)) (now (relationships .entry)) (now (rules .entry)) (now (bodies .entry)) (now (objects .entry)) (now (links .entry)) (now (events .entry)))) (tableOf ruleName) (now (rules .entry))) × (now (bodies .exit) ≡ tableAfter (unlessBroken (reading (lentRows (now (types .entry)) (now (relationships .entry)) (now (rules .entry)) (now (bodies .entry)) (now (objects .entry)) (now (links .entry)) (now (events .entry))) (now (text .entry))) (allWhole (now (types .entry)) (now (relationships .entry)) (now (rules .entry)) (now (bodies .entry)) (now (objects .entry)) (now (links .entry)) (now (events .entry)))) bodiesOf (now (bodies .entry))) × (now (objects .exit) ≡ tableAfter (unlessBroken (reading (lentRows (now (types .entry)) (now (relationships .entry)) (now (rules .entry)) (now (bodies .entry)) (now (objects .entry)) (now (links .entry)) (now (events .entry))) (now (text .entry))) (allWhole (now (types .entry)) (now (relationships .entry)) (now (rules .entry)) (now (bodies .entry)) (now (objects .entry)) (now (links .entry)) (now (events .entry)))) (tableOf objectName) (now (objects .entry))) × (now (links .exit) ≡ tableAfter (unlessBroken (reading (lentRows (now (types .entry)) (now (relationships .entry)) (now (rules .entry)) (now (bodies .entry)) (now (objects .entry)) (now (links .entry)) (now (events .entry))) (now (text .entry))) (allWhole (now (types .entry)) (now (relationships .entry)) (now (rules .entry)) (now (bodies .entry)) (now (objects .entry)) (now (links .entry)) (now (events .entry)))) (tableOf linkName) (now (links .entry))) × (now (events .exit) ≡ tableAfter (unlessBroken (reading (lentRows (now (types .entry)) (now (relationships .entry)) (now (rules .entry)) (now (bodies .entry)) (now (objects .entry)) (now (links .entry)) (now (events .entry))) (now (text .entry))) (allWhole (now (types .entry)) (now (relationships .entry)) (now (rules .entry)) (now (bodies .entry)) (now (objects .entry)) (now (links .entry)) (now (events .entry)))) (tableOf eventSection) (now (events .entry))) ⌝ }
+    ensures { λ r. ⌜ (let before = sheetOf (now (types .entry)) (now (relationships .entry)) (now (rules .entry)) (now (bodies .entry)) (now (objects .entry)) (now (links .entry)) (now (events .entry)) in
+        let after = sheetOf (now (types .exit)) (now (relationships .exit)) (now (rules .exit)) (now (bodies .exit)) (now (objects .exit)) (now (links .exit)) (now (events .exit)) in
+        let reading = lentReading (now (text .entry)) before in
+        (r ≡ readAnswer reading) × (after ≡ sheetAfter reading before)) ⌝ }
 {
-    if 65536 < text.len() {
-        return Outcome::Refused(2, 0);
-    }
-    let room = room_of(types, relationships, rules, bodies, objects, links, events);
-    let seen = look::look(text, &room);
-    if 0 < seen.number {
-        return Outcome::Refused(seen.number, seen.line);
-    }
-    if !all_whole(types, relationships, rules, bodies, objects, links, events) {
-        return Outcome::Refused(6, 0);
-    }
-    clear(&mut *types);
-    clear(&mut *relationships);
-    clear(&mut *rules);
-    clear(&mut *bodies);
-    clear(&mut *objects);
-    clear(&mut *links);
-    clear(&mut *events);
-    fill::fill(
+    match examine(
         text,
-        &mut *types,
-        &mut *relationships,
-        &mut *rules,
-        &mut *bodies,
-        &mut *objects,
-        &mut *links,
-        &mut *events,
-    );
-    let n = seen.counts;
-    Outcome::Done {
-        types: n[0],
-        relationships: n[1],
-        rules: n[2],
-        objects: n[3],
-        links: n[4],
-        events: n[5],
+        types,
+        relationships,
+        rules,
+        bodies,
+        objects,
+        links,
+        events,
+    ) {
+        Outcome::Refused(number, line) => Outcome::Refused(number, line),
+        Outcome::Done(n) => {
+            fill::fill(
+                text,
+                &mut *types,
+                &mut *relationships,
+                &mut *rules,
+                &mut *bodies,
+                &mut *objects,
+                &mut *links,
+                &mut *events,
+            );
+            Outcome::Done(n)
+        }
     }
 }

@@ -54,13 +54,13 @@ fn words_of(values: [u64; 10]) -> Words
     Words { good: true, words }
 }
 
-pub fn and(a: bool, b: bool) -> bool
+fn and(a: bool, b: bool) -> bool
     ensures { λ r. ⌜ r ≡ a && b ⌝ }
 {
     if a { b } else { false }
 }
 
-fn or(a: bool, b: bool) -> bool
+pub fn or(a: bool, b: bool) -> bool
     ensures { λ r. ⌜ r ≡ (a || b) ⌝ }
 {
     if a { true } else { b }

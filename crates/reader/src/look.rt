@@ -1,11 +1,19 @@
 // The text looked through, line by line: the first refusal, or how many rows each section has.
 use crate::line::read_line;
+use tables::MAX_EVENTS;
+use tables::MAX_FORMS;
+use tables::MAX_LINKS;
+use tables::MAX_OBJECTS;
+use tables::MAX_RELATIONSHIPS;
+use tables::MAX_RULES;
+use tables::MAX_TYPES;
 ghost use mathlib.Core.Path.{_≡_};
 ghost use mathlib.Core.Bool.{_&&_, _||_, cond};
 ghost use Prim.Native.Nat.{suc, _+_, min, _≤_, _<_};
 ghost use lib.Dec.{ltb, eqb};
 ghost use lib.ListN.{length, getD, set};
-ghost use Rattle.text.specs.Texts.{maxText, limitOf, reading};
+ghost use Rattle.tables.specs.Layouts.{limitOf};
+ghost use Rattle.text.specs.Texts.{maxText, reading};
 ghost use Rattle.reader.specs.Looks.{Shown};
 
 // What was seen: a refusal's number and line, or 0 and the rows of each section, with the cells of each type.
@@ -33,7 +41,14 @@ fn limit_of(section: u32) -> u32
     requires { ⌜ section < 6 ⌝ }
     ensures { λ r. ⌜ r ≡ limitOf section ⌝ }
 {
-    let limits = [32u32, 32, 32, 1024, 4096, 256];
+    let limits = [
+        MAX_TYPES,
+        MAX_RELATIONSHIPS,
+        MAX_RULES,
+        MAX_OBJECTS,
+        MAX_LINKS,
+        MAX_EVENTS,
+    ];
     limits[section as usize]
 }
 
@@ -54,7 +69,7 @@ fn is_full(section: u32, forms: u32, counts: &[u32; 6], room: &[usize; 6]) -> bo
         return true;
     }
     if section == 2 {
-        return 64 < forms;
+        return MAX_FORMS < forms;
     }
     false
 }

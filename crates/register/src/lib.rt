@@ -36,7 +36,8 @@ pub fn check(
     match faults::object_fault(type_count, types, object_count, objects) {
         Found::At(row) => Found::At(row),
         Found::Nothing => {
-            let table = search::guesses(object_count, objects);
+            let mut table = [0u16; 4096];
+            search::guesses(object_count, objects, &mut table);
             faults::link_fault(
                 type_count,
                 types,

@@ -62,15 +62,13 @@ pub fn link_row(
 }
 
 // For each value of an id's last 12 bits a row that may have such an id. Nothing is promised of it: a guess is tested before it is used.
-pub fn guesses(object_count: u32, objects: &[u32]) -> [u16; 4096] {
-    let mut table = [0u16; 4096];
+pub fn guesses(object_count: u32, objects: &[u32], table: &mut [u16; 4096]) {
     let mut row: u32 = 0;
     while row < object_count {
         let at = (columns::id_of(objects, row) % 4096) as usize;
         table[at] = (row % 65536) as u16;
         row += 1;
     }
-    table
 }
 
 // The row of the object of an id, whatever the guesses are: most often the guessed one, else it is searched for.

@@ -57,7 +57,8 @@ pub fn index(
         × ((k : ℕ) → getD (now index) k 0 ≡ 0) ⌝ }
     ensures { λ _. ⌜ Indexed «object_count» (now (objects .entry)) «link_count» (now (links .entry)) (now (index .exit)) ⌝ }
 {
-    let table = search::guesses(object_count, objects);
+    let mut table = [0u16; 4096];
+    search::guesses(object_count, objects, &mut table);
     let mut row = link_count;
     while 0 < row {
         row -= 1;

@@ -7,7 +7,7 @@ ghost use mathlib.Core.Option.{Option};
 ghost use Prim.Native.Nat.{ℕ};
 ghost use lib.Dec.{ltb};
 ghost use Rattle.meaning.specs.Lists.{firstOf};
-ghost use Rattle.meaning.specs.Schema.{ObjectType, Relationship, parentOf, cellsOf, under, sourceType, targetType, nearType, farType, faultyType, faultyRelationship, typeFault, relationshipFault};
+ghost use Rattle.meaning.specs.Schema.{ObjectType, Relationship, parentOf, cellsOf, hasParent, under, sourceType, targetType, nearType, farType, faultyType, faultyRelationship, typeFault, relationshipFault};
 ghost use Rattle.rows.specs.Rows.{wordAt};
 ghost use Rattle.tables.specs.Columns.{typeRow, relationshipRow, typesOf, relationshipsOf, schemaOf};
 ghost use Rattle.tables.specs.Refusals.{foundOf};
@@ -40,6 +40,16 @@ fn parent_of(type_count: u32, types: &[u32], t: u32) -> Found
         }
     } else {
         Found::Nothing
+    }
+}
+
+// Whether a type has a parent.
+pub fn has_parent(type_count: u32, types: &[u32], t: u32) -> bool
+    ensures { λ r. ⌜ r ≡ hasParent (typesOf «type_count» (now (types .entry))) t ⌝ }
+{
+    match parent_of(type_count, types, t) {
+        Found::At(_) => true,
+        Found::Nothing => false,
     }
 }
 

@@ -5,3 +5,4 @@
 pub mod Readings
 pub mod Forms
 pub mod Determined
+pub mod Operators

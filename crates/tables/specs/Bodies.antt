@@ -9,6 +9,7 @@ use lib.IntN.{pos}
 use Rattle.meaning.specs.Limits.{maxForms}
 use Rattle.meaning.specs.Forms.{Sort, truth, number, collection, lt, Form, compare, negate, connect, quantify, kind, num, cell, size, sum, combine, role, all, select}
 use Rattle.rows.specs.Rows.{wordAt, signed, wordOf}
+use Rattle.tables.specs.Layouts.{bodyTable}
 use Rattle.tables.specs.Codes.{Operator, comparing, negating, connecting, quantifying, kindOf, literal, cellOf, sizeOf, sumOf, combining, roleOf, allOf, selecting, operatorOf, codeOf, shapeOf}
 
 -- ---- a form as rows
@@ -41,7 +42,9 @@ pub record BodyRow : Type 0 where
   pub z : ℕ
 
 abbrev pub bodyRow : List ℕ → ℕ → BodyRow
-bodyRow t i = record { code = wordAt t 4 i 0; x = wordAt t 4 i 1; y = wordAt t 4 i 2; z = wordAt t 4 i 3 }
+bodyRow t i =
+    let width = bodyTable .width in
+    record { code = wordAt t width i 0; x = wordAt t width i 1; y = wordAt t width i 2; z = wordAt t width i 3 }
 
 -- a form with its sort
 pub data Part : Type 0 where

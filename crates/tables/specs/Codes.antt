@@ -1,8 +1,10 @@
--- The operators of body rows. An operator's code is its place in `operators`, from 0.
-use Prim.Native.Nat.{ℕ}
-use mathlib.Core.List.{List, [], _∷_}
+-- The operators of body rows: their codes, their names in the text, and their shapes. An operator's code is its place in `operators`.
+use Prim.Native.Nat.{ℕ, suc}
+use mathlib.Core.Bool.{cond}
+use mathlib.Core.List.{List, [], _∷_, map}
 use mathlib.Core.Option.{Option}
 use lib.ListN.{getElem?}
+use Rattle.meaning.specs.Lists.{sameList}
 use Rattle.meaning.specs.Forms.{Sort, truth, number, collection, Comparison, le, lt, eq, ne, ge, gt, Connective, and, or, xor, implies, Quantifier, forall, exists, Arithmetic, add, sub}
 
 pub data Operator : Type 0 where
@@ -31,30 +33,40 @@ operators =
 unfoldable pub operatorOf : ℕ → Option Operator
 operatorOf code = getElem? operators code
 
+-- its name in the text, as bytes
+unfoldable pub operatorName : Operator → List ℕ
+operatorName (comparing le) = 108 ∷ 101 ∷ []  -- le
+operatorName (comparing lt) = 108 ∷ 116 ∷ []  -- lt
+operatorName (comparing eq) = 101 ∷ 113 ∷ []  -- eq
+operatorName (comparing ne) = 110 ∷ 101 ∷ []  -- ne
+operatorName (comparing ge) = 103 ∷ 101 ∷ []  -- ge
+operatorName (comparing gt) = 103 ∷ 116 ∷ []  -- gt
+operatorName negating = 110 ∷ 111 ∷ 116 ∷ []  -- not
+operatorName (connecting and) = 97 ∷ 110 ∷ 100 ∷ []  -- and
+operatorName (connecting or) = 111 ∷ 114 ∷ []  -- or
+operatorName (connecting xor) = 120 ∷ 111 ∷ 114 ∷ []  -- xor
+operatorName (connecting implies) = 105 ∷ 109 ∷ 112 ∷ 108 ∷ 105 ∷ 101 ∷ 115 ∷ []  -- implies
+operatorName (quantifying forall) = 102 ∷ 111 ∷ 114 ∷ 97 ∷ 108 ∷ 108 ∷ []  -- forall
+operatorName (quantifying exists) = 101 ∷ 120 ∷ 105 ∷ 115 ∷ 116 ∷ 115 ∷ []  -- exists
+operatorName kindOf = 107 ∷ 105 ∷ 110 ∷ 100 ∷ []  -- kind
+operatorName literal = 110 ∷ 117 ∷ 109 ∷ []  -- num
+operatorName cellOf = 99 ∷ 101 ∷ 108 ∷ 108 ∷ []  -- cell
+operatorName sizeOf = 115 ∷ 105 ∷ 122 ∷ 101 ∷ []  -- size
+operatorName sumOf = 115 ∷ 117 ∷ 109 ∷ []  -- sum
+operatorName (combining add) = 97 ∷ 100 ∷ 100 ∷ []  -- add
+operatorName (combining sub) = 115 ∷ 117 ∷ 98 ∷ []  -- sub
+operatorName roleOf = 114 ∷ 111 ∷ 108 ∷ 101 ∷ []  -- role
+operatorName allOf = 97 ∷ 108 ∷ 108 ∷ []  -- all
+operatorName selecting = 115 ∷ 101 ∷ 108 ∷ 101 ∷ 99 ∷ 116 ∷ []  -- select
+
+-- the place of the first name in a list that is this one
+abbrev pub placeIn : List ℕ → List (List ℕ) → ℕ
+placeIn name [] = 0
+placeIn name (n ∷ ns) = cond (sameList name n) 0 (suc (placeIn name ns))
+
 unfoldable pub codeOf : Operator → ℕ
-codeOf (comparing le) = 0
-codeOf (comparing lt) = 1
-codeOf (comparing eq) = 2
-codeOf (comparing ne) = 3
-codeOf (comparing ge) = 4
-codeOf (comparing gt) = 5
-codeOf negating = 6
-codeOf (connecting and) = 7
-codeOf (connecting or) = 8
-codeOf (connecting xor) = 9
-codeOf (connecting implies) = 10
-codeOf (quantifying forall) = 11
-codeOf (quantifying exists) = 12
-codeOf kindOf = 13
-codeOf literal = 14
-codeOf cellOf = 15
-codeOf sizeOf = 16
-codeOf sumOf = 17
-codeOf (combining add) = 18
-codeOf (combining sub) = 19
-codeOf roleOf = 20
-codeOf allOf = 21
-codeOf selecting = 22
+unfolding operators operatorName
+codeOf o = placeIn (operatorName o) (map operatorName operators)
 
 -- What an operator makes, of parts of which sorts, and how many of a row's three fields it uses.
 pub record Shape : Type 0 where

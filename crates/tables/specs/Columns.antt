@@ -8,10 +8,12 @@ use lib.ListN.{getD}
 use Rattle.meaning.specs.Limits.{maxForms, cellCount}
 use Rattle.meaning.specs.Schema.{ObjectType, Relationship, Schema}
 use Rattle.meaning.specs.Register.{Object, Link, Register}
-use Rattle.meaning.specs.Forms.{Rule}
+use Rattle.meaning.specs.Forms.{Rule, Book}
 use Rattle.meaning.specs.Events.{Event, insert, delete, set, join, part, special, general, linkOf}
 use Rattle.rows.specs.Rows.{wordAt, readRows, signed}
+use Rattle.tables.specs.Layouts.{Sheet, typeTable, relationshipTable, ruleTable, objectTable, linkTable, eventTable}
 use Rattle.tables.specs.Bodies.{bodyRow, readBody}
+use Rattle.tables.specs.declared.Counts.{Counts}
 
 -- the word that stands for no parent
 abbrev pub noParent : ℕ
@@ -21,34 +23,35 @@ noParent = 2 ^ 32 - 1
 unfoldable pub typeRow : List ℕ → ℕ → ObjectType
 typeRow t i =
     record {
-      parent = cond (eqb (wordAt t 2 i 0) noParent) none (some (wordAt t 2 i 0));
-      cells = wordAt t 2 i 1;
+      parent = cond (eqb (wordAt t (typeTable .width) i 0) noParent) none (some (wordAt t (typeTable .width) i 0));
+      cells = wordAt t (typeTable .width) i 1;
     }
 
 -- relationships: source type, target type
 unfoldable pub relationshipRow : List ℕ → ℕ → Relationship
-relationshipRow t i = record { source = wordAt t 2 i 0; target = wordAt t 2 i 1 }
+relationshipRow t i =
+    record { source = wordAt t (relationshipTable .width) i 0; target = wordAt t (relationshipTable .width) i 1 }
 
 -- rules: context type, number of body rows. Rule n's body stands from row 64 n of the bodies on.
 unfoldable pub ruleRow : List ℕ → List ℕ → ℕ → Rule
 ruleRow rules bodies i =
     record {
-      context = wordAt rules 2 i 0;
-      body = readBody (λ j. bodyRow bodies (i * maxForms + j)) (wordAt rules 2 i 1);
+      context = wordAt rules (ruleTable .width) i 0;
+      body = readBody (λ j. bodyRow bodies (i * maxForms + j)) (wordAt rules (ruleTable .width) i 1);
     }
 
 -- objects: id, type, eight cells
 unfoldable pub objectRow : List ℕ → ℕ → Object
 objectRow t i =
     record {
-      id = wordAt t 10 i 0;
-      type = wordAt t 10 i 1;
-      cells = readRows (λ k. signed (wordAt t 10 i (2 + k))) cellCount;
+      id = wordAt t (objectTable .width) i 0;
+      type = wordAt t (objectTable .width) i 1;
+      cells = readRows (λ k. signed (wordAt t (objectTable .width) i (2 + k))) cellCount;
     }
 
 -- links: relationship, source id, target id
 unfoldable pub linkRow : List ℕ → ℕ → Link
-linkRow t i = linkOf (wordAt t 3 i 0) (wordAt t 3 i 1) (wordAt t 3 i 2)
+linkRow t i = linkOf (wordAt t (linkTable .width) i 0) (wordAt t (linkTable .width) i 1) (wordAt t (linkTable .width) i 2)
 
 -- An event that is no event of document 01: refusal 7 meets it, since no id is 0.
 abbrev pub noEvent : Event
@@ -69,7 +72,9 @@ eventOf kind x y z =
     kind noEvent
 
 unfoldable pub eventRow : List ℕ → ℕ → Event
-eventRow t i = eventOf (wordAt t 4 i 0) (wordAt t 4 i 1) (wordAt t 4 i 2) (wordAt t 4 i 3)
+eventRow t i =
+    let width = eventTable .width in
+    eventOf (wordAt t width i 0) (wordAt t width i 1) (wordAt t width i 2) (wordAt t width i 3)
 
 -- The types, the relationships, the schema, the rules, the register and the batch of tables with so many used rows.
 abbrev pub typesOf : ℕ → List ℕ → List ObjectType
@@ -91,3 +96,17 @@ registerOf objectCount objects linkCount links =
 
 abbrev pub eventsOf : ℕ → List ℕ → List Event
 eventsOf eventCount events = readRows (eventRow events) eventCount
+
+-- the book, the register and the batch of a sheet with so many used rows
+abbrev pub bookOf : Counts → Sheet → Book
+bookOf n s =
+    record {
+      schema = schemaOf (n .types) (s .types) (n .relationships) (s .relationships);
+      rules = rulesOf (n .rules) (s .rules) (s .bodies);
+    }
+
+abbrev pub registerIn : Counts → Sheet → Register
+registerIn n s = registerOf (n .objects) (s .objects) (n .links) (s .links)
+
+abbrev pub batchIn : Counts → Sheet → List Event
+batchIn n s = eventsOf (n .events) (s .events)

@@ -1,17 +1,16 @@
--- Refusals 2 and 6 of lent tables, and the answers of the checks as the code gives them.
-use Prim.Native.Nat.{ℕ, _*_, min}
-use mathlib.Core.Bool.{Bool, _||_, not, cond}
-use mathlib.Core.List.{List, [], _∷_}
+-- Refusals 2 and 6 of lent tables, and with them those of their contents; answers of the checks as the code gives them.
+use Prim.Native.Nat.{ℕ, min}
+use mathlib.Core.Bool.{Bool, false, _||_, not, cond}
+use mathlib.Core.List.{List}
 use mathlib.Core.Option.{Option, none, some}
 use lib.Dec.{ltb}
-use Rattle.meaning.specs.Lists.{any, firstOf}
-use Rattle.meaning.specs.Limits.{maxTypes, maxRelationships, maxRules, maxForms, maxObjects, maxLinks}
-use Rattle.meaning.specs.Register.{Register}
-use Rattle.meaning.specs.Forms.{Book}
-use Rattle.meaning.specs.Events.{Refusal}
-use Rattle.meaning.specs.Answers.{refusal}
-use Rattle.rows.specs.Rows.{wholeRows, rowsLent}
-use Rattle.tables.specs.Columns.{schemaOf, rulesOf, registerOf}
+use Rattle.meaning.specs.Lists.{any, firstOf, firstFault}
+use Rattle.meaning.specs.Limits.{maxForms}
+use Rattle.meaning.specs.Events.{Refusal, knownEvent}
+use Rattle.meaning.specs.Answers.{refusalAt, refusal}
+use Rattle.rows.specs.Rows.{wordAt, readRows, wholeRows, rowsLent}
+use Rattle.tables.specs.Layouts.{Sheet, Layout, ruleTable, bookTables, layouts}
+use Rattle.tables.specs.Columns.{bookOf, registerIn, batchIn}
 use Rattle.tables.specs.declared.Counts.{Counts}
 use Rattle.tables.specs.declared.Found.{Found}
 use Rattle.tables.specs.declared.Found.the-variants.{At, Nothing}
@@ -28,82 +27,42 @@ abbrev pub verdictOf : Option Refusal → Verdict
 verdictOf none = Clear
 verdictOf (some r) = Refused (r .number) (r .place)
 
--- one lent table: its words, the width of its rows, how many are used, and the limit on them
-pub record Table : Type 0 where
-  pub words : List ℕ
-  pub width : ℕ
-  pub used : ℕ
-  pub limit : ℕ
-
 -- 2: "a count above its limit or the lent rows"
-abbrev pub overfull : Table → Bool
-overfull t = ltb (min (t .limit) (rowsLent (t .words) (t .width))) (t .used)
+abbrev pub overfull : List ℕ → ℕ → ℕ → ℕ → Bool
+overfull words width used limit = ltb (min limit (rowsLent words width)) used
+
+abbrev pub anyOverfull : List Layout → Counts → Sheet → Bool
+anyOverfull tables n s = any (λ l. overfull (l .words s) (l .width) (l .used n) (l .limit)) tables
+
+-- 2 of a body: "at most 64 forms"
+abbrev pub longBody : List ℕ → ℕ → Bool
+longBody rules i = ltb maxForms (wordAt rules (ruleTable .width) i 1)
+
+abbrev pub anyLong : List ℕ → ℕ → Bool
+anyLong rules used = any (longBody rules) (readRows (λ i. i) used)
 
 -- 6: "not whole rows"
-abbrev pub broken : Table → Bool
-broken t = not (wholeRows (t .words) (t .width))
+abbrev pub notWhole : List Layout → Sheet → Bool
+notWhole tables s = any (λ l. not (wholeRows (l .words s) (l .width))) tables
 
 -- 2 before 6, both at place 0. 6 also: "scratch shorter than the register's tables".
-unfoldable pub tableRefusal : List Table → Bool → Option Refusal
-tableRefusal tables scratchShort =
-    cond (any overfull tables) (some (record { number = 2; place = 0 }))
-    (cond (any broken tables || scratchShort) (some (record { number = 6; place = 0 })) none)
+unfoldable pub tableRefusal : List Layout → Counts → Sheet → Bool → Option Refusal
+tableRefusal tables n s scratchShort =
+    cond (anyOverfull tables n s || anyLong (s .rules) (n .rules)) (some (record { number = 2; place = 0 }))
+    (cond (notWhole tables s || scratchShort) (some (record { number = 6; place = 0 })) none)
 
--- The lent tables of a book and a register, with the number of used rows of each.
-pub record Tables : Type 0 where
-  pub typeCount : ℕ
-  pub types : List ℕ
-  pub relationshipCount : ℕ
-  pub relationships : List ℕ
-  pub ruleCount : ℕ
-  pub rules : List ℕ
-  pub bodies : List ℕ
-  pub objectCount : ℕ
-  pub objects : List ℕ
-  pub linkCount : ℕ
-  pub links : List ℕ
+-- Refusals 2, 6, 3, 4 and 5, "checked from the top": 2 and 6 of these tables, the others of the book and the register.
+unfoldable pub refusalOf : List Layout → Counts → Sheet → Bool → Option Refusal
+refusalOf tables n s scratchShort = firstOf (tableRefusal tables n s scratchShort) (refusal (bookOf n s) (registerIn n s))
 
--- the tables of a call, with its counts
-abbrev pub lentTables : Counts → List ℕ → List ℕ → List ℕ → List ℕ → List ℕ → List ℕ → Tables
-lentTables n types relationships rules bodies objects links =
-    record {
-      typeCount = n .types;
-      types = types;
-      relationshipCount = n .relationships;
-      relationships = relationships;
-      ruleCount = n .rules;
-      rules = rules;
-      bodies = bodies;
-      objectCount = n .objects;
-      objects = objects;
-      linkCount = n .links;
-      links = links;
-    }
+-- those of a book and a register
+abbrev pub lentRefusal : Counts → Sheet → Bool → Option Refusal
+lentRefusal = refusalOf bookTables
 
-abbrev pub bookOf : Tables → Book
-bookOf t =
-    record {
-      schema = schemaOf (t .typeCount) (t .types) (t .relationshipCount) (t .relationships);
-      rules = rulesOf (t .ruleCount) (t .rules) (t .bodies);
-    }
+-- 7 of an event by itself: the first of a batch that is not known
+unfoldable pub eventFault : Counts → Sheet → Option ℕ
+eventFault n s = firstFault (λ k previous e. not (knownEvent ((bookOf n s) .schema) e)) (batchIn n s)
 
-abbrev pub registerIn : Tables → Register
-registerIn t = registerOf (t .objectCount) (t .objects) (t .linkCount) (t .links)
-
-abbrev table : List ℕ → ℕ → ℕ → ℕ → Table
-table words width used limit = record { words = words; width = width; used = used; limit = limit }
-
--- each with its width, its used rows and its limit; each rule has 64 body rows
-unfoldable pub tablesOf : Tables → List Table
-tablesOf t =
-    table (t .types) 2 (t .typeCount) maxTypes
-    ∷ table (t .relationships) 2 (t .relationshipCount) maxRelationships
-    ∷ table (t .rules) 2 (t .ruleCount) maxRules
-    ∷ table (t .bodies) 4 (t .ruleCount * maxForms) (maxRules * maxForms)
-    ∷ table (t .objects) 10 (t .objectCount) maxObjects
-    ∷ table (t .links) 3 (t .linkCount) maxLinks
-    ∷ []
-
--- Refusals 2, 6, 3, 4 and 5, "checked from the top".
-unfoldable pub lentRefusal : Tables → Bool → Option Refusal
-lentRefusal t scratchShort = firstOf (tableRefusal (tablesOf t) scratchShort) (refusal (bookOf t) (registerIn t))
+-- those of a book, a register and a batch: 2 to 6, and 7 of the events by themselves, which asks nothing of the register
+unfoldable pub sheetRefusal : Counts → Sheet → Option Refusal
+sheetRefusal n s = firstOf (refusalOf layouts n s false) (refusalAt 7 (eventFault n s))

@@ -46,13 +46,13 @@ pub const CHANGES: [u32; 150] = [
     4, // 4 0: two forms
     2,
     33,
-    65, // 4 16: over 64 rows
+    65, // 2 0: over 64 rows
     2,
     63,
     63, // clear: 63 rows are a form too
     2,
     63,
-    65, // 4 31
+    65, // 2 0
     3,
     0,
     23, // 4 0: no such operator

@@ -171,6 +171,7 @@ fn counts(types: u32, relationships: u32, rules: u32, objects: u32, links: u32) 
         rules,
         objects,
         links,
+        events: 0,
     }
 }
 

@@ -35,6 +35,7 @@ fn one_register(seed: u32, rules: &[u32], bodies: &[u32], rule_count: u32, t: &m
         rules: rule_count,
         objects: count,
         links: l.count,
+        events: 0,
     };
     compare::compare(
         n,

@@ -1,8 +1,9 @@
 // A text with one byte dropped, doubled or changed, for every byte of it.
-use crate::say;
-use crate::table::sum;
-use crate::trial;
-use crate::trial::byte;
+use crate::judge;
+use crate::lent::Numbers;
+use crate::lent::Words;
+use cases::line;
+use cases::say;
 
 // Puts what stands for a byte: nothing, the byte twice, or the byte whose lowest bit differs.
 fn put_instead(out: &mut [u8], at: usize, b: u8, how: u32) -> usize {
@@ -29,14 +30,12 @@ fn put_damaged(text: &[u8], at: usize, how: u32, out: &mut [u8]) -> usize {
     lexical::write_bytes(out, b, &text[next..])
 }
 
-// What is said of one damaged text. Answers how many words of the tables are wrong after it.
-fn one(text: &[u8], at: usize, how: u32) -> u32 {
-    let mut out = [0u8; 512];
-    let n = put_damaged(text, at, how, &mut out);
-    let s = trial::ask(trial::first(&out, n));
+// What is said of one damaged text.
+fn one(text: &[u8], at: usize, how: u32, n: &mut Numbers, all: &mut Words, out: &mut [u8]) {
+    let mut damaged = [0u8; 512];
+    let length = put_damaged(text, at, how, &mut damaged);
     say::words(b" ");
-    trial::show(s);
-    s.wrong
+    judge::show(judge::ask(line::first(&damaged, length), n, all, out));
 }
 
 // A byte as it is shown.
@@ -49,25 +48,21 @@ fn show_byte(b: u8) {
     say::words(&shown);
 }
 
-// The three answers about a byte.
-fn three(text: &[u8], at: usize) -> u32 {
+// A byte's place, itself, and what is said of the text where it is dropped, doubled, changed.
+fn three(text: &[u8], at: usize, n: &mut Numbers, all: &mut Words, out: &mut [u8]) {
     io::print_decimal(1, at as u64);
     say::words(b" ");
-    show_byte(byte(text, at));
-    let a = one(text, at, 0);
-    let b = one(text, at, 1);
-    let c = one(text, at, 2);
+    show_byte(line::byte(text, at));
+    one(text, at, 0, &mut *n, &mut *all, &mut *out);
+    one(text, at, 1, &mut *n, &mut *all, &mut *out);
+    one(text, at, 2, n, all, out);
     say::words(b"\n");
-    sum(a, sum(b, c))
 }
 
-// A line for each byte: its place, itself, and what is said of the text where it is dropped, doubled, changed.
-pub fn every_byte(text: &[u8]) {
-    let mut wrong: u32 = 0;
+pub fn every_byte(text: &[u8], n: &mut Numbers, all: &mut Words, out: &mut [u8]) {
     let mut at: usize = 0;
     while at < text.len() {
-        wrong = sum(wrong, three(text, at));
+        three(text, at, &mut *n, &mut *all, &mut *out);
         at += 1;
     }
-    say::named(b"words wrong", wrong);
 }

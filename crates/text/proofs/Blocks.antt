@@ -9,9 +9,10 @@ use lib.ListN.{length, getD, length-append}
 use borrow.Author.Tests.{le-ltb, le-leb, eq-eqb, ne-eqb}
 use Rattle.meaning.specs.Lists.{keep}
 use Rattle.rows.specs.Rows.{rowsFrom, readRows}
+use Rattle.tables.specs.Layouts.{limitOf}
 use Rattle.lexical.proofs.Runs.{both}
 use Rattle.text.specs.Entries.{Entry, sectionOf, entryWords, isOf, countOf, tableOf, lastSection}
-use Rattle.text.specs.Texts.{limitOf, tooLong, noRoom}
+use Rattle.text.specs.Texts.{tooLong, noRoom}
 use Rattle.text.proofs.Entries.{sayable}
 use Rattle.text.proofs.Texts.{fitFrom}
 

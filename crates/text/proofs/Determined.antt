@@ -9,19 +9,16 @@ use lib.ListN.{length, getD}
 use borrow.Author.Tests.{ltb-true, ltb-false, leb-true, eqb-true, le-leb, eq-eqb, ne-eqb}
 use Rattle.meaning.specs.Limits.{maxForms}
 use Rattle.lexical.proofs.Runs.{both}
+use Rattle.tables.specs.Layouts.{bodyWords, limitOf, widthOf}
 use Rattle.tables.proofs.Forms.{halves}
-use Rattle.text.specs.Names.{ruleName, objectName, linkName}
+use Rattle.text.specs.Names.{ruleName}
 use Rattle.text.specs.Tokens.{isWord}
 use Rattle.text.specs.Bodies.{Written, wellWritten, formsIn, padded, rowsOf}
-use Rattle.text.specs.Entries.{Entry, row, rule, eventSection, sectionOf, entryWords, countOf, tableOf, bodiesOf, lastSection}
-use Rattle.text.specs.Texts.{limitOf, tooLong, noRoom, taken, reading}
+use Rattle.text.specs.Entries.{Entry, row, rule, sectionOf, entryWords, countOf, tableOf, bodiesOf, lastSection}
+use Rattle.text.specs.Texts.{tooLong, noRoom, taken, reading}
 use Rattle.text.proofs.Bodies.{rows-length, rows-determine}
 use Rattle.text.proofs.Entries.{rowFits, sayable, padded-length, by-section}
 use Rattle.text.proofs.Texts.{fitFrom, write-after-read, one-text}
-
--- the width of a section's rows
-abbrev widthOf : ℕ → ℕ
-widthOf s = cond (eqb s objectName) 10 (cond (eqb s linkName) 3 (cond (eqb s eventSection) 4 2))
 
 -- what an entry's rows look like
 abbrev shaped : Entry → Bool
@@ -34,6 +31,7 @@ orderly s [] = true
 orderly s (e ∷ es) = leb s (sectionOf e) && (shaped e && orderly (sectionOf e) es)
 
 row-shaped : (before : List Entry) (s : ℕ) (words : List ℕ) → rowFits before s words ≡ true → shaped (row s words) ≡ true
+unfolding widthOf
 row-shaped before s words h =
     by-section before s words (λ s. shaped (row s words) ≡ true)
     (λ h. both (eqb (length words) 2) _ h .0)
@@ -100,7 +98,7 @@ first-section e f es fs s o counts = step (ltb (sectionOf e) (sectionOf f)) refl
     step false q = ltb-false (sectionOf e) (sectionOf f) q
 
 -- two bodies whose rows, padded, are the same, and that have as many forms
-body-same : (a b : Written) → (wellWritten a && leb (formsIn a) maxForms) ≡ true → (wellWritten b && leb (formsIn b) maxForms) ≡ true → formsIn a ≡ formsIn b → padded (4 * maxForms) (rowsOf a) ≡ padded (4 * maxForms) (rowsOf b) → a ≡ b
+body-same : (a b : Written) → (wellWritten a && leb (formsIn a) maxForms) ≡ true → (wellWritten b && leb (formsIn b) maxForms) ≡ true → formsIn a ≡ formsIn b → padded bodyWords (rowsOf a) ≡ padded bodyWords (rowsOf b) → a ≡ b
 body-same a b h g forms q =
     let wa = both (wellWritten a) _ h .0 in
     let wb = both (wellWritten b) _ g .0 in
@@ -167,8 +165,8 @@ entry-same (row s words) (rule t body) es fs h g q same = absurd (false≢true (
 entry-same (rule t body) (row s words) es fs h g q same = absurd (false≢true (ap not (sym (eq-eqb s ruleName (sym q))) ∙ both (not (eqb s ruleName)) _ g .0))
 entry-same (rule t body) (rule u other) es fs h g q same =
     let (contexts, forms) = rule-words (words-same {e = rule t body} {f = rule u other} refl refl same) in
-    let size : (b : Written) → (wellWritten b && leb (formsIn b) maxForms) ≡ true → length (padded (4 * maxForms) (rowsOf b)) ≡ 4 * maxForms = λ b h. padded-length (4 * maxForms) (rowsOf b) (omega (arith, rows-length b (both (wellWritten b) _ h .0), leb-true (formsIn b) maxForms (both (wellWritten b) _ h .1))) in
-    let (rows, rest) = halves (padded (4 * maxForms) (rowsOf body)) (bodiesOf es) (padded (4 * maxForms) (rowsOf other)) (bodiesOf fs) (size body h ∙ sym (size other g)) (same .bodies) in
+    let size : (b : Written) → (wellWritten b && leb (formsIn b) maxForms) ≡ true → length (padded bodyWords (rowsOf b)) ≡ bodyWords = λ b h. padded-length bodyWords (rowsOf b) (omega (arith, rows-length b (both (wellWritten b) _ h .0), leb-true (formsIn b) maxForms (both (wellWritten b) _ h .1))) in
+    let (rows, rest) = halves (padded bodyWords (rowsOf body)) (bodiesOf es) (padded bodyWords (rowsOf other)) (bodiesOf fs) (size body h ∙ sym (size other g)) (same .bodies) in
     (ap₂ (λ c b. rule c b) contexts (body-same body other h g forms rows), record { counts = counts-after {e = rule t body} {f = rule u other} refl refl same; tables = tables-after {e = rule t body} {f = rule u other} refl refl same; bodies = rest })
 
 none-in : (s : ℕ) → countOf s [] ≡ 0

@@ -6,5 +6,3 @@ pub mod Entries
 pub mod Texts
 pub mod Determined
 pub mod Blocks
-pub mod Sheets
-pub mod ReadBack

@@ -6,8 +6,9 @@ use mathlib.Core.Option.{Option, none, some, bind, Option·map}
 use lib.Dec.{ltb, leb, eqb}
 use lib.ListN.{length, getD, take, drop}
 use Rattle.meaning.specs.Lists.{every, keep}
-use Rattle.meaning.specs.Limits.{cellCount, maxForms}
+use Rattle.meaning.specs.Limits.{cellCount}
 use Rattle.rows.specs.Rows.{wordAt}
+use Rattle.tables.specs.Layouts.{bodyWords, typeTable}
 use Rattle.tables.specs.Columns.{noParent}
 use Rattle.text.specs.Names.{typeName, relationshipName, ruleName, objectName, linkName, firstEvent}
 use Rattle.text.specs.Tokens.{Token, begin, item, end, dash, isWord, Bracket, spellBracket, bracketIn}
@@ -48,11 +49,11 @@ tableOf s (e ∷ es) = cond (isOf s e) (entryWords e ++ tableOf s es) (tableOf s
 unfoldable pub bodiesOf : List Entry → List ℕ
 bodiesOf [] = []
 bodiesOf (row s words ∷ es) = bodiesOf es
-bodiesOf (rule t body ∷ es) = padded (4 * maxForms) (rowsOf body) ++ bodiesOf es
+bodiesOf (rule t body ∷ es) = padded bodyWords (rowsOf body) ++ bodiesOf es
 
 -- how many cells the text gives a type
 abbrev pub cellsIn : List Entry → ℕ → ℕ
-cellsIn before t = wordAt (tableOf typeName before) 2 t 1
+cellsIn before t = wordAt (tableOf typeName before) (typeTable .width) t 1
 
 -- the section of the last line
 unfoldable pub lastSection : ℕ → List Entry → ℕ

@@ -4,7 +4,7 @@
 --   Bodies   a body's forms as tokens and as rows
 --   Entries  a line as a row of a table
 --   Texts    a whole text, and refusals 1 and 2
---   Sheets   lent tables as the lines of a text, and the writer's refusals
+--   Sheets   lent tables as the lines of a text
 pub mod Names
 pub mod Tokens
 pub mod Bodies

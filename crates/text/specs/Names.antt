@@ -1,15 +1,18 @@
 -- The names of the text: sections in their order, events in document 01's order, then the operators by their codes.
 use Prim.Native.Nat.{ℕ, suc}
 use mathlib.Core.Bool.{Bool, _&&_, cond}
-use mathlib.Core.List.{List, [], _∷_}
+use mathlib.Core.List.{List, [], _∷_, map}
 use mathlib.Core.Option.{Option, none, some}
 use lib.Dec.{leb}
 use lib.ListN.{getD}
 use Rattle.meaning.specs.Lists.{sameList}
+use Rattle.tables.specs.Layouts.{typeTable, relationshipTable, ruleTable, objectTable, linkTable, eventTable}
+use Rattle.tables.specs.Codes.{operators, operatorName}
 use Rattle.lexical.specs.Runs.{run}
 
 -- each name as its bytes
 unfoldable pub names : List (List ℕ)
+unfolding operators operatorName
 names =
     (116 ∷ 121 ∷ 112 ∷ 101 ∷ [])  -- type
     ∷ (114 ∷ 101 ∷ 108 ∷ [])  -- rel
@@ -23,49 +26,26 @@ names =
     ∷ (112 ∷ 97 ∷ 114 ∷ 116 ∷ [])  -- part
     ∷ (115 ∷ 112 ∷ 101 ∷ 99 ∷ 105 ∷ 97 ∷ 108 ∷ [])  -- special
     ∷ (103 ∷ 101 ∷ 110 ∷ 101 ∷ 114 ∷ 97 ∷ 108 ∷ [])  -- general
-    ∷ (108 ∷ 101 ∷ [])  -- le
-    ∷ (108 ∷ 116 ∷ [])  -- lt
-    ∷ (101 ∷ 113 ∷ [])  -- eq
-    ∷ (110 ∷ 101 ∷ [])  -- ne
-    ∷ (103 ∷ 101 ∷ [])  -- ge
-    ∷ (103 ∷ 116 ∷ [])  -- gt
-    ∷ (110 ∷ 111 ∷ 116 ∷ [])  -- not
-    ∷ (97 ∷ 110 ∷ 100 ∷ [])  -- and
-    ∷ (111 ∷ 114 ∷ [])  -- or
-    ∷ (120 ∷ 111 ∷ 114 ∷ [])  -- xor
-    ∷ (105 ∷ 109 ∷ 112 ∷ 108 ∷ 105 ∷ 101 ∷ 115 ∷ [])  -- implies
-    ∷ (102 ∷ 111 ∷ 114 ∷ 97 ∷ 108 ∷ 108 ∷ [])  -- forall
-    ∷ (101 ∷ 120 ∷ 105 ∷ 115 ∷ 116 ∷ 115 ∷ [])  -- exists
-    ∷ (107 ∷ 105 ∷ 110 ∷ 100 ∷ [])  -- kind
-    ∷ (110 ∷ 117 ∷ 109 ∷ [])  -- num
-    ∷ (99 ∷ 101 ∷ 108 ∷ 108 ∷ [])  -- cell
-    ∷ (115 ∷ 105 ∷ 122 ∷ 101 ∷ [])  -- size
-    ∷ (115 ∷ 117 ∷ 109 ∷ [])  -- sum
-    ∷ (97 ∷ 100 ∷ 100 ∷ [])  -- add
-    ∷ (115 ∷ 117 ∷ 98 ∷ [])  -- sub
-    ∷ (114 ∷ 111 ∷ 108 ∷ 101 ∷ [])  -- role
-    ∷ (97 ∷ 108 ∷ 108 ∷ [])  -- all
-    ∷ (115 ∷ 101 ∷ 108 ∷ 101 ∷ 99 ∷ 116 ∷ [])  -- select
-    ∷ []
+    ∷ map operatorName operators
 
--- where the sections' names start, the events' and the operators'
+-- the places of the sections' names, which are their numbers, and where the events' and the operators' names start
 abbrev pub typeName : ℕ
-typeName = 0
+typeName = typeTable .section
 
 abbrev pub relationshipName : ℕ
-relationshipName = 1
+relationshipName = relationshipTable .section
 
 abbrev pub ruleName : ℕ
-ruleName = 2
+ruleName = ruleTable .section
 
 abbrev pub objectName : ℕ
-objectName = 3
+objectName = objectTable .section
 
 abbrev pub linkName : ℕ
-linkName = 4
+linkName = linkTable .section
 
 abbrev pub firstEvent : ℕ
-firstEvent = 5
+firstEvent = eventTable .section
 
 abbrev pub firstOperator : ℕ
 firstOperator = 12

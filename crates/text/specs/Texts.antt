@@ -5,7 +5,8 @@ use mathlib.Core.List.{List, [], _∷_, _++_}
 use mathlib.Core.Option.{Option, none, some}
 use lib.Dec.{ltb}
 use lib.ListN.{length, getD, drop, replicate}
-use Rattle.meaning.specs.Limits.{maxTypes, maxRelationships, maxRules, maxForms, maxObjects, maxLinks, maxEvents}
+use Rattle.meaning.specs.Limits.{maxForms}
+use Rattle.tables.specs.Layouts.{limitOf}
 use Rattle.lexical.specs.Lines.{lineIn, lineEnded}
 use Rattle.text.specs.Bodies.{formsIn}
 use Rattle.text.specs.Entries.{Entry, row, rule, sectionOf, countOf, spellEntry, entryIn}
@@ -26,11 +27,7 @@ spelled es = spellFrom [] es
 
 -- ---- the reading
 
--- the limit on each section's rows
-unfoldable pub limitOf : ℕ → ℕ
-limitOf section = getD (maxTypes ∷ maxRelationships ∷ maxRules ∷ maxObjects ∷ maxLinks ∷ maxEvents ∷ []) section 0
-
--- 2: "a count above its limit or the lent rows", and a body of more than 64 forms; `lent` has the rows lent for each section
+-- 2: "a count above its limit or the lent rows", and a body of more than 64 forms; `lent` has the lines of each section for which there are rows
 unfoldable pub tooLong : Entry → Bool
 tooLong (row s words) = false
 tooLong (rule t body) = ltb maxForms (formsIn body)

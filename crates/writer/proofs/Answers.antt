@@ -10,9 +10,8 @@ use lib.ListN.{length, take, drop}
 use lib.Seq.{take-at}
 use Rattle.lexical.specs.Writing.{written}
 use Rattle.lexical.proofs.Writing.{fits-place, over-place, text-is}
-use Rattle.text.specs.Sheets.{textRefusal, bytesAfter}
 use Rattle.writer.specs.Put.{Put}
-use Rattle.writer.specs.Answers.{Answered}
+use Rattle.writer.specs.Answers.{Answered, textRefusal, bytesAfter}
 use Rattle.writer.specs.declared.Written.the-variants.{Done, Refused}
 
 -- text put from the start of a buffer of 65,536 bytes

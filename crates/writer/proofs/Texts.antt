@@ -1,23 +1,24 @@
 -- The lines of all sections are the text of the tables' entries.
 use Prim.Native.Nat.{ℕ, zero, suc, _+_, _*_, _≤_, _<_}
 use mathlib.Core.Path.{_≡_, refl, sym, ap, ap₂, _∙_}
-use mathlib.Core.Bool.{Bool, true, false, cond}
+use mathlib.Core.Bool.{false}
 use mathlib.Core.List.{List, [], _∷_, _++_, append-assoc, append-nil}
 use native.Mathlib.Nat.{add-zero, zero-add, suc-add, add-suc}
 use native.Mathlib.Omega.{arith}
-use lib.ListN.{length, getD, take, drop, length-append}
+use lib.Dec.{eqb}
+use lib.ListN.{length, getD, take, drop}
 use lib.Seq.{drop-cons, take-take}
 use Rattle.meaning.specs.Limits.{cellCount}
-use Rattle.meaning.specs.Lists.{keep}
 use Rattle.rows.specs.Rows.{wordAt, rowsFrom, readRows}
-use Rattle.tables.specs.Refusals.{lentTables}
+use Rattle.tables.specs.Layouts.{Sheet, typeTable, relationshipTable, objectTable, linkTable, eventTable}
 use Rattle.tables.specs.declared.Counts.{Counts}
 use Rattle.text.specs.Names.{typeName, relationshipName, ruleName, objectName, linkName}
-use Rattle.text.specs.Entries.{Entry, row, eventSection, sectionOf, entryWords, isOf, countOf, tableOf, cellsIn, parentItem, eventFields, itemsOf, nameFor, bracketOf, spellEntry}
+use Rattle.text.specs.Entries.{Entry, row, sectionOf, entryWords, countOf, tableOf, cellsIn, parentItem, eventFields, itemsOf, nameFor, bracketOf, spellEntry}
 use Rattle.text.specs.Texts.{spellFrom, spelled}
-use Rattle.text.specs.Sheets.{wordsAt, ruleEntry, entriesOf}
-use Rattle.writer.specs.Lines.{rowLine, typeLine, relationshipLine, ruleLine, cellsFor, objectLine, linkLine, eventLine, lineOf, rowsIn, linesOf, sectionText, textOf}
-use Rattle.writer.specs.Sound.{Sound}
+use Rattle.text.specs.Sheets.{wordsAt, rowEntry, ruleEntry, entriesOf, textOf}
+use Rattle.text.proofs.Blocks.{count-append, table-append, count-block, table-other}
+use Rattle.checks.specs.Given.{Given, EventsLent, EventsKnown}
+use Rattle.writer.specs.Lines.{rowLine, typeLine, relationshipLine, ruleLine, cellsFor, objectLine, linkLine, eventLine, lineOf, rowsIn, linesOf, sectionText, sheetText}
 use Rattle.writer.proofs.Spellings.{few-fields}
 
 -- ---- the text of entries after entries
@@ -43,46 +44,6 @@ module _ (before : List Entry) (read : ℕ → Entry) (line : ℕ → List ℕ) 
       ∙ spell-both before (readRows read n) (read n ∷ [])
       ∙ ap₂ (λ s t. s ++ t) (spell-rows n (λ i k. h i (omega arith))) (h n (omega arith))
 
--- ---- how many rows of a section stand before a line
-
-module _ (s : ℕ) where
-  count-both : (es fs : List Entry) → countOf s (es ++ fs) ≡ countOf s es + countOf s fs
-  unfolding countOf
-  count-both es fs = ap length (keep-both es) ∙ length-append (keep (isOf s) es) (keep (isOf s) fs)
-    where
-      keep-both : (es : List Entry) → keep (isOf s) (es ++ fs) ≡ keep (isOf s) es ++ keep (isOf s) fs
-      keep-both [] = refl
-      keep-both (e ∷ es) = ap (λ l. cond (isOf s e) (e ∷ l) l) (keep-both es) ∙ go (isOf s e)
-        where
-          go : (b : Bool) → cond b (e ∷ (keep (isOf s) es ++ keep (isOf s) fs)) (keep (isOf s) es ++ keep (isOf s) fs) ≡ cond b (e ∷ keep (isOf s) es) (keep (isOf s) es) ++ keep (isOf s) fs
-          go true = refl
-          go false = refl
-
-  module _ (read : ℕ → Entry) where
-    count-same : ((i : ℕ) → isOf s (read i) ≡ true) → (j n : ℕ) → countOf s (rowsFrom read j n) ≡ n
-    unfolding countOf
-    count-same h j zero = refl
-    count-same h j (suc n) = rw (h j) (ap suc (count-same h (suc j) n))
-
-    count-other : ((i : ℕ) → isOf s (read i) ≡ false) → (j n : ℕ) → countOf s (rowsFrom read j n) ≡ 0
-    unfolding countOf
-    count-other h j zero = refl
-    count-other h j (suc n) = rw (h j) (count-other h (suc j) n)
-
-    table-other : ((i : ℕ) → isOf s (read i) ≡ false) → (j n : ℕ) → tableOf s (rowsFrom read j n) ≡ []
-    unfolding tableOf
-    table-other h j zero = refl
-    table-other h j (suc n) = rw (h j) (table-other h (suc j) n)
-
-  table-both : (es fs : List Entry) → tableOf s (es ++ fs) ≡ tableOf s es ++ tableOf s fs
-  unfolding tableOf
-  table-both [] fs = refl
-  table-both (e ∷ es) fs = ap (λ l. cond (isOf s e) (entryWords e ++ l) l) (table-both es fs) ∙ go (isOf s e)
-    where
-      go : (b : Bool) → cond b (entryWords e ++ (tableOf s es ++ tableOf s fs)) (tableOf s es ++ tableOf s fs) ≡ cond b (entryWords e ++ tableOf s es) (tableOf s es) ++ tableOf s fs
-      go true = sym (append-assoc (entryWords e) (tableOf s es) (tableOf s fs))
-      go false = refl
-
 -- ---- the words of a row that is lent
 
 words-from : (t : List ℕ) (base j n : ℕ) → base + j + n ≤ length t → rowsFrom (λ k. getD t (base + k) 0) j n ≡ take n (drop (base + j) t)
@@ -107,24 +68,24 @@ cells-from types j (suc n) (suc t) h =
 
 -- ---- the line of each row, after the lines before it
 
-module _ (n : Counts) (used : ℕ) (types relationships rules bodies objects links events : List ℕ) (sound : Sound n used types relationships rules bodies objects links events) where
+module _ (n : Counts) (s : Sheet) (sound : Given n s × EventsLent n s × EventsKnown n s) where
   abbrev typeEntry : ℕ → Entry
-  typeEntry i = row typeName (wordsAt types 2 i)
+  typeEntry = rowEntry typeTable (s .types)
 
   abbrev relationshipEntry : ℕ → Entry
-  relationshipEntry i = row relationshipName (wordsAt relationships 2 i)
+  relationshipEntry = rowEntry relationshipTable (s .relationships)
 
   abbrev bodyEntry : ℕ → Entry
-  bodyEntry i = ruleEntry rules bodies i
+  bodyEntry = ruleEntry (s .rules) (s .bodies)
 
   abbrev objectEntry : ℕ → Entry
-  objectEntry i = row objectName (wordsAt objects 10 i)
+  objectEntry = rowEntry objectTable (s .objects)
 
   abbrev linkEntry : ℕ → Entry
-  linkEntry i = row linkName (wordsAt links 3 i)
+  linkEntry = rowEntry linkTable (s .links)
 
   abbrev eventEntry : ℕ → Entry
-  eventEntry i = row eventSection (wordsAt events 4 i)
+  eventEntry = rowEntry eventTable (s .events)
 
   abbrev one : List Entry
   one = readRows typeEntry (n .types)
@@ -144,80 +105,91 @@ module _ (n : Counts) (used : ℕ) (types relationships rules bodies objects lin
   -- the position of a row among those of its section
   type-count : (i : ℕ) → countOf typeName (readRows typeEntry i) ≡ i
   unfolding sectionOf
-  type-count i = count-same typeName typeEntry (λ k. refl) 0 i
+  type-count i = count-block typeName typeEntry (λ k. refl) typeName 0 i
 
   relationship-count : (i : ℕ) → countOf relationshipName (one ++ readRows relationshipEntry i) ≡ i
   unfolding sectionOf
   relationship-count i =
-      count-both relationshipName one (readRows relationshipEntry i)
-      ∙ ap₂ (λ a b. a + b) (count-other relationshipName typeEntry (λ k. refl) 0 (n .types)) (count-same relationshipName relationshipEntry (λ k. refl) 0 i)
+      count-append relationshipName one (readRows relationshipEntry i)
+      ∙ ap₂ (λ a b. a + b)
+      (count-block typeName typeEntry (λ k. refl) relationshipName 0 (n .types))
+      (count-block relationshipName relationshipEntry (λ k. refl) relationshipName 0 i)
       ∙ zero-add i
 
   rule-count : (i : ℕ) → countOf ruleName (two ++ readRows bodyEntry i) ≡ i
   unfolding sectionOf
   rule-count i =
-      let a = count-other ruleName typeEntry (λ k. refl) 0 (n .types) in
-      let b = count-other ruleName relationshipEntry (λ k. refl) 0 (n .relationships) in
-      let c = count-same ruleName bodyEntry (λ k. refl) 0 i in
-      let d = count-both ruleName one (readRows relationshipEntry (n .relationships)) in
-      let e = count-both ruleName two (readRows bodyEntry i) in
+      let a = count-block typeName typeEntry (λ k. refl) ruleName 0 (n .types) in
+      let b = count-block relationshipName relationshipEntry (λ k. refl) ruleName 0 (n .relationships) in
+      let c = count-block ruleName bodyEntry (λ k. refl) ruleName 0 i in
+      let d = count-append ruleName one (readRows relationshipEntry (n .relationships)) in
+      let e = count-append ruleName two (readRows bodyEntry i) in
       omega arith
 
-  object-cells : (i t : ℕ) → t < n .types → cellsIn (three ++ readRows objectEntry i) t ≡ wordAt types 2 t 1
+  -- lines of another section add nothing to the types' table
+  types-only : (before : List Entry) (q : ℕ) (read : ℕ → Entry) → ((i : ℕ) → sectionOf (read i) ≡ q) → eqb q typeName ≡ false → (m : ℕ)
+      → tableOf typeName (before ++ readRows read m) ≡ tableOf typeName before
+  types-only before q read of other m =
+      table-append typeName before (readRows read m)
+      ∙ ap (λ y. tableOf typeName before ++ y) (table-other q read of typeName 0 m other)
+      ∙ append-nil (tableOf typeName before)
+
+  object-cells : (i t : ℕ) → t < n .types → cellsIn (three ++ readRows objectEntry i) t ≡ wordAt (s .types) 2 t 1
   unfolding sectionOf
   object-cells i t h =
-      let a = table-both typeName three (readRows objectEntry i) in
-      let b = table-both typeName two (readRows bodyEntry (n .rules)) in
-      let c = table-both typeName one (readRows relationshipEntry (n .relationships)) in
-      let o = table-other typeName objectEntry (λ k. refl) 0 i in
-      let u = table-other typeName bodyEntry (λ k. refl) 0 (n .rules) in
-      let r = table-other typeName relationshipEntry (λ k. refl) 0 (n .relationships) in
       let all : tableOf typeName (three ++ readRows objectEntry i) ≡ tableOf typeName one =
-      a ∙ ap₂ (λ x y. x ++ y) (b ∙ ap₂ (λ x y. x ++ y) (c ∙ ap (λ y. tableOf typeName one ++ y) r ∙ append-nil (tableOf typeName one)) u ∙ append-nil (tableOf typeName one)) o ∙ append-nil (tableOf typeName one) in
-      ap (λ l. wordAt l 2 t 1) all ∙ cells-from types 0 (n .types) t h ∙ ap (λ k. wordAt types 2 k 1) (zero-add t)
+      types-only three objectName objectEntry (λ k. refl) refl i
+      ∙ types-only two ruleName bodyEntry (λ k. refl) refl (n .rules)
+      ∙ types-only one relationshipName relationshipEntry (λ k. refl) refl (n .relationships) in
+      ap (λ l. wordAt l 2 t 1) all ∙ cells-from (s .types) 0 (n .types) t h ∙ ap (λ k. wordAt (s .types) 2 k 1) (zero-add t)
 
   -- the lines
-  type-line : (i : ℕ) → spellEntry (readRows typeEntry i) (typeEntry i) ++ 10 ∷ [] ≡ typeLine types i
+  type-line : (i : ℕ) → spellEntry (readRows typeEntry i) (typeEntry i) ++ 10 ∷ [] ≡ typeLine (s .types) i
   unfolding spellEntry bracketOf itemsOf nameFor typeLine rowLine
-  type-line i = ap (λ k. rowLine typeName (k ∷ parentItem (wordAt types 2 i 0) ∷ wordAt types 2 i 1 ∷ [])) (type-count i)
+  type-line i = ap (λ k. rowLine typeName (k ∷ parentItem (wordAt (s .types) 2 i 0) ∷ wordAt (s .types) 2 i 1 ∷ [])) (type-count i)
 
-  relationship-line : (i : ℕ) → spellEntry (one ++ readRows relationshipEntry i) (relationshipEntry i) ++ 10 ∷ [] ≡ relationshipLine relationships i
+  relationship-line : (i : ℕ)
+      → spellEntry (one ++ readRows relationshipEntry i) (relationshipEntry i) ++ 10 ∷ [] ≡ relationshipLine (s .relationships) i
   unfolding spellEntry bracketOf itemsOf nameFor relationshipLine rowLine
-  relationship-line i = ap (λ k. rowLine relationshipName (k ∷ wordAt relationships 2 i 0 ∷ wordAt relationships 2 i 1 ∷ [])) (relationship-count i)
+  relationship-line i =
+      ap (λ k. rowLine relationshipName (k ∷ wordAt (s .relationships) 2 i 0 ∷ wordAt (s .relationships) 2 i 1 ∷ [])) (relationship-count i)
 
-  rule-line : (i : ℕ) → spellEntry (two ++ readRows bodyEntry i) (bodyEntry i) ++ 10 ∷ [] ≡ ruleLine rules bodies i
+  rule-line : (i : ℕ) → spellEntry (two ++ readRows bodyEntry i) (bodyEntry i) ++ 10 ∷ [] ≡ ruleLine (s .rules) (s .bodies) i
   unfolding spellEntry bracketOf ruleLine
   rule-line i = rw (rule-count i)
 
-  object-line : (i : ℕ) → i < n .objects → spellEntry (three ++ readRows objectEntry i) (objectEntry i) ++ 10 ∷ [] ≡ objectLine types objects i
+  object-line : (i : ℕ) → i < n .objects
+      → spellEntry (three ++ readRows objectEntry i) (objectEntry i) ++ 10 ∷ [] ≡ objectLine (s .types) (s .objects) i
   unfolding spellEntry bracketOf itemsOf nameFor objectLine rowLine
   object-line i h =
-      let c = cellsFor types objects i in
-      let few : c ≤ cellCount = sound .cells i h in
-      let lent : i * 10 + 10 ≤ length objects = omega (arith, sound .objects-lent) in
-      ap (λ k. rowLine objectName (take (2 + k) (wordsAt objects 10 i))) (object-cells i (wordAt objects 10 i 1) (sound .known i h))
+      let objects = s .objects in
+      let c = cellsFor (s .types) objects i in
+      let few : c ≤ cellCount = sound .0 .cells i h in
+      let lent : i * 10 + 10 ≤ length objects = omega (arith, sound .0 .objects-lent) in
+      ap (λ k. rowLine objectName (take (2 + k) (wordsAt objects 10 i))) (object-cells i (wordAt objects 10 i 1) (sound .0 .typed i h))
       ∙ ap (rowLine objectName) (ap (take (2 + c)) (words-lent objects 10 i lent) ∙ take-take (2 + c) 10 (drop (i * 10) objects) (omega arith))
 
-  link-line : (i : ℕ) → i < n .links → spellEntry (four ++ readRows linkEntry i) (linkEntry i) ++ 10 ∷ [] ≡ linkLine links i
+  link-line : (i : ℕ) → i < n .links → spellEntry (four ++ readRows linkEntry i) (linkEntry i) ++ 10 ∷ [] ≡ linkLine (s .links) i
   unfolding spellEntry bracketOf itemsOf nameFor linkLine rowLine
-  link-line i h = ap (rowLine linkName) (words-lent links 3 i (omega (arith, sound .links-lent)))
+  link-line i h = ap (rowLine linkName) (words-lent (s .links) 3 i (omega (arith, sound .0 .links-lent)))
 
-  event-line : (i : ℕ) → i < used → spellEntry (five ++ readRows eventEntry i) (eventEntry i) ++ 10 ∷ [] ≡ eventLine events i
+  event-line : (i : ℕ) → i < n .events → spellEntry (five ++ readRows eventEntry i) (eventEntry i) ++ 10 ∷ [] ≡ eventLine (s .events) i
   unfolding spellEntry bracketOf itemsOf nameFor eventLine rowLine
   event-line i h =
+      let events = s .events in
       let kind = wordAt events 4 i 0 in
       let f = eventFields kind in
       let few : f ≤ 3 = few-fields kind in
-      let lent : i * 4 + 4 ≤ length events = omega (arith, sound .events-lent) in
+      let lent : i * 4 + 4 ≤ length events = omega (arith, sound .1 .events-lent) in
       let rest : drop 1 (wordsAt events 4 i) ≡ take 3 (drop (i * 4 + 1) events) = words-from events (i * 4) 1 3 (omega arith) in
       ap (rowLine (5 + kind)) (ap (take f) rest ∙ take-take f 3 (drop (i * 4 + 1) events) few)
 
   -- section after section
-  pub text-spelled : textOf n used types relationships rules bodies objects links events ≡ spelled (entriesOf (lentTables n types relationships rules bodies objects links) used events)
-  unfolding textOf sectionText linesOf spelled entriesOf lineOf rowsIn
+  pub text-spelled : sheetText n s ≡ textOf n s
+  unfolding textOf sheetText sectionText linesOf spelled entriesOf lineOf rowsIn
   text-spelled =
       sym
-      (spell-both [] five (readRows eventEntry used)
+      (spell-both [] five (readRows eventEntry (n .events))
       ∙ ap₂ (λ s t. s ++ t)
       (spell-both [] four (readRows linkEntry (n .links))
       ∙ ap₂ (λ s t. s ++ t)
@@ -227,12 +199,9 @@ module _ (n : Counts) (used : ℕ) (types relationships rules bodies objects lin
       ∙ ap₂ (λ s t. s ++ t)
       (spell-both [] one (readRows relationshipEntry (n .relationships))
       ∙ ap₂ (λ s t. s ++ t)
-      (spell-rows [] typeEntry (lines 0) (n .types) (λ i h. type-line i))
-      (spell-rows one relationshipEntry (lines 1) (n .relationships) (λ i h. relationship-line i)))
-      (spell-rows two bodyEntry (lines 2) (n .rules) (λ i h. rule-line i)))
-      (spell-rows three objectEntry (lines 3) (n .objects) object-line))
-      (spell-rows four linkEntry (lines 4) (n .links) link-line))
-      (spell-rows five eventEntry (lines 5) used event-line))
-    where
-      lines : ℕ → ℕ → List ℕ
-      lines s = lineOf types relationships rules bodies objects links events s
+      (spell-rows [] typeEntry (lineOf s 0) (n .types) (λ i h. type-line i))
+      (spell-rows one relationshipEntry (lineOf s 1) (n .relationships) (λ i h. relationship-line i)))
+      (spell-rows two bodyEntry (lineOf s 2) (n .rules) (λ i h. rule-line i)))
+      (spell-rows three objectEntry (lineOf s 3) (n .objects) object-line))
+      (spell-rows four linkEntry (lineOf s 4) (n .links) link-line))
+      (spell-rows five eventEntry (lineOf s 5) (n .events) event-line))

@@ -1,13 +1,17 @@
 -- The lines of lent tables by row numbers: what the writer puts for each row, and for all rows of each section in order.
-use Prim.Native.Nat.{ℕ, zero, suc, _+_, _*_}
+use Prim.Native.Nat.{ℕ, zero, suc, _+_, _*_, _≤_, _<_}
+use mathlib.Core.Path.{_≡_}
 use mathlib.Core.Bool.{cond}
 use mathlib.Core.List.{List, [], _∷_, _++_, map}
-use lib.Dec.{eqb}
-use lib.ListN.{take, drop}
+use lib.Dec.{T, eqb}
+use lib.ListN.{length, getD, take, drop}
+use Rattle.meaning.specs.Limits.{cellCount}
 use Rattle.rows.specs.Rows.{wordAt}
+use Rattle.tables.specs.Layouts.{Sheet, sectionCount}
 use Rattle.tables.specs.Columns.{ruleRow}
-use Rattle.tables.specs.Bodies.{BodyRow, Part, part, ending}
+use Rattle.tables.specs.Bodies.{BodyRow, Part, part, ending, wholeBody}
 use Rattle.tables.specs.declared.Counts.{Counts}
+use Rattle.book.specs.Marks.{bodyOf}
 use Rattle.text.specs.Names.{typeName, relationshipName, ruleName, objectName, linkName, firstEvent}
 use Rattle.text.specs.Tokens.{item, end, spellTokens, spellBracket}
 use Rattle.text.specs.Bodies.{Written, closing, tokensOf, writtenOf}
@@ -65,22 +69,18 @@ eventLine events i =
 
 -- ---- the lines of a section, by its number
 
-unfoldable pub lineOf : List ℕ → List ℕ → List ℕ → List ℕ → List ℕ → List ℕ → List ℕ → ℕ → ℕ → List ℕ
-lineOf types relationships rules bodies objects links events s i =
-    cond (eqb s typeName) (typeLine types i)
-    (cond (eqb s relationshipName) (relationshipLine relationships i)
-    (cond (eqb s ruleName) (ruleLine rules bodies i)
-    (cond (eqb s objectName) (objectLine types objects i)
-    (cond (eqb s linkName) (linkLine links i) (eventLine events i)))))
+unfoldable pub lineOf : Sheet → ℕ → ℕ → List ℕ
+lineOf s section i =
+    cond (eqb section typeName) (typeLine (s .types) i)
+    (cond (eqb section relationshipName) (relationshipLine (s .relationships) i)
+    (cond (eqb section ruleName) (ruleLine (s .rules) (s .bodies) i)
+    (cond (eqb section objectName) (objectLine (s .types) (s .objects) i)
+    (cond (eqb section linkName) (linkLine (s .links) i) (eventLine (s .events) i)))))
 
 -- how many rows of a section are used
-unfoldable pub rowsIn : Counts → ℕ → ℕ → ℕ
-rowsIn n used s =
-    cond (eqb s typeName) (n .types)
-    (cond (eqb s relationshipName) (n .relationships)
-    (cond (eqb s ruleName) (n .rules)
-    (cond (eqb s objectName) (n .objects)
-    (cond (eqb s linkName) (n .links) used))))
+unfoldable pub rowsIn : Counts → ℕ → ℕ
+rowsIn n section =
+    getD (n .types ∷ n .relationships ∷ n .rules ∷ n .objects ∷ n .links ∷ n .events ∷ []) section 0
 
 -- what stands for 0 to k - 1, one after the other
 unfoldable pub linesOf : (ℕ → List ℕ) → ℕ → List ℕ
@@ -88,11 +88,19 @@ linesOf line zero = []
 linesOf line (suc k) = linesOf line k ++ line k
 
 -- all used rows of a section
-unfoldable pub sectionText : Counts → ℕ → List ℕ → List ℕ → List ℕ → List ℕ → List ℕ → List ℕ → List ℕ → ℕ → List ℕ
-sectionText n used types relationships rules bodies objects links events s =
-    linesOf (lineOf types relationships rules bodies objects links events s) (rowsIn n used s)
+unfoldable pub sectionText : Counts → Sheet → ℕ → List ℕ
+sectionText n s section = linesOf (lineOf s section) (rowsIn n section)
 
 -- the sections in order
-unfoldable pub textOf : Counts → ℕ → List ℕ → List ℕ → List ℕ → List ℕ → List ℕ → List ℕ → List ℕ → List ℕ
-textOf n used types relationships rules bodies objects links events =
-    linesOf (sectionText n used types relationships rules bodies objects links events) 6
+unfoldable pub sheetText : Counts → Sheet → List ℕ
+sheetText n s = linesOf (sectionText n s) sectionCount
+
+-- what the line of a row needs, by its section
+pub record Fit (s : Sheet) (section i : ℕ) : Type 0 where
+  pub there : section < sectionCount
+  pub whole : section ≡ ruleName → T (wholeBody (bodyOf (s .bodies) i) (wordAt (s .rules) 2 i 1))
+  pub cells : section ≡ objectName → cellsFor (s .types) (s .objects) i ≤ cellCount
+  pub object-lent : section ≡ objectName → i * 10 + 10 ≤ length (s .objects)
+  pub link-lent : section ≡ linkName → i * 3 + 3 ≤ length (s .links)
+  pub kind : section ≡ firstEvent → wordAt (s .events) 4 i 0 < 7
+  pub event-lent : section ≡ firstEvent → i * 4 + 4 ≤ length (s .events)

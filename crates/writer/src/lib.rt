@@ -3,24 +3,19 @@ use tables::Counts;
 use tables::Found;
 use tables::Verdict;
 
-mod batch;
 mod lines;
 mod pieces;
 
 ghost use mathlib.Core.Path.{_≡_};
-ghost use mathlib.Core.Bool.{false};
 ghost use mathlib.Core.List.{List};
 ghost use Prim.Native.Nat.{ℕ, _+_, _<_, _≤_};
 ghost use lib.ListN.{length};
-ghost use Rattle.meaning.specs.Lists.{firstOf};
-ghost use Rattle.meaning.specs.Answers.{refusalAt};
-ghost use Rattle.tables.specs.Refusals.{verdictOf, lentTables, bookOf, lentRefusal};
-ghost use Rattle.text.specs.Texts.{spelled};
-ghost use Rattle.text.specs.Sheets.{entriesOf, sheetRefusal, textRefusal, writerRefusal, bytesAfter};
+ghost use Rattle.tables.specs.Layouts.{sheetOf, sectionCount};
+ghost use Rattle.tables.specs.Refusals.{verdictOf, sheetRefusal};
+ghost use Rattle.checks.specs.Given.{Given, EventsLent, EventsKnown};
 ghost use Rattle.writer.specs.Put.{Put};
-ghost use Rattle.writer.specs.Lines.{lineOf, rowsIn, linesOf, textOf};
-ghost use Rattle.writer.specs.Sound.{Sound, Fit};
-ghost use Rattle.writer.specs.Answers.{writeAnswer, Answered, eventFault};
+ghost use Rattle.writer.specs.Lines.{Fit, lineOf, rowsIn, linesOf, sheetText};
+ghost use Rattle.writer.specs.Answers.{Answered, textRefusal, answerFor, bytesLeft};
 
 // How many bytes were written, or a refusal's number and place.
 pub enum Written {
@@ -42,8 +37,8 @@ fn line(
     section: u32,
     row: u32,
 ) -> usize
-    requires { ⌜ Fit (now types) (now rules) (now bodies) (now objects) (now links) (now events) section row ⌝ }
-    ensures { λ r. ⌜ Put (now (out .entry)) at (lineOf (now (types .entry)) (now (relationships .entry)) (now (rules .entry)) (now (bodies .entry)) (now (objects .entry)) (now (links .entry)) (now (events .entry)) section row) (now (out .exit)) r ⌝ }
+    requires { ⌜ Fit (sheetOf (now types) (now relationships) (now rules) (now bodies) (now objects) (now links) (now events)) section row ⌝ }
+    ensures { λ r. ⌜ Put (now (out .entry)) at (lineOf (sheetOf (now (types .entry)) (now (relationships .entry)) (now (rules .entry)) (now (bodies .entry)) (now (objects .entry)) (now (links .entry)) (now (events .entry))) section row) (now (out .exit)) r ⌝ }
 {
     if section == 0 {
         return lines::type_line(out, at, types, row);
@@ -77,8 +72,8 @@ fn section_lines(
     section: u32,
     count: u32,
 ) -> usize
-    requires { ⌜ ((i : ℕ) → i < count → Fit (now types) (now rules) (now bodies) (now objects) (now links) (now events) section i) × (at ≤ length (now out) + 1) ⌝ }
-    ensures { λ r. ⌜ Put (now (out .entry)) at (linesOf (lineOf (now (types .entry)) (now (relationships .entry)) (now (rules .entry)) (now (bodies .entry)) (now (objects .entry)) (now (links .entry)) (now (events .entry)) section) count) (now (out .exit)) r ⌝ }
+    requires { ⌜ ((i : ℕ) → i < count → Fit (sheetOf (now types) (now relationships) (now rules) (now bodies) (now objects) (now links) (now events)) section i) × (at ≤ length (now out) + 1) ⌝ }
+    ensures { λ r. ⌜ Put (now (out .entry)) at (linesOf (lineOf (sheetOf (now (types .entry)) (now (relationships .entry)) (now (rules .entry)) (now (bodies .entry)) (now (objects .entry)) (now (links .entry)) (now (events .entry))) section) count) (now (out .exit)) r ⌝ }
 {
     let mut next = at;
     let mut row: u32 = 0;
@@ -102,32 +97,25 @@ fn section_lines(
 }
 
 // How many rows of a section are used.
-fn rows_in(n: Counts, used: u32, section: u32) -> u32
-    ensures { λ r. ⌜ r ≡ rowsIn n used section ⌝ }
+fn rows_in(n: Counts, section: u32) -> u32
+    requires { ⌜ section < sectionCount ⌝ }
+    ensures { λ r. ⌜ r ≡ rowsIn n section ⌝ }
 {
-    if section == 0 {
-        return n.types;
-    }
-    if section == 1 {
-        return n.relationships;
-    }
-    if section == 2 {
-        return n.rules;
-    }
-    if section == 3 {
-        return n.objects;
-    }
-    if section == 4 {
-        return n.links;
-    }
-    used
+    let counts = [
+        n.types,
+        n.relationships,
+        n.rules,
+        n.objects,
+        n.links,
+        n.events,
+    ];
+    counts[section as usize]
 }
 
 // The lines of all sections in order, from the start of the bytes on.
 fn text(
     out: &mut [u8],
     n: Counts,
-    used: u32,
     types: &[u32],
     relationships: &[u32],
     rules: &[u32],
@@ -136,13 +124,13 @@ fn text(
     links: &[u32],
     events: &[u32],
 ) -> usize
-    requires { ⌜ Sound n used (now types) (now relationships) (now rules) (now bodies) (now objects) (now links) (now events) ⌝ }
-    ensures { λ r. ⌜ Put (now (out .entry)) 0 (textOf n used (now (types .entry)) (now (relationships .entry)) (now (rules .entry)) (now (bodies .entry)) (now (objects .entry)) (now (links .entry)) (now (events .entry))) (now (out .exit)) r ⌝ }
+    requires { ⌜ (let s = sheetOf (now types) (now relationships) (now rules) (now bodies) (now objects) (now links) (now events) in Given n s × EventsLent n s × EventsKnown n s) ⌝ }
+    ensures { λ r. ⌜ Put (now (out .entry)) 0 (sheetText n (sheetOf (now (types .entry)) (now (relationships .entry)) (now (rules .entry)) (now (bodies .entry)) (now (objects .entry)) (now (links .entry)) (now (events .entry)))) (now (out .exit)) r ⌝ }
 {
     let mut next = 0;
     let mut section: u32 = 0;
     while section < 6 {
-        let count = rows_in(n, used, section);
+        let count = rows_in(n, section);
         next = section_lines(
             &mut *out,
             next,
@@ -177,42 +165,9 @@ fn deliver(buffer: &[u8], end: usize, out: &mut [u8]) -> Written
     Written::Done(end as u32)
 }
 
-// Refusals 3, 4 and 5, and 7 of the events' rows; before them 2 and 6 of the other tables.
-fn contents(
-    n: Counts,
-    used: u32,
-    types: &[u32],
-    relationships: &[u32],
-    rules: &[u32],
-    bodies: &[u32],
-    objects: &[u32],
-    links: &[u32],
-    events: &[u32],
-) -> Verdict
-    ensures { λ r. ⌜ r ≡ verdictOf (firstOf (lentRefusal (lentTables n (now (types .entry)) (now (relationships .entry)) (now (rules .entry)) (now (bodies .entry)) (now (objects .entry)) (now (links .entry))) false) (refusalAt 7 (eventFault used (now (events .entry)) ((bookOf (lentTables n (now (types .entry)) (now (relationships .entry)) (now (rules .entry)) (now (bodies .entry)) (now (objects .entry)) (now (links .entry)))) .schema)))) ⌝ }
-{
-    match checks::check(
-        n,
-        types,
-        relationships,
-        rules,
-        bodies,
-        objects,
-        links,
-        false,
-    ) {
-        Verdict::Refused(number, place) => Verdict::Refused(number, place),
-        Verdict::Clear => match batch::first_unknown(n, used, events) {
-            Found::At(place) => Verdict::Refused(7, place),
-            Found::Nothing => Verdict::Clear,
-        },
-    }
-}
-
-// Refusals 2 and 6 of all tables, 3, 4 and 5, and 7 of the events' rows.
+// Refusals 2 and 6 of all tables, 3, 4 and 5, and 7 of the events by themselves.
 fn refused(
     n: Counts,
-    used: u32,
     types: &[u32],
     relationships: &[u32],
     rules: &[u32],
@@ -221,23 +176,10 @@ fn refused(
     links: &[u32],
     events: &[u32],
 ) -> Verdict
-    ensures { λ r. ⌜ r ≡ verdictOf (sheetRefusal (lentTables n (now (types .entry)) (now (relationships .entry)) (now (rules .entry)) (now (bodies .entry)) (now (objects .entry)) (now (links .entry))) used (now (events .entry))) ⌝ }
+    ensures { λ r. ⌜ r ≡ verdictOf (sheetRefusal n (sheetOf (now (types .entry)) (now (relationships .entry)) (now (rules .entry)) (now (bodies .entry)) (now (objects .entry)) (now (links .entry)) (now (events .entry)))) ⌝ }
 {
-    if checks::any_too_many(n, types, relationships, rules, bodies, objects, links) {
-        return Verdict::Refused(2, 0);
-    }
-    if checks::too_many(events, 4, used as usize, 256) {
-        return Verdict::Refused(2, 0);
-    }
-    if checks::any_broken(types, relationships, rules, bodies, objects, links) {
-        return Verdict::Refused(6, 0);
-    }
-    if checks::not_whole(events, 4) {
-        return Verdict::Refused(6, 0);
-    }
-    contents(
+    match checks::check_all(
         n,
-        used,
         types,
         relationships,
         rules,
@@ -245,14 +187,20 @@ fn refused(
         objects,
         links,
         events,
-    )
+        false,
+    ) {
+        Verdict::Refused(number, place) => Verdict::Refused(number, place),
+        Verdict::Clear => match checks::events::first_unknown(n, events) {
+            Found::At(place) => Verdict::Refused(7, place),
+            Found::Nothing => Verdict::Clear,
+        },
+    }
 }
 
 // The text unless the tables are refused.
 fn unless_refused(
     verdict: Verdict,
     n: Counts,
-    used: u32,
     types: &[u32],
     relationships: &[u32],
     rules: &[u32],
@@ -262,8 +210,9 @@ fn unless_refused(
     events: &[u32],
     out: &mut [u8],
 ) -> Written
-    requires { ⌜ verdict ≡ verdictOf (sheetRefusal (lentTables n (now types) (now relationships) (now rules) (now bodies) (now objects) (now links)) used (now events)) ⌝ }
-    ensures { λ r. ⌜ Answered r (now (out .exit)) (writerRefusal (lentTables n (now (types .entry)) (now (relationships .entry)) (now (rules .entry)) (now (bodies .entry)) (now (objects .entry)) (now (links .entry))) used (now (events .entry)) (length (now (out .entry)))) (spelled (entriesOf (lentTables n (now (types .entry)) (now (relationships .entry)) (now (rules .entry)) (now (bodies .entry)) (now (objects .entry)) (now (links .entry))) used (now (events .entry)))) (now (out .entry)) ⌝ }
+    requires { ⌜ verdict ≡ verdictOf (sheetRefusal n (sheetOf (now types) (now relationships) (now rules) (now bodies) (now objects) (now links) (now events))) ⌝ }
+    ensures { λ r. ⌜ (let s = sheetOf (now (types .entry)) (now (relationships .entry)) (now (rules .entry)) (now (bodies .entry)) (now (objects .entry)) (now (links .entry)) (now (events .entry)) in
+        (r ≡ answerFor n s (now (out .entry))) × (now (out .exit) ≡ bytesLeft n s (now (out .entry)))) ⌝ }
 {
     if let Verdict::Refused(number, place) = verdict {
         return Written::Refused(number, place);
@@ -272,7 +221,6 @@ fn unless_refused(
     let end = text(
         &mut buffer,
         n,
-        used,
         types,
         relationships,
         rules,
@@ -287,7 +235,6 @@ fn unless_refused(
 // The text of lent tables, into lent bytes: the first refusal, else how many bytes were written. On a refusal nothing is written.
 pub fn write(
     n: Counts,
-    events_used: u32,
     types: &[u32],
     relationships: &[u32],
     rules: &[u32],
@@ -297,11 +244,11 @@ pub fn write(
     events: &[u32],
     out: &mut [u8],
 ) -> Written
-    ensures { λ r. ⌜ (r ≡ writeAnswer (writerRefusal (lentTables n (now (types .entry)) (now (relationships .entry)) (now (rules .entry)) (now (bodies .entry)) (now (objects .entry)) (now (links .entry))) «events_used» (now (events .entry)) (length (now (out .entry)))) (length (spelled (entriesOf (lentTables n (now (types .entry)) (now (relationships .entry)) (now (rules .entry)) (now (bodies .entry)) (now (objects .entry)) (now (links .entry))) «events_used» (now (events .entry)))))) × (now (out .exit) ≡ bytesAfter (writerRefusal (lentTables n (now (types .entry)) (now (relationships .entry)) (now (rules .entry)) (now (bodies .entry)) (now (objects .entry)) (now (links .entry))) «events_used» (now (events .entry)) (length (now (out .entry)))) (spelled (entriesOf (lentTables n (now (types .entry)) (now (relationships .entry)) (now (rules .entry)) (now (bodies .entry)) (now (objects .entry)) (now (links .entry))) «events_used» (now (events .entry)))) (now (out .entry))) ⌝ }
+    ensures { λ r. ⌜ (let s = sheetOf (now (types .entry)) (now (relationships .entry)) (now (rules .entry)) (now (bodies .entry)) (now (objects .entry)) (now (links .entry)) (now (events .entry)) in
+        (r ≡ answerFor n s (now (out .entry))) × (now (out .exit) ≡ bytesLeft n s (now (out .entry)))) ⌝ }
 {
     let verdict = refused(
         n,
-        events_used,
         types,
         relationships,
         rules,
@@ -313,7 +260,6 @@ pub fn write(
     unless_refused(
         verdict,
         n,
-        events_used,
         types,
         relationships,
         rules,

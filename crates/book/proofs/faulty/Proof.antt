@@ -96,7 +96,7 @@ returns-5 c = λ p.
     let size = read .word2 in
     judged (a .type-count) (a .types .now) (a .relationship-count) (a .relationships .now) (a .rules .now) (a .bodies .now) (a .rule)
     (context .result) (size .result) (context .ensures) (size .ensures) p (read .before .if1 .left)
-    (λ k. read .before .before .before .shared-slice-known4 .given ((a .rule * 64 + k) * 4 + 1) .fits) (whole (c .before .before .before)) (c .typed .result) (c .typed .ensures)
+    (λ k. read .before .before .before .shared-slice-known4 .given ((a .rule * 64 + k) * 4 + 1) .fits) (whole (c .before .before .before)) (c .typed .result) (c .typed .ensures .0)
 
 pub faulty-spec : {M : Type 1} → statement M
 faulty-spec =

@@ -5,7 +5,7 @@ use native.Mathlib.Omega.{arith}
 use lib.ListN.{length}
 use borrow.Rule.Slice.PartMut.{putMid}
 use Rattle.text.specs.Bodies.{rowsOf}
-use Rattle.brackets.specs.Whole.{bodyWords}
+use Rattle.tables.specs.Layouts.{bodyWords}
 use Rattle.brackets.proofs.Whole.{rows-placed}
 use borrow.Author.Needs.{needs}
 use Rattle.brackets.proofs.write_body.Statement.{statement}

@@ -1,12 +1,8 @@
 -- `checks::any_broken` meets its contract.
-use Rattle.tables.specs.Refusals.{tablesOf}
+use Rattle.tables.specs.Layouts.{bookTables}
 use borrow.Author.Needs.{needs}
 use Rattle.checks.proofs.any_broken.Statement.{statement}
 use Rattle.checks.proofs.any_broken.Tie as tie
-use Rattle.checks.proofs.any_broken.Reads as reads
-use Rattle.checks.proofs.any_broken.Lts as lts
-use Rattle.checks.proofs.not_whole.Reads as not-whole-reads
-use Rattle.checks.proofs.or.Reads as or-reads
 
 not-whole-requires : tie.Need-not-whole-requires
 not-whole-requires c κs = search needs
@@ -45,8 +41,8 @@ or-requires-6 : tie.Need-or-requires-6
 or-requires-6 c κs = search needs
 
 returns : tie.Need-returns
-unfolding tablesOf
-returns c n = cc
+unfolding bookTables
+returns c = cc
 
 pub any-broken-spec : {M : Type 1} → statement M
 any-broken-spec =

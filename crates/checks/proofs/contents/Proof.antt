@@ -1,15 +1,10 @@
 -- `checks::contents` meets its contract.
-use Rattle.tables.specs.Refusals.{lentTables}
+use mathlib.Core.List.{[]}
+use Rattle.tables.specs.Layouts.{sheetOf}
 use Rattle.checks.proofs.Stages.{stages}
 use borrow.Author.Needs.{needs}
 use Rattle.checks.proofs.contents.Statement.{statement}
 use Rattle.checks.proofs.contents.Tie as tie
-use Rattle.checks.proofs.contents.Reads as reads
-use Rattle.checks.proofs.contents.Lts as lts
-use Rattle.book.proofs.check.Reads as check-reads
-use Rattle.checks.proofs.refuse.Reads as refuse-reads
-use Rattle.register.proofs.check.Reads as check-reads′
-use Rattle.schema.proofs.check.Reads as check-reads′′
 
 check-requires : tie.Need-check-requires
 check-requires c κs = search needs
@@ -31,8 +26,9 @@ refuse-requires-3 c κs = search needs
 
 returns : tie.Need-returns
 returns c =
-    let a = c .before .before .before .before .before .before .before .before .before .before .before .before .args in
-    cc (stages (lentTables (a .n) (a .types .now) (a .relationships .now) (a .rules .now) (a .bodies .now) (a .objects .now) (a .links .now)))
+    let last = c .before .before .before .before .before .before in
+    let a = last .before .before .before .before .before .before .args in
+    cc (stages (a .n) (sheetOf (a .types .now) (a .relationships .now) (a .rules .now) (a .bodies .now) (a .objects .now) (a .links .now) []))
 
 pub contents-spec : {M : Type 1} → statement M
 contents-spec =

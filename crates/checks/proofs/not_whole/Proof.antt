@@ -4,9 +4,6 @@ use mathlib.Core.Bool.{not}
 use borrow.Author.Needs.{needs}
 use Rattle.checks.proofs.not_whole.Statement.{statement}
 use Rattle.checks.proofs.not_whole.Tie as tie
-use Rattle.checks.proofs.not_whole.Reads as reads
-use Rattle.checks.proofs.not_whole.Lts as lts
-use Rattle.rows.proofs.whole.Reads as whole-reads
 
 whole-requires : tie.Need-whole-requires
 whole-requires c κs = search needs

@@ -2,8 +2,6 @@
 use borrow.Author.Needs.{needs}
 use Rattle.checks.proofs.refuse.Statement.{statement}
 use Rattle.checks.proofs.refuse.Tie as tie
-use Rattle.checks.proofs.refuse.Reads as reads
-use Rattle.checks.proofs.refuse.Lts as lts
 
 enum-known-place : tie.Need-enum-known-place
 enum-known-place c = search needs

@@ -3,9 +3,6 @@ use Rattle.checks.proofs.Counting.{above-limit, within-limit}
 use borrow.Author.Needs.{needs}
 use Rattle.checks.proofs.too_many.Statement.{statement}
 use Rattle.checks.proofs.too_many.Tie as tie
-use Rattle.checks.proofs.too_many.Reads as reads
-use Rattle.checks.proofs.too_many.Lts as lts
-use Rattle.rows.proofs.rows_lent.Reads as rows-lent-reads
 
 returns : tie.Need-returns
 returns c = above-limit (c .before .before .args .limit) _ (c .before .before .args .used) (c .if1 .taken)

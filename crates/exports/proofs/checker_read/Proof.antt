@@ -5,11 +5,17 @@ use Rattle.exports.proofs.Coded.{words-taken, words-unread}
 use Rattle.exports.proofs.checker_read.Statement.{statement}
 use Rattle.exports.proofs.checker_read.Tie as tie
 
+-- the read, from where its answer is looked at
+abbrev read-at : tie.After-slice-known14 → tie.After-read
+read-at c =
+    let at-bodies = c .before .before .before .before .before .before .before in
+    at-bodies .before .before .before .before .before .before .before
+
 read-requires : tie.Need-read-requires
 read-requires c κs = search needs
 
-enum-known-a : tie.Need-enum-known-a
-enum-known-a c = search needs
+enum-known-n : tie.Need-enum-known-n
+enum-known-n c = search needs
 
 enum-known-number : tie.Need-enum-known-number
 enum-known-number c = search needs
@@ -37,9 +43,8 @@ same-length-7 c = search needs
 
 returns : tie.Need-returns
 returns c =
-    let at-match = c .before .before in
-    let told = at-match .before .before .before .before .before .before .before .before .before .before .before .before .before .before .before .read .ensures in
-    (words-taken _ (sym (c .before .a .given .1) ∙ told .0), told .1, told .2, told .3, told .4, told .5, told .6, told .7)
+    let told = read-at (c .before .before .before) .read .ensures in
+    (words-taken _ (sym (c .before .n .given .1) ∙ told .0), told .1)
 
 same-length-8 : tie.Need-same-length-8
 same-length-8 c = search needs
@@ -64,16 +69,15 @@ same-length-14 c = search needs
 
 returns-2 : tie.Need-returns-2
 returns-2 c =
-    let at-match = c .before .before in
-    let told = at-match .before .before .before .before .before .before .before .before .before .before .before .before .before .before .before .read .ensures in
-    (words-unread _ (sym (c .before .number .given .1) ∙ told .0), told .1, told .2, told .3, told .4, told .5, told .6, told .7)
+    let told = read-at (c .before .before .before) .read .ensures in
+    (words-unread _ (sym (c .before .number .given .1) ∙ told .0), told .1)
 
 pub checker-read-spec : {M : Type 1} → statement M
 checker-read-spec =
     tie.close
     (tie.spec
     read-requires
-    enum-known-a
+    enum-known-n
     enum-known-number
     same-length
     same-length-2

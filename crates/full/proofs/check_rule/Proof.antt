@@ -2,10 +2,11 @@
 use mathlib.Core.Path.{sym, ap, _∙_}
 use denote.Ref.{now}
 use borrow.Author.Needs.{needs}
-use Rattle.tables.specs.Refusals.{lentTables, verdictOf, lentRefusal}
+use mathlib.Core.List.{[]}
+use Rattle.tables.specs.Layouts.{sheetOf}
 use Rattle.full.specs.Answers.{verdictFor}
 use Rattle.full.proofs.Given.{register-fits, can-index, zeros}
-use Rattle.full.proofs.Answers.{clear-none}
+use Rattle.checks.proofs.Given.{clear-none}
 use Rattle.full.proofs.Rules.{known-rule, clear-before, rule-refused, rule-broken, rule-accepted}
 use Rattle.full.proofs.check_rule.Statement.{statement}
 use Rattle.full.proofs.check_rule.Tie as tie
@@ -26,10 +27,10 @@ index-requires : tie.Need-index-requires
 index-requires c κs =
     let earlier = c .before .before .before .before .before .before .before in
     let start = earlier .before .before .before .before in
-    let t = lentTables (start .args .n) (now (start .args .types)) (now (start .args .relationships)) (now (start .args .rules)) (now (start .args .bodies)) (now (start .args .objects)) (now (start .args .links)) in
+    let s = sheetOf (now (start .args .types)) (now (start .args .relationships)) (now (start .args .rules)) (now (start .args .bodies)) (now (start .args .objects)) (now (start .args .links)) [] in
     let clear = clear-none _ (clear-before _ (start .args .n .rules) (start .args .rule) (sym (c .before .enum-told .given .1) ∙ c .before .before .before .verdict-for .ensures) ∙ c .before .before .before .before .check .ensures) in
-    let fits = register-fits t clear in
-    (fits .objects-ascend, fits .links-ascend, can-index t clear, zeros 81920)
+    let fits = register-fits (start .args .n) s clear in
+    (fits .objects-ascend, fits .links-ascend, can-index (start .args .n) s clear, zeros 81920)
 
 breaks-at-requires : tie.Need-breaks-at-requires
 breaks-at-requires c κs =
@@ -43,7 +44,7 @@ returns : tie.Need-returns
 returns c =
     let earlier = c .before .before .before .before .before .before .before in
     let start = earlier .before .before .before .before in
-    rule-refused _ (start .args .rule) (start .args .id) (sym (c .before .number .given .1) ∙ c .before .before .before .verdict-for .ensures ∙ ap (λ v. verdictFor v (start .args .n .rules) (start .args .rule)) (c .before .before .before .before .check .ensures))
+    rule-refused _ _ (start .args .rule) (start .args .id) (sym (c .before .number .given .1) ∙ c .before .before .before .verdict-for .ensures ∙ ap (λ v. verdictFor v (start .args .n .rules) (start .args .rule)) (c .before .before .before .before .check .ensures))
 
 returns-2 : tie.Need-returns-2
 returns-2 c =
@@ -52,7 +53,7 @@ returns-2 c =
     let check = earlier .before .check in
     let early = earlier .before .before .before .before .before .before .before in
     let start = early .before in
-    rule-broken _ (start .args .rule) (start .args .id) (sym (c .before .before .before .before .before .enum-told .given .1) ∙ verdict-for .ensures ∙ ap (λ v. verdictFor v (start .args .n .rules) (start .args .rule)) (check .ensures)) (c .before .breaks-at .ensures) (c .if1 .taken)
+    rule-broken _ _ (start .args .rule) (start .args .id) (sym (c .before .before .before .before .before .enum-told .given .1) ∙ verdict-for .ensures ∙ ap (λ v. verdictFor v (start .args .n .rules) (start .args .rule)) (check .ensures)) (c .before .breaks-at .ensures) (c .if1 .taken)
 
 returns-3 : tie.Need-returns-3
 returns-3 c =
@@ -61,7 +62,7 @@ returns-3 c =
     let check = earlier .before .check in
     let early = earlier .before .before .before .before .before .before .before in
     let start = early .before in
-    rule-accepted _ (start .args .rule) (start .args .id) (sym (c .before .before .before .before .before .enum-told .given .1) ∙ verdict-for .ensures ∙ ap (λ v. verdictFor v (start .args .n .rules) (start .args .rule)) (check .ensures)) (c .before .breaks-at .ensures) (c .if1 .left)
+    rule-accepted _ _ (start .args .rule) (start .args .id) (sym (c .before .before .before .before .before .enum-told .given .1) ∙ verdict-for .ensures ∙ ap (λ v. verdictFor v (start .args .n .rules) (start .args .rule)) (check .ensures)) (c .before .breaks-at .ensures) (c .if1 .left)
 
 pub check-rule-spec : {M : Type 1} → statement M
 check-rule-spec =

@@ -3,7 +3,8 @@ use Prim.Native.Nat.{_-_}
 use mathlib.Core.Path.{_≡_, refl, _∙_}
 use native.Mathlib.Omega.{arith}
 use borrow.Author.Needs.{needs}
-use Rattle.tables.specs.Refusals.{lentTables}
+use mathlib.Core.List.{[]}
+use Rattle.tables.specs.Layouts.{sheetOf}
 use Rattle.full.specs.declared.Answer.the-variants.{Accepted}
 use Rattle.full.proofs.Given.{size-few, rule-ready}
 use Rattle.full.proofs.Pairs.{Searching, Within, search-starts, within-starts, within-ends, search-ends, row-broken, row-passed}
@@ -12,14 +13,14 @@ use Rattle.full.proofs.search.Tie as tie
 
 abbrev Inv-loop : tie.InvT-loop
 Inv-loop n types relationships rules bodies objects links index answer₀ rule context size starts row₀ answer row =
-    (answer ≡ Accepted) × Within (lentTables n types relationships rules bodies objects links) rule row
+    (answer ≡ Accepted) × Within n (sheetOf types relationships rules bodies objects links []) rule row
 
 abbrev μ-loop : tie.MeasureT-loop
 μ-loop n types relationships rules bodies objects links index answer₀ rule context size starts row₀ answer row = n .objects - row
 
 abbrev Inv-search : tie.InvT-search
 Inv-search n types relationships rules bodies objects links index answer₀ rule₀ answer rule =
-    (answer ≡ Accepted) × Searching (lentTables n types relationships rules bodies objects links) rule
+    (answer ≡ Accepted) × Searching n (sheetOf types relationships rules bodies objects links []) rule
 
 abbrev μ-search : tie.MeasureT-search
 μ-search n types relationships rules bodies objects links index answer₀ rule₀ answer rule = n .rules - rule

@@ -1,7 +1,7 @@
 -- The evaluators meet their contracts. The measure is twice the row where the form ends: a helper keeps the row, and lies below the
 -- function that calls it; every other call is of a part, which ends before.
 use Prim.Native.Nat.{ℕ, _+_, _-_, _≤_, _<_}
-use mathlib.Core.Path.{_≡_, sym, ap, subst, _∙_}
+use mathlib.Core.Path.{_≡_, refl, sym, ap, subst, _∙_}
 use mathlib.Core.List.{List, []}
 use native.Mathlib.Omega.{arith}
 use mir.Syntax.{w64}
@@ -10,7 +10,8 @@ use mir.ValLaws.{toZ-ofZ}
 use borrow.Author.Needs.{needs}
 use borrow.Fn.Kinds.{In}
 use borrow.Fn.PlainCycle.{Measures, is, falls, and}
-use lib.ListN.{length, getD}
+use lib.ListN.{length, getD, set}
+use lib.Seq.{set-set}
 use lib.IntN.{pos}
 use Rattle.meaning.specs.Forms as Forms
 use Rattle.meaning.specs.Meaning.{quantified as quantifiedBy}
@@ -61,7 +62,6 @@ use Rattle.ocl.proofs.begin.Reads as begin-reads
 use Rattle.ocl.proofs.operators.decided.Reads as decided-reads
 use Rattle.ocl.proofs.operators.joined.Reads as joined-reads
 use Rattle.ocl.proofs.operators.stops.Reads as stops-reads
-use Rattle.ocl.proofs.walk.bound.Reads as bound-reads
 use Rattle.ocl.proofs.walk.cell_value.Reads as cell-value-reads
 use Rattle.ocl.proofs.walk.next_far.Reads as next-far-reads
 use Rattle.ocl.proofs.walk.next_instance.Reads as next-instance-reads
@@ -158,10 +158,10 @@ abbrev next-calls : ℕ → next-lts.Claims
 next-calls t = (field-reads.Asked, field-reads.Learnt, next-far-reads.Asked, next-far-reads.Learnt, next-instance-reads.Asked, next-instance-reads.Learnt, next-selected-below t, next-selected.Post)
 
 abbrev next-selected-calls : ℕ → next-selected-lts.Claims
-next-selected-calls t = (start-of-reads.Asked, start-of-reads.Learnt, next-below t, next.Post, bound-reads.Asked, bound-reads.Learnt, truth-below t, truth.Post)
+next-selected-calls t = (start-of-reads.Asked, start-of-reads.Learnt, next-below t, next.Post, truth-below t, truth.Post)
 
 abbrev quantified-calls : ℕ → quantified-lts.Claims
-quantified-calls t = (start-of-reads.Asked, start-of-reads.Learnt, begin-reads.Asked, begin-reads.Learnt, next-below t, next.Post, bound-reads.Asked, bound-reads.Learnt, truth-below t, truth.Post, stops-reads.Asked, stops-reads.Learnt)
+quantified-calls t = (start-of-reads.Asked, start-of-reads.Learnt, begin-reads.Asked, begin-reads.Learnt, next-below t, next.Post, truth-below t, truth.Post, stops-reads.Asked, stops-reads.Learnt)
 
 abbrev totalled-calls : ℕ → totalled-lts.Claims
 totalled-calls t = (field-reads.Asked, field-reads.Learnt, begin-reads.Asked, begin-reads.Learnt, next-below t, next.Post, weight-reads.Asked, weight-reads.Learnt, add-reads.Asked, add-reads.Learnt)
@@ -178,24 +178,30 @@ inside ready = let p = positive ready in omega (arith, ready .few)
 
 -- ---- loops
 
+-- variables that differ at most where the next is bound
+abbrev BindsAs : List ℕ → List ℕ → ℕ → Type 0
+BindsAs inner vars depth = (row : ℕ) → set inner depth row ≡ set vars depth row
+
 abbrev next-selected-Inv-loop : next-selected-lts.InvT-loop
-next-selected-Inv-loop n types objects links index bodies starts vars word rule e row depth start from last₀ last =
+next-selected-Inv-loop n types objects links index bodies starts vars word rule e row depth start from inner₀ d last₀ inner last =
     let w = siteOf n types objects links index bodies rule in
     Stands w start vars last
     × (leftAt w e vars depth word ≡ keep (underOne w row vars depth) (leftAt w start vars depth last))
+    × BindsAs inner vars depth
 
 abbrev next-selected-μ-loop : next-selected-lts.MeasureT-loop
-next-selected-μ-loop n types objects links index bodies starts vars word rule e row depth start from last₀ last =
+next-selected-μ-loop n types objects links index bodies starts vars word rule e row depth start from inner₀ d last₀ inner last =
     length (leftAt (siteOf n types objects links index bodies rule) start vars depth last)
 
 abbrev quantified-Inv-loop : quantified-lts.InvT-loop
-quantified-Inv-loop n types objects links index bodies starts vars code rule e row depth start from word₀ word =
+quantified-Inv-loop n types objects links index bodies starts vars code rule e row depth start from inner₀ d word₀ inner word =
     let w = siteOf n types objects links index bodies rule in
     Stands w start vars word
     × (truthOf w e vars depth ≡ quantifiedBy (quantifierOf code) (underOne w row vars depth) (leftAt w start vars depth word))
+    × BindsAs inner vars depth
 
 abbrev quantified-μ-loop : quantified-lts.MeasureT-loop
-quantified-μ-loop n types objects links index bodies starts vars code rule e row depth start from word₀ word =
+quantified-μ-loop n types objects links index bodies starts vars code rule e row depth start from inner₀ d word₀ inner word =
     length (leftAt (siteOf n types objects links index bodies rule) start vars depth word)
 
 abbrev totalled-Inv-loop : totalled-lts.InvT-loop
@@ -329,26 +335,43 @@ module _ (t : ℕ) where
 
   -- ---- quantified
 
+  abbrev quantified-place : quantified-lts.After-start-of (quantified-calls t) (quantified-at t) quantified.Post quantified-Inv-loop quantified-μ-loop → quantified-lts.Start (quantified-calls t) (quantified-at t) quantified.Post quantified-Inv-loop quantified-μ-loop
+  quantified-place c = c .before .before .before .before .before
+
+  abbrev quantified-turn : quantified-lts.After-known-told (quantified-calls t) (quantified-at t) quantified.Post quantified-Inv-loop quantified-μ-loop → quantified-lts.At-loop (quantified-calls t) (quantified-at t) quantified.Post quantified-Inv-loop quantified-μ-loop
+  quantified-turn c = c .before .before .before .before
+
+  abbrev quantified-begun : quantified-lts.At-loop (quantified-calls t) (quantified-at t) quantified.Post quantified-Inv-loop quantified-μ-loop → quantified-lts.After-start-of (quantified-calls t) (quantified-at t) quantified.Post quantified-Inv-loop quantified-μ-loop
+  quantified-begun c = c .before .before .before
+
+  quantified-deep : (c : quantified-lts.After-start-of (quantified-calls t) (quantified-at t) quantified.Post quantified-Inv-loop quantified-μ-loop) → quantified-place c .args .at .2 < 64
+  quantified-deep c = let start = quantified-place c in quantify-parts (start .pre .1 .0) (start .pre .1 .1) (start .pre .1 .2) (start .pre .1 .3) .deep
+
   quantified-sub-row : quantified-lts.Need-sub-row (quantified-calls t) (quantified-at t) quantified.Post quantified-Inv-loop quantified-μ-loop
   quantified-sub-row c = positive (c .before .before .before .before .pre .1 .0)
 
   quantified-start-of-requires : quantified-lts.Need-start-of-requires (quantified-calls t) (quantified-at t) quantified.Post quantified-Inv-loop quantified-μ-loop
   quantified-start-of-requires c κs = let h = inside (c .before .before .before .before .pre .1 .0) in omega arith
 
+  quantified-cast-d : quantified-lts.Need-cast-d (quantified-calls t) (quantified-at t) quantified.Post quantified-Inv-loop quantified-μ-loop
+  quantified-cast-d c = let h = quantified-deep (c .before) in omega arith
+
   quantified-begin-requires : quantified-lts.Need-begin-requires (quantified-calls t) (quantified-at t) quantified.Post quantified-Inv-loop quantified-μ-loop
   quantified-begin-requires c κs =
-      let start = c .before .before .before .before .before in
-      quantify-parts (start .pre .1 .0) (start .pre .1 .1) (start .pre .1 .2) (start .pre .1 .3) .first (c .start-of .ensures) .1
+      let start = quantified-place (c .before) in
+      quantify-parts (start .pre .1 .0) (start .pre .1 .1) (start .pre .1 .2) (start .pre .1 .3) .first (c .before .start-of .ensures) .1
 
   quantified-loop-holds : quantified-lts.Need-loop-holds (quantified-calls t) (quantified-at t) quantified.Post quantified-Inv-loop quantified-μ-loop
   quantified-loop-holds c =
-      let start = c .before .before .before .before .before .before in
-      (c .begin .ensures .stands, quantify-starts (start .pre .1 .0) (c .before .start-of .ensures) (start .pre .1 .1) (start .pre .1 .2) (start .pre .1 .3) (c .begin .ensures))
+      let place = c .before .before in
+      let start = quantified-place place in
+      (c .begin .ensures .stands, quantify-starts (start .pre .1 .0) (place .start-of .ensures) (start .pre .1 .1) (start .pre .1 .2) (start .pre .1 .3) (c .begin .ensures), λ row. refl)
 
   quantified-next-requires : quantified-lts.Need-next-requires (quantified-calls t) (quantified-at t) quantified.Post quantified-Inv-loop quantified-μ-loop
   quantified-next-requires c κs =
-      let start = c .before .before .before .before .before .before .before in
-      let f = quantify-parts (start .pre .1 .0) (start .pre .1 .1) (start .pre .1 .2) (start .pre .1 .3) .first (c .before .before .start-of .ensures) in (omega (arith, f .0, start .pre .0), (f .1, c .loop .inv .0))
+      let place = quantified-begun c in
+      let start = quantified-place place in
+      let f = quantify-parts (start .pre .1 .0) (start .pre .1 .1) (start .pre .1 .2) (start .pre .1 .3) .first (place .start-of .ensures) in (omega (arith, f .0, start .pre .0), (f .1, c .loop .inv .0))
 
   quantified-enum-known-step : quantified-lts.Need-enum-known-step (quantified-calls t) (quantified-at t) quantified.Post quantified-Inv-loop quantified-μ-loop
   quantified-enum-known-step c = search needs
@@ -358,64 +381,55 @@ module _ (t : ℕ) where
 
   quantified-returns : quantified-lts.Need-returns (quantified-calls t) (quantified-at t) quantified.Post quantified-Inv-loop quantified-μ-loop
   quantified-returns c =
-      let loop = c .before .before .before .loop in
-      let earlier = c .before .before .before .before .before .before .before in
-      let start = earlier .before .before .before in
-      quantify-ends (start .pre .1 .0) (start .args .code) (c .before .before .before .before .before .start-of .result) (loop .word) (loop .inv .1) (c .before .before .next .ensures .done (c .enum-told .given .1))
+      let at-loop = c .before .before .before in
+      let place = quantified-begun at-loop in
+      let start = quantified-place place in
+      quantify-ends (start .pre .1 .0) (start .args .code) (place .start-of .result) (at-loop .loop .word) (at-loop .loop .inv .1) (c .before .before .next .ensures .done (c .enum-told .given .1))
 
-  quantified-bound-requires : quantified-lts.Need-bound-requires (quantified-calls t) (quantified-at t) quantified.Post quantified-Inv-loop quantified-μ-loop
-  quantified-bound-requires c κs =
-      let earlier = c .before .before .before .before .before .before .before in
-      let start = earlier .before .before .before .before in
-      quantify-parts (start .pre .1 .0) (start .pre .1 .1) (start .pre .1 .2) (start .pre .1 .3) .deep
+  quantified-mul-inner : quantified-lts.Need-mul-inner (quantified-calls t) (quantified-at t) quantified.Post quantified-Inv-loop quantified-μ-loop
+  quantified-mul-inner c = let h = quantified-deep (quantified-begun (quantified-turn c)) in omega arith
+
+  quantified-array-write-inner : quantified-lts.Need-array-write-inner (quantified-calls t) (quantified-at t) quantified.Post quantified-Inv-loop quantified-μ-loop
+  quantified-array-write-inner c = let h = quantified-deep (quantified-begun (quantified-turn c)) in omega arith
 
   quantified-add-deeper : quantified-lts.Need-add-deeper (quantified-calls t) (quantified-at t) quantified.Post quantified-Inv-loop quantified-μ-loop
-  quantified-add-deeper c =
-      let earlier = c .before .before .before .before .before .before .before in
-      let start = earlier .before .before .before .before .before in
-      let d = quantify-parts (start .pre .1 .0) (start .pre .1 .1) (start .pre .1 .2) (start .pre .1 .3) .deep in omega arith
+  quantified-add-deeper c = let h = quantified-deep (quantified-begun (quantified-turn c)) in omega arith
 
   quantified-truth-requires : quantified-lts.Need-truth-requires (quantified-calls t) (quantified-at t) quantified.Post quantified-Inv-loop quantified-μ-loop
   quantified-truth-requires c κs =
-      let earlier = c .before .before .before .before .before .before .before in
-      let start = earlier .before .before .before .before .before .before in
-      let went = c .before .before .before .before .before .next .ensures .went _ _ (c .before .before .before .step .given .1) in
+      let told = c .before in
+      let turn = quantified-turn told in
+      let start = quantified-place (quantified-begun turn) in
+      let went = told .before .before .before .next .ensures .went _ _ (told .before .step .given .1) in
       let past = positive (start .pre .1 .0) in
-      (omega (arith, start .pre .0), quantify-parts (start .pre .1 .0) (start .pre .1 .1) (start .pre .1 .2) (start .pre .1 .3) .inner _ _ (c .before .bound .ensures) (went .there))
+      (omega (arith, start .pre .0), quantify-parts (start .pre .1 .0) (start .pre .1 .1) (start .pre .1 .2) (start .pre .1 .3) .inner _ _ (turn .loop .inv .2 _) (went .there))
 
   quantified-stops-requires : quantified-lts.Need-stops-requires (quantified-calls t) (quantified-at t) quantified.Post quantified-Inv-loop quantified-μ-loop
   quantified-stops-requires c κs = tt
 
   quantified-returns-2 : quantified-lts.Need-returns-2 (quantified-calls t) (quantified-at t) quantified.Post quantified-Inv-loop quantified-μ-loop
   quantified-returns-2 c =
-      let step = c .before .before .before .before .before .before .step in
-      let earlier = c .before .before .before .before .before .before .before in
-      let next = earlier .before .next in
-      let loop = earlier .before .before .loop in
-      let start-of = earlier .before .before .before .before .start-of in
-      let early = earlier .before .before .before .before .before .before .before in
-      let start = early .before .before in
-      let went = next .ensures .went _ _ (step .given .1) in
-      quantify-stops (start .pre .1 .0) (start .args .code) (start-of .result) (loop .word) (quantify-parts (start .pre .1 .0) (start .pre .1 .1) (start .pre .1 .2) (start .pre .1 .3) .deep) (loop .inv .1) went (c .before .before .before .before .bound .ensures) (c .before .before .truth .ensures) (c .before .stops .ensures) (c .if1 .taken)
+      let told = c .before .before .before .before in
+      let turn = quantified-turn told in
+      let place = quantified-begun turn in
+      let start = quantified-place place in
+      let went = told .before .before .before .next .ensures .went _ _ (told .before .step .given .1) in
+      quantify-stops (start .pre .1 .0) (start .args .code) (place .start-of .result) (turn .loop .word) (quantified-deep place) (turn .loop .inv .1) went (turn .loop .inv .2 _) (c .before .before .truth .ensures) (c .before .stops .ensures) (c .if1 .taken)
 
   quantified-loop-less : quantified-lts.Need-loop-less (quantified-calls t) (quantified-at t) quantified.Post quantified-Inv-loop quantified-μ-loop
   quantified-loop-less c =
-      let step = c .before .before .before .before .before .before .step in
-      let earlier = c .before .before .before .before .before .before .before in
-      let next = earlier .before .next in
-      fewer-left (next .ensures .went _ _ (step .given .1))
+      let told = c .before .before .before .before in
+      fewer-left (told .before .before .before .next .ensures .went _ _ (told .before .step .given .1))
 
   quantified-loop-again : quantified-lts.Need-loop-again (quantified-calls t) (quantified-at t) quantified.Post quantified-Inv-loop quantified-μ-loop
   quantified-loop-again c =
-      let step = c .before .before .before .before .before .before .step in
-      let earlier = c .before .before .before .before .before .before .before in
-      let next = earlier .before .next in
-      let loop = earlier .before .before .loop in
-      let start-of = earlier .before .before .before .before .start-of in
-      let early = earlier .before .before .before .before .before .before .before in
-      let start = early .before .before in
-      let went = next .ensures .went _ _ (step .given .1) in
-      (went .stands, quantify-goes-on (start .pre .1 .0) (start .args .code) (start-of .result) (loop .word) (quantify-parts (start .pre .1 .0) (start .pre .1 .1) (start .pre .1 .2) (start .pre .1 .3) .deep) (loop .inv .1) went (c .before .before .before .before .bound .ensures) (c .before .before .truth .ensures) (c .before .stops .ensures) (c .if1 .left))
+      let told = c .before .before .before .before in
+      let turn = quantified-turn told in
+      let place = quantified-begun turn in
+      let start = quantified-place place in
+      let went = told .before .before .before .next .ensures .went _ _ (told .before .step .given .1) in
+      let on = quantify-goes-on (start .pre .1 .0) (start .args .code) (place .start-of .result) (turn .loop .word) (quantified-deep place) (turn .loop .inv .1) went (turn .loop .inv .2 _) (c .before .before .truth .ensures) (c .before .stops .ensures) (c .if1 .left) in
+      (went .stands, on, λ row. set-set (turn .loop .inner) (start .args .at .2) _ row ∙ turn .loop .inv .2 row)
 
   -- ---- totalled
 
@@ -666,21 +680,38 @@ module _ (t : ℕ) where
 
   -- ---- next_selected
 
+  abbrev selecting-place : next-selected-lts.After-start-of (next-selected-calls t) (next-selected-at t) next-selected.Post next-selected-Inv-loop next-selected-μ-loop → next-selected-lts.Start (next-selected-calls t) (next-selected-at t) next-selected.Post next-selected-Inv-loop next-selected-μ-loop
+  selecting-place c = c .before .before .before .before .before
+
+  abbrev selecting-turn : next-selected-lts.After-known-told (next-selected-calls t) (next-selected-at t) next-selected.Post next-selected-Inv-loop next-selected-μ-loop → next-selected-lts.At-loop (next-selected-calls t) (next-selected-at t) next-selected.Post next-selected-Inv-loop next-selected-μ-loop
+  selecting-turn c = c .before .before .before .before
+
+  abbrev selecting-begun : next-selected-lts.At-loop (next-selected-calls t) (next-selected-at t) next-selected.Post next-selected-Inv-loop next-selected-μ-loop → next-selected-lts.After-start-of (next-selected-calls t) (next-selected-at t) next-selected.Post next-selected-Inv-loop next-selected-μ-loop
+  selecting-begun c = c .before .before
+
+  selecting-deep : (c : next-selected-lts.After-start-of (next-selected-calls t) (next-selected-at t) next-selected.Post next-selected-Inv-loop next-selected-μ-loop) → selecting-place c .args .at .2 < 64
+  selecting-deep c = let start = selecting-place c in select-parts (start .pre .1 .0) (start .pre .1 .2) .deep
+
   next-selected-sub-row : next-selected-lts.Need-sub-row (next-selected-calls t) (next-selected-at t) next-selected.Post next-selected-Inv-loop next-selected-μ-loop
   next-selected-sub-row c = positive (c .before .before .before .before .pre .1 .0)
 
   next-selected-start-of-requires : next-selected-lts.Need-start-of-requires (next-selected-calls t) (next-selected-at t) next-selected.Post next-selected-Inv-loop next-selected-μ-loop
   next-selected-start-of-requires c κs = let h = inside (c .before .before .before .before .pre .1 .0) in omega arith
 
+  next-selected-cast-d : next-selected-lts.Need-cast-d (next-selected-calls t) (next-selected-at t) next-selected.Post next-selected-Inv-loop next-selected-μ-loop
+  next-selected-cast-d c = let h = selecting-deep (c .before) in omega arith
+
   next-selected-loop-holds : next-selected-lts.Need-loop-holds (next-selected-calls t) (next-selected-at t) next-selected.Post next-selected-Inv-loop next-selected-μ-loop
   next-selected-loop-holds c =
-      let start = c .before .before .before .before .before in
-      (select-stands (start .pre .1 .0) (c .start-of .ensures) (start .pre .1 .2) (start .args .word) (start .pre .1 .1), select-starts (start .pre .1 .0) (c .start-of .ensures) (start .pre .1 .2) (start .args .word))
+      let place = c .before in
+      let start = selecting-place place in
+      (select-stands (start .pre .1 .0) (place .start-of .ensures) (start .pre .1 .2) (start .args .word) (start .pre .1 .1), select-starts (start .pre .1 .0) (place .start-of .ensures) (start .pre .1 .2) (start .args .word), λ row. refl)
 
   next-selected-next-requires : next-selected-lts.Need-next-requires (next-selected-calls t) (next-selected-at t) next-selected.Post next-selected-Inv-loop next-selected-μ-loop
   next-selected-next-requires c κs =
-      let start = c .before .before .before .before .before .before in
-      let f = select-parts (start .pre .1 .0) (start .pre .1 .2) .first (c .before .start-of .ensures) in
+      let place = selecting-begun c in
+      let start = selecting-place place in
+      let f = select-parts (start .pre .1 .0) (start .pre .1 .2) .first (place .start-of .ensures) in
       (omega (arith, f .0, start .pre .0), (f .1, c .loop .inv .0))
 
   next-selected-enum-known-step : next-selected-lts.Need-enum-known-step (next-selected-calls t) (next-selected-at t) next-selected.Post next-selected-Inv-loop next-selected-μ-loop
@@ -691,55 +722,52 @@ module _ (t : ℕ) where
 
   next-selected-returns : next-selected-lts.Need-returns (next-selected-calls t) (next-selected-at t) next-selected.Post next-selected-Inv-loop next-selected-μ-loop
   next-selected-returns c =
-      let loop = c .before .before .before .loop in
-      let earlier = c .before .before .before .before .before .before .before in
-      let start = earlier .before .before in
-      stepped-done (select-ends (start .pre .1 .0) (c .before .before .before .before .start-of .ensures) (start .pre .1 .2) (start .args .word) (loop .last) (loop .inv .1) (c .before .before .next .ensures .done (c .enum-told .given .1)))
+      let at-loop = c .before .before .before in
+      let place = selecting-begun at-loop in
+      let start = selecting-place place in
+      stepped-done (select-ends (start .pre .1 .0) (place .start-of .ensures) (start .pre .1 .2) (start .args .word) (at-loop .loop .last) (at-loop .loop .inv .1) (c .before .before .next .ensures .done (c .enum-told .given .1)))
 
-  next-selected-bound-requires : next-selected-lts.Need-bound-requires (next-selected-calls t) (next-selected-at t) next-selected.Post next-selected-Inv-loop next-selected-μ-loop
-  next-selected-bound-requires c κs =
-      let earlier = c .before .before .before .before .before .before .before in
-      let start = earlier .before .before .before in
-      select-parts (start .pre .1 .0) (start .pre .1 .2) .deep
+  next-selected-mul-inner : next-selected-lts.Need-mul-inner (next-selected-calls t) (next-selected-at t) next-selected.Post next-selected-Inv-loop next-selected-μ-loop
+  next-selected-mul-inner c = let h = selecting-deep (selecting-begun (selecting-turn c)) in omega arith
+
+  next-selected-array-write-inner : next-selected-lts.Need-array-write-inner (next-selected-calls t) (next-selected-at t) next-selected.Post next-selected-Inv-loop next-selected-μ-loop
+  next-selected-array-write-inner c = let h = selecting-deep (selecting-begun (selecting-turn c)) in omega arith
 
   next-selected-add-deeper : next-selected-lts.Need-add-deeper (next-selected-calls t) (next-selected-at t) next-selected.Post next-selected-Inv-loop next-selected-μ-loop
-  next-selected-add-deeper c =
-      let earlier = c .before .before .before .before .before .before .before in
-      let start = earlier .before .before .before .before in
-      let deep = select-parts (start .pre .1 .0) (start .pre .1 .2) .deep in omega arith
+  next-selected-add-deeper c = let h = selecting-deep (selecting-begun (selecting-turn c)) in omega arith
 
   next-selected-truth-requires : next-selected-lts.Need-truth-requires (next-selected-calls t) (next-selected-at t) next-selected.Post next-selected-Inv-loop next-selected-μ-loop
   next-selected-truth-requires c κs =
-      let earlier = c .before .before .before .before .before .before .before in
-      let start = earlier .before .before .before .before .before in
-      let went = c .before .before .before .before .before .next .ensures .went _ _ (c .before .before .before .step .given .1) in
+      let told = c .before in
+      let turn = selecting-turn told in
+      let start = selecting-place (selecting-begun turn) in
+      let went = told .before .before .before .next .ensures .went _ _ (told .before .step .given .1) in
       let past = positive (start .pre .1 .0) in
-      (omega (arith, start .pre .0), select-parts (start .pre .1 .0) (start .pre .1 .2) .inner _ _ (c .before .bound .ensures) (went .there))
+      (omega (arith, start .pre .0), select-parts (start .pre .1 .0) (start .pre .1 .2) .inner _ _ (turn .loop .inv .2 _) (went .there))
 
   next-selected-returns-2 : next-selected-lts.Need-returns-2 (next-selected-calls t) (next-selected-at t) next-selected.Post next-selected-Inv-loop next-selected-μ-loop
   next-selected-returns-2 c =
-      let next = c .before .before .before .before .before .before .before .next in
-      let earlier = c .before .before .before .before .before .before .before in
-      let loop = earlier .before .loop in
-      let start-of = earlier .before .before .start-of in
-      let start = earlier .before .before .before .before .before .before .before in
-      let went = next .ensures .went _ _ (c .before .before .before .before .before .step .given .1) in
-      stepped-at (select-stops (start .pre .1 .0) (start-of .ensures) (start .pre .1 .2) (start .args .word) (loop .last) (select-parts (start .pre .1 .0) (start .pre .1 .2) .deep) (loop .inv .1) went (c .before .before .before .bound .ensures) (c .before .truth .ensures) (c .if1 .taken))
+      let told = c .before .before .before in
+      let turn = selecting-turn told in
+      let place = selecting-begun turn in
+      let start = selecting-place place in
+      let went = told .before .before .before .next .ensures .went _ _ (told .before .step .given .1) in
+      stepped-at (select-stops (start .pre .1 .0) (place .start-of .ensures) (start .pre .1 .2) (start .args .word) (turn .loop .last) (selecting-deep place) (turn .loop .inv .1) went (turn .loop .inv .2 _) (c .before .truth .ensures) (c .if1 .taken))
 
   next-selected-loop-less : next-selected-lts.Need-loop-less (next-selected-calls t) (next-selected-at t) next-selected.Post next-selected-Inv-loop next-selected-μ-loop
   next-selected-loop-less c =
-      let next = c .before .before .before .before .before .before .before .next in
-      fewer-left (next .ensures .went _ _ (c .before .before .before .before .before .step .given .1))
+      let told = c .before .before .before in
+      fewer-left (told .before .before .before .next .ensures .went _ _ (told .before .step .given .1))
 
   next-selected-loop-again : next-selected-lts.Need-loop-again (next-selected-calls t) (next-selected-at t) next-selected.Post next-selected-Inv-loop next-selected-μ-loop
   next-selected-loop-again c =
-      let next = c .before .before .before .before .before .before .before .next in
-      let earlier = c .before .before .before .before .before .before .before in
-      let loop = earlier .before .loop in
-      let start-of = earlier .before .before .start-of in
-      let start = earlier .before .before .before .before .before .before .before in
-      let went = next .ensures .went _ _ (c .before .before .before .before .before .step .given .1) in
-      (went .stands, select-goes-on (start .pre .1 .0) (start-of .ensures) (start .pre .1 .2) (start .args .word) (loop .last) (select-parts (start .pre .1 .0) (start .pre .1 .2) .deep) (loop .inv .1) went (c .before .before .before .bound .ensures) (c .before .truth .ensures) (c .if1 .left))
+      let told = c .before .before .before in
+      let turn = selecting-turn told in
+      let place = selecting-begun turn in
+      let start = selecting-place place in
+      let went = told .before .before .before .next .ensures .went _ _ (told .before .step .given .1) in
+      let on = select-goes-on (start .pre .1 .0) (place .start-of .ensures) (start .pre .1 .2) (start .args .word) (turn .loop .last) (selecting-deep place) (turn .loop .inv .1) went (turn .loop .inv .2 _) (c .before .truth .ensures) (c .if1 .left) in
+      (went .stands, on, λ row. set-set (turn .loop .inner) (start .args .at .2) _ row ∙ turn .loop .inv .2 row)
 
 pub +combination+comparison+connection+next+next-selected+quantified+totalled+truth+value-spec : {M : Type 1} → statement M
 +combination+comparison+connection+next+next-selected+quantified+totalled+truth+value-spec =
@@ -762,10 +790,10 @@ pub +combination+comparison+connection+next+next-selected+quantified+totalled+tr
     (λ t. next-lts.spec (next-calls t) (next-at t) next.Post
     (next-sub-row t) (next-field-requires t) (next-next-far-requires t) (next-returns t) (next-field-requires-2 t) (next-next-instance-requires t) (next-returns-2 t) (next-next-selected-requires t) (next-returns-3 t))
     (λ t. next-selected-lts.spec (next-selected-calls t) (next-selected-at t) next-selected.Post next-selected-Inv-loop next-selected-μ-loop
-    (next-selected-sub-row t) (next-selected-start-of-requires t) (next-selected-loop-holds t) (next-selected-next-requires t) (next-selected-enum-known-step t) (next-selected-enum-told t) (next-selected-returns t) (next-selected-bound-requires t) (next-selected-add-deeper t)
+    (next-selected-sub-row t) (next-selected-start-of-requires t) (next-selected-cast-d t) (next-selected-loop-holds t) (next-selected-next-requires t) (next-selected-enum-known-step t) (next-selected-enum-told t) (next-selected-returns t) (next-selected-mul-inner t) (next-selected-array-write-inner t) (next-selected-add-deeper t)
     (next-selected-truth-requires t) (next-selected-returns-2 t) (next-selected-loop-less t) (next-selected-loop-again t))
     (λ t. quantified-lts.spec (quantified-calls t) (quantified-at t) quantified.Post quantified-Inv-loop quantified-μ-loop
-    (quantified-sub-row t) (quantified-start-of-requires t) (quantified-begin-requires t) (quantified-loop-holds t) (quantified-next-requires t) (quantified-enum-known-step t) (quantified-enum-told t) (quantified-returns t) (quantified-bound-requires t) (quantified-add-deeper t)
+    (quantified-sub-row t) (quantified-start-of-requires t) (quantified-cast-d t) (quantified-begin-requires t) (quantified-loop-holds t) (quantified-next-requires t) (quantified-enum-known-step t) (quantified-enum-told t) (quantified-returns t) (quantified-mul-inner t) (quantified-array-write-inner t) (quantified-add-deeper t)
     (quantified-truth-requires t) (quantified-stops-requires t) (quantified-returns-2 t) (quantified-loop-less t) (quantified-loop-again t))
     (λ t. totalled-lts.spec (totalled-calls t) (totalled-at t) totalled.Post totalled-Inv-loop totalled-μ-loop
     (totalled-sub-row t) (totalled-field-requires t) (totalled-begin-requires t) (totalled-loop-holds t) (totalled-next-requires t) (totalled-enum-known-step t) (totalled-enum-told t) (totalled-returns t) (totalled-weight-requires t) (totalled-add-requires t)

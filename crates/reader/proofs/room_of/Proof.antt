@@ -1,7 +1,9 @@
+-- `room_of` meets its contract: the rows lent, table after table.
 use Prim.Native.Nat.{min}
 use mathlib.Core.Path.{ap₂, refl, _∙_}
 use mathlib.Core.List.{[], _∷_}
 use borrow.Author.Needs.{needs}
+use Rattle.tables.specs.Layouts.{linesLent}
 use Rattle.reader.proofs.room_of.Statement.{statement}
 use Rattle.reader.proofs.room_of.Tie as tie
 
@@ -13,6 +15,9 @@ rows-lent-requires-2 c κs = search needs
 
 rows-lent-requires-3 : tie.Need-rows-lent-requires-3
 rows-lent-requires-3 c κs = search needs
+
+mul-rows-lent : tie.Need-mul-rows-lent
+mul-rows-lent c = search needs
 
 rows-lent-requires-4 : tie.Need-rows-lent-requires-4
 rows-lent-requires-4 c κs = search needs
@@ -30,6 +35,7 @@ rows-lent-requires-7 : tie.Need-rows-lent-requires-7
 rows-lent-requires-7 c κs = search needs
 
 returns : tie.Need-returns
+unfolding linesLent
 returns c =
     ap₂ (λ x l. x ∷ l) (c .before .before .before .before .before .before .before .rows-lent .ensures)
     (ap₂ (λ x l. x ∷ l) (c .before .before .before .before .before .before .rows-lent2 .ensures)
@@ -45,6 +51,7 @@ room-of-spec =
     rows-lent-requires
     rows-lent-requires-2
     rows-lent-requires-3
+    mul-rows-lent
     rows-lent-requires-4
     lesser-requires
     rows-lent-requires-5

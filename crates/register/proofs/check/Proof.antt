@@ -38,7 +38,7 @@ guesses-requires c κs = search needs
 
 link-fault-requires : tie.Need-link-fault-requires
 link-fault-requires c κs =
-    let told = c .before .before in
+    let told = c .before .before .before in
     let objects = told .before .before in
     let start = at-start objects in
     objects-ascend (types start) (start .args .object-count) (now (start .args .objects)) (register start .links)
@@ -53,7 +53,7 @@ returns c =
 
 returns-2 : tie.Need-returns-2
 returns-2 c =
-    let told = c .before .before .before in
+    let told = c .before .before .before .before in
     let objects = told .before .before in
     let start = at-start objects in
     found-second (objectFault (types start) (register start)) (linkFault (schema start) (register start))

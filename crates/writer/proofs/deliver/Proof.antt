@@ -14,7 +14,9 @@ returns-2 : tie.Need-returns-2
 returns-2 c = λ d s size put. put-unlent put size _ (omega arith) (c .if2 .taken)
 
 slice-aggregate-write-bytes : tie.Need-slice-aggregate-write-bytes
-slice-aggregate-write-bytes c = sym (length-take-le (c .before .before .before .before .before .before .args .end) (c .before .before .before .before .before .before .args .buffer .now) (omega (arith, c .before .before .before .before .before .before .pre)))
+slice-aggregate-write-bytes c =
+    let entry = c .before .before .before .before .before .before in
+    sym (length-take-le (entry .args .end) (entry .args .buffer .now) (omega (arith, entry .pre)))
 
 write-bytes-requires : tie.Need-write-bytes-requires
 write-bytes-requires c κs = search needs

@@ -1,13 +1,35 @@
 -- `writer::line` meets its contract: each section has its line.
-use Prim.Native.Nat.{_≤_}
-use mathlib.Core.Path.{sym}
-use borrow.Author.Tests.{eq-eqb, ne-eqb}
+use Prim.Native.Nat.{ℕ}
+use mathlib.Core.Path.{_≡_, sym, ap}
+use Rattle.tables.specs.Layouts.{Sheet, sheetOf}
 use Rattle.writer.specs.Lines.{lineOf}
 use Rattle.writer.proofs.Puts.{put-as}
-use Rattle.writer.proofs.Sections.{above-four}
+use Rattle.writer.proofs.Sections.{last-section}
 use borrow.Author.Needs.{needs}
 use Rattle.writer.proofs.line.Statement.{statement}
 use Rattle.writer.proofs.line.Tie as tie
+
+abbrev sheet : tie.Start → Sheet
+sheet s =
+    let a = s .args in
+    sheetOf (a .types .now) (a .relationships .now) (a .rules .now) (a .bodies .now) (a .objects .now) (a .links .now) (a .events .now)
+
+-- the call, from where the section is known not to be the types'
+abbrev start : tie.Else1 → tie.Start
+start c = let known = c .before .before .before .before in known .before .before .before .before .before
+
+-- and from where it is the last one
+abbrev start-last : tie.Else5 → tie.Start
+start-last c = start (c .before .before .before .before)
+
+is-last : (c : tie.Else5) → start-last c .args .section ≡ 5
+is-last c =
+    let s = start-last c in
+    last-section (s .args .section) (s .pre .there) (c .before .before .before .before .if1 .left) (c .before .before .before .if2 .left)
+    (c .before .before .if3 .left) (c .before .if4 .left) (c .if5 .left)
+
+line-at : (s : tie.Start) (k : ℕ) → s .args .section ≡ k → lineOf (sheet s) k (s .args .row) ≡ lineOf (sheet s) (s .args .section) (s .args .row)
+line-at s k e = ap (λ section. lineOf (sheet s) section (s .args .row)) (sym e)
 
 type-line-requires : tie.Need-type-line-requires
 type-line-requires c κs = search needs
@@ -17,7 +39,11 @@ same-length c = search needs
 
 returns : tie.Need-returns
 unfolding lineOf
-returns c = put-as (c .before .before .type-line .ensures) (sym (rw (eq-eqb (c .before .before .before .before .before .before .before .before .before .before .before .before .before .args .section) 0 (c .before .before .before .before .if1 .taken))))
+returns c =
+    let at = c .before .before .before .before in
+    let known = at .before .before .before .before in
+    let s = known .before .before .before .before .before in
+    put-as (c .before .before .type-line .ensures) (line-at s 0 (at .if1 .taken))
 
 relationship-line-requires : tie.Need-relationship-line-requires
 relationship-line-requires c κs = search needs
@@ -27,50 +53,62 @@ same-length-2 c = search needs
 
 returns-2 : tie.Need-returns-2
 unfolding lineOf
-returns-2 c = put-as (c .before .before .relationship-line .ensures) (sym (rw (ne-eqb (c .before .before .before .before .before .before .before .before .before .before .before .before .before .before .args .section) 0 (c .before .before .before .before .before .if1 .left), eq-eqb (c .before .before .before .before .before .before .before .before .before .before .before .before .before .before .args .section) 1 (c .before .before .before .before .if2 .taken))))
+returns-2 c =
+    let at = c .before .before .before .before in
+    put-as (c .before .before .relationship-line .ensures) (line-at (start (at .before)) 1 (at .if2 .taken))
 
 rule-line-requires : tie.Need-rule-line-requires
-rule-line-requires c κs = c .before .before .before .before .before .before .before .before .before .before .before .before .pre .whole (c .before .if3 .taken)
+rule-line-requires c κs = let at = c .before in start (at .before .before) .pre .whole (at .if3 .taken)
 
 same-length-3 : tie.Need-same-length-3
 same-length-3 c = search needs
 
 returns-3 : tie.Need-returns-3
 unfolding lineOf
-returns-3 c = put-as (c .before .before .rule-line .ensures) (sym (rw (ne-eqb (c .before .before .before .before .before .before .before .before .before .before .before .before .before .before .before .args .section) 0 (c .before .before .before .before .before .before .if1 .left), ne-eqb (c .before .before .before .before .before .before .before .before .before .before .before .before .before .before .before .args .section) 1 (c .before .before .before .before .before .if2 .left), eq-eqb (c .before .before .before .before .before .before .before .before .before .before .before .before .before .before .before .args .section) 2 (c .before .before .before .before .if3 .taken))))
+returns-3 c =
+    let at = c .before .before .before .before in
+    put-as (c .before .before .rule-line .ensures) (line-at (start (at .before .before)) 2 (at .if3 .taken))
 
 object-line-requires : tie.Need-object-line-requires
-object-line-requires c κs = (c .before .before .before .before .before .before .before .before .before .before .before .before .before .pre .cells (c .before .if4 .taken), c .before .before .before .before .before .before .before .before .before .before .before .before .before .pre .object-lent (c .before .if4 .taken))
+object-line-requires c κs =
+    let at = c .before in
+    let s = start (at .before .before .before) in
+    (s .pre .cells (at .if4 .taken), s .pre .object-lent (at .if4 .taken))
 
 same-length-4 : tie.Need-same-length-4
 same-length-4 c = search needs
 
 returns-4 : tie.Need-returns-4
 unfolding lineOf
-returns-4 c = put-as (c .before .before .object-line .ensures) (sym (rw (ne-eqb (c .before .before .before .before .before .before .before .before .before .before .before .before .before .before .before .before .args .section) 0 (c .before .before .before .before .before .before .before .if1 .left), ne-eqb (c .before .before .before .before .before .before .before .before .before .before .before .before .before .before .before .before .args .section) 1 (c .before .before .before .before .before .before .if2 .left), ne-eqb (c .before .before .before .before .before .before .before .before .before .before .before .before .before .before .before .before .args .section) 2 (c .before .before .before .before .before .if3 .left), eq-eqb (c .before .before .before .before .before .before .before .before .before .before .before .before .before .before .before .before .args .section) 3 (c .before .before .before .before .if4 .taken))))
+returns-4 c =
+    let at = c .before .before .before .before in
+    put-as (c .before .before .object-line .ensures) (line-at (start (at .before .before .before)) 3 (at .if4 .taken))
 
 link-line-requires : tie.Need-link-line-requires
-link-line-requires c κs = c .before .before .before .before .before .before .before .before .before .before .before .before .before .before .pre .link-lent (c .before .if5 .taken)
+link-line-requires c κs = let at = c .before in start (at .before .before .before .before) .pre .link-lent (at .if5 .taken)
 
 same-length-5 : tie.Need-same-length-5
 same-length-5 c = search needs
 
 returns-5 : tie.Need-returns-5
 unfolding lineOf
-returns-5 c = put-as (c .before .before .link-line .ensures) (sym (rw (ne-eqb (c .before .before .before .before .before .before .before .before .before .before .before .before .before .before .before .before .before .args .section) 0 (c .before .before .before .before .before .before .before .before .if1 .left), ne-eqb (c .before .before .before .before .before .before .before .before .before .before .before .before .before .before .before .before .before .args .section) 1 (c .before .before .before .before .before .before .before .if2 .left), ne-eqb (c .before .before .before .before .before .before .before .before .before .before .before .before .before .before .before .before .before .args .section) 2 (c .before .before .before .before .before .before .if3 .left), ne-eqb (c .before .before .before .before .before .before .before .before .before .before .before .before .before .before .before .before .before .args .section) 3 (c .before .before .before .before .before .if4 .left), eq-eqb (c .before .before .before .before .before .before .before .before .before .before .before .before .before .before .before .before .before .args .section) 4 (c .before .before .before .before .if5 .taken))))
+returns-5 c =
+    let at = c .before .before .before .before in
+    put-as (c .before .before .link-line .ensures) (line-at (start (at .before .before .before .before)) 4 (at .if5 .taken))
 
 event-line-requires : tie.Need-event-line-requires
 event-line-requires c κs =
-    let s = c .before .before .before .before .before .before .before .before .before .before .before .before .before .before in
-    let five : 5 ≤ s .args .section = above-four (s .args .section) (c .before .before .before .before .before .if1 .left) (c .before .before .before .before .if2 .left) (c .before .before .before .if3 .left) (c .before .before .if4 .left) (c .before .if5 .left) in
-    (s .pre .kind five, s .pre .event-lent five)
+    let s = start-last (c .before) in
+    (s .pre .kind (is-last (c .before)), s .pre .event-lent (is-last (c .before)))
 
 same-length-6 : tie.Need-same-length-6
 same-length-6 c = search needs
 
 returns-6 : tie.Need-returns-6
 unfolding lineOf
-returns-6 c = put-as (c .before .before .event-line .ensures) (sym (rw (ne-eqb (c .before .before .before .before .before .before .before .before .before .before .before .before .before .before .before .before .before .args .section) 0 (c .before .before .before .before .before .before .before .before .if1 .left), ne-eqb (c .before .before .before .before .before .before .before .before .before .before .before .before .before .before .before .before .before .args .section) 1 (c .before .before .before .before .before .before .before .if2 .left), ne-eqb (c .before .before .before .before .before .before .before .before .before .before .before .before .before .before .before .before .before .args .section) 2 (c .before .before .before .before .before .before .if3 .left), ne-eqb (c .before .before .before .before .before .before .before .before .before .before .before .before .before .before .before .before .before .args .section) 3 (c .before .before .before .before .before .if4 .left), ne-eqb (c .before .before .before .before .before .before .before .before .before .before .before .before .before .before .before .before .before .args .section) 4 (c .before .before .before .before .if5 .left))))
+returns-6 c =
+    let at = c .before .before .before .before in
+    put-as (c .before .before .event-line .ensures) (line-at (start-last at) 5 (is-last at))
 
 pub line-spec : {M : Type 1} → statement M
 line-spec =

@@ -1,62 +1,85 @@
 -- `writer::refused` meets its contract, by the laws of Refusals.
-use mathlib.Core.Path.{sym, _∙_}
-use Rattle.tables.specs.Refusals.{lentTables}
-use Rattle.writer.proofs.Refusals.{counts-refused, count-refused, rows-refused, row-refused, later-refused}
+use mathlib.Core.Path.{_≡_, sym, _∙_}
+use mathlib.Core.Bool.{false}
+use Rattle.tables.specs.Layouts.{Sheet, sheetOf, layouts}
+use Rattle.tables.specs.Refusals.{refusalOf, eventFault, foundOf, verdictOf}
+use Rattle.tables.specs.declared.Found.{Found}
+use Rattle.tables.specs.declared.Verdict.the-variants.{Clear}
+use Rattle.writer.proofs.Refusals.{tables-refused, event-refused, none-refused}
 use borrow.Author.Needs.{needs}
 use Rattle.writer.proofs.refused.Statement.{statement}
 use Rattle.writer.proofs.refused.Tie as tie
 
-any-too-many-requires : tie.Need-any-too-many-requires
-any-too-many-requires c κs = search needs
+abbrev sheet : tie.Start → Sheet
+sheet s =
+    let a = s .args in
+    sheetOf (a .types .now) (a .relationships .now) (a .rules .now) (a .bodies .now) (a .objects .now) (a .links .now) (a .events .now)
+
+-- the call, from the answer about all tables
+abbrev start : tie.After-check-all → tie.Start
+start c = let known = c .before .before .before .before in known .before .before .before .before
+
+-- no table is refused
+clear : (c : tie.After-enum-told) → let s = start (c .before .before) in Clear ≡ verdictOf (refusalOf layouts (s .args .n) (sheet s) false)
+clear c = sym (c .enum-told .given .1) ∙ c .before .before .check-all .ensures
+
+-- what looking for an event that is not known shows
+abbrev looked : tie.After-first-unknown → Found
+looked c = c .first-unknown .result
+
+found : (c : tie.After-first-unknown) → let s = start (c .before .before .before) in looked c ≡ foundOf (eventFault (s .args .n) (sheet s))
+found c =
+    let a = start (c .before .before .before) .args in
+    c .first-unknown .ensures (a .types .now) (a .relationships .now) (a .rules .now) (a .bodies .now) (a .objects .now) (a .links .now)
+
+check-all-requires : tie.Need-check-all-requires
+check-all-requires c κs = search needs
+
+enum-known-number : tie.Need-enum-known-number
+enum-known-number c = search needs
+
+enum-told : tie.Need-enum-told
+enum-told c = search needs
+
+first-unknown-requires : tie.Need-first-unknown-requires
+first-unknown-requires c κs = search needs
+
+enum-known-place : tie.Need-enum-known-place
+enum-known-place c = search needs
+
+enum-told-2 : tie.Need-enum-told-2
+enum-told-2 c = search needs
 
 returns : tie.Need-returns
 returns c =
-    let s = c .before .before .before .before .before .before .before .before .before in
-    counts-refused (lentTables (s .args .n) (s .args .types .now) (s .args .relationships .now) (s .args .rules .now) (s .args .bodies .now) (s .args .objects .now) (s .args .links .now)) (s .args .used) (s .args .events .now) (sym (c .before .any-too-many .ensures) ∙ c .if1 .taken)
-
-too-many-requires : tie.Need-too-many-requires
-too-many-requires c κs = search needs
+    let at-number = c .before in
+    let checked = at-number .before .before in
+    let s = start checked in
+    tables-refused (s .args .n) (sheet s) (sym (at-number .number .given .1) ∙ checked .check-all .ensures)
 
 returns-2 : tie.Need-returns-2
 returns-2 c =
-    let s = c .before .before .before .before .before .before .before .before .before .before .before in
-    count-refused (lentTables (s .args .n) (s .args .types .now) (s .args .relationships .now) (s .args .rules .now) (s .args .bodies .now) (s .args .objects .now) (s .args .links .now)) (s .args .used) (s .args .events .now) (sym (c .before .before .before .any-too-many .ensures) ∙ c .before .before .if1 .left) (sym (c .before .too-many .ensures) ∙ c .if2 .taken)
-
-any-broken-requires : tie.Need-any-broken-requires
-any-broken-requires c κs = search needs
+    let at-place = c .before in
+    let at-found = at-place .before .before in
+    let s = start (at-found .before .before .before) in
+    event-refused (s .args .n) (sheet s) (clear (at-found .before)) (sym (at-place .place .given .1) ∙ found at-found)
 
 returns-3 : tie.Need-returns-3
 returns-3 c =
-    let s = c .before .before .before .before .before .before .before .before .before .before .before .before .before in
-    rows-refused (lentTables (s .args .n) (s .args .types .now) (s .args .relationships .now) (s .args .rules .now) (s .args .bodies .now) (s .args .objects .now) (s .args .links .now)) (s .args .used) (s .args .events .now) (sym (c .before .before .before .before .before .any-too-many .ensures) ∙ c .before .before .before .before .if1 .left) (sym (c .before .before .before .too-many .ensures) ∙ c .before .before .if2 .left) (sym (c .before .any-broken .ensures (s .args .n)) ∙ c .if3 .taken)
-
-not-whole-requires : tie.Need-not-whole-requires
-not-whole-requires c κs = search needs
-
-returns-4 : tie.Need-returns-4
-returns-4 c =
-    let s = c .before .before .before .before .before .before .before .before .before .before .before .before .before .before .before in
-    row-refused (lentTables (s .args .n) (s .args .types .now) (s .args .relationships .now) (s .args .rules .now) (s .args .bodies .now) (s .args .objects .now) (s .args .links .now)) (s .args .used) (s .args .events .now) (sym (c .before .before .before .before .before .before .before .any-too-many .ensures) ∙ c .before .before .before .before .before .before .if1 .left) (sym (c .before .before .before .before .before .too-many .ensures) ∙ c .before .before .before .before .if2 .left) (sym (c .before .before .before .any-broken .ensures (s .args .n)) ∙ c .before .before .if3 .left) (sym (c .before .not-whole .ensures) ∙ c .if4 .taken)
-
-contents-requires : tie.Need-contents-requires
-contents-requires c κs = search needs
-
-returns-5 : tie.Need-returns-5
-returns-5 c =
-    let s = c .before .before .before .before .before .before .before .before .before .before .before .before .before .before .before .before in
-    c .contents .ensures ∙ later-refused (lentTables (s .args .n) (s .args .types .now) (s .args .relationships .now) (s .args .rules .now) (s .args .bodies .now) (s .args .objects .now) (s .args .links .now)) (s .args .used) (s .args .events .now) (sym (c .before .before .before .before .before .before .before .before .any-too-many .ensures) ∙ c .before .before .before .before .before .before .before .if1 .left) (sym (c .before .before .before .before .before .before .too-many .ensures) ∙ c .before .before .before .before .before .if2 .left) (sym (c .before .before .before .before .any-broken .ensures (s .args .n)) ∙ c .before .before .before .if3 .left) (sym (c .before .before .not-whole .ensures) ∙ c .before .if4 .left)
+    let at-found = c .before .before in
+    let s = start (at-found .before .before .before) in
+    none-refused (s .args .n) (sheet s) (clear (at-found .before)) (sym (c .enum-told2 .given .1) ∙ found at-found)
 
 pub refused-spec : {M : Type 1} → statement M
 refused-spec =
     tie.close
     (tie.spec
-    any-too-many-requires
+    check-all-requires
+    enum-known-number
+    enum-told
+    first-unknown-requires
+    enum-known-place
+    enum-told-2
     returns
-    too-many-requires
     returns-2
-    any-broken-requires
-    returns-3
-    not-whole-requires
-    returns-4
-    contents-requires
-    returns-5)
+    returns-3)

@@ -1,11 +1,11 @@
 -- `writer::text` meets its contract. The invariant: the sections before `section` are put.
-use native.Mathlib.Omega.{arith}
 use Prim.Native.Nat.{_-_, _≤_, _<_}
 use mathlib.Core.Path.{_≡_, sym, ap, subst, _∙_}
 use mathlib.Core.List.{_++_}
-use borrow.Author.Needs.{needs}
+use native.Mathlib.Omega.{arith}
+use Rattle.tables.specs.Layouts.{Sheet, sheetOf}
 use Rattle.writer.specs.Put.{Put}
-use Rattle.writer.specs.Lines.{lineOf, linesOf, sectionText, textOf}
+use Rattle.writer.specs.Lines.{lineOf, linesOf, sectionText, sheetText}
 use Rattle.writer.proofs.Puts.{put-nothing, put-then, put-as, put-within}
 use Rattle.writer.proofs.Sections.{lines-none, lines-more, sound-fit}
 use borrow.Author.Needs.{needs}
@@ -13,11 +13,20 @@ use Rattle.writer.proofs.text.Statement.{statement}
 use Rattle.writer.proofs.text.Tie as tie
 
 abbrev Inv-loop : tie.InvT-loop
-Inv-loop out₀ n used types relationships rules bodies objects links events next₀ section₀ out next section =
-    (section ≤ 6) × Put out₀ 0 (linesOf (sectionText n used types relationships rules bodies objects links events) section) out next
+Inv-loop out₀ n types relationships rules bodies objects links events next₀ section₀ out next section =
+    (section ≤ 6) × Put out₀ 0 (linesOf (sectionText n (sheetOf types relationships rules bodies objects links events)) section) out next
 
 abbrev μ-loop : tie.MeasureT-loop
-μ-loop out₀ n used types relationships rules bodies objects links events next₀ section₀ out next section = 6 - section
+μ-loop out₀ n types relationships rules bodies objects links events next₀ section₀ out next section = 6 - section
+
+-- the call, from the loop
+abbrev start : tie.At-loop Inv-loop μ-loop → tie.Start Inv-loop μ-loop
+start c = let known = c .before .before .before .before in known .before .before .before .before .before
+
+abbrev sheet : tie.Start Inv-loop μ-loop → Sheet
+sheet s =
+    let a = s .args in
+    sheetOf (a .types .now) (a .relationships .now) (a .rules .now) (a .bodies .now) (a .objects .now) (a .links .now) (a .events .now)
 
 loop-holds : tie.Need-loop-holds Inv-loop μ-loop
 loop-holds c = (search needs, put-as (put-nothing _ _ (omega arith)) (sym (lines-none _)))
@@ -27,9 +36,11 @@ rows-in-requires c κs = search needs
 
 section-lines-requires : tie.Need-section-lines-requires Inv-loop μ-loop
 section-lines-requires c κs =
-    let s = c .before .before .before .before .before .before .before .before .before .before .before .before in
     let at-loop = c .before .before .before in
-    (λ i h. sound-fit (s .pre) (at-loop .loop .section) i (subst (λ k. i < k) (c .before .rows-in .ensures) h), put-within (at-loop .loop .inv .1))
+    let section = at-loop .loop .section in (
+      λ i h. sound-fit (start at-loop .pre) section i (c .before .before .loop-test .taken) (subst (λ k. i < k) (c .before .rows-in .ensures) h),
+      put-within (at-loop .loop .inv .1),
+    )
 
 add-section : tie.Need-add-section Inv-loop μ-loop
 add-section c = search needs
@@ -40,23 +51,26 @@ loop-less c = search needs
 loop-again : tie.Need-loop-again Inv-loop μ-loop
 unfolding sectionText
 loop-again c =
-    let s = c .before .before .before .before .before .before .before .before .before .before .before .before .before .before .before in
-    let at-loop = c .before .before .before .before .before .before in (
+    let at-loop = c .before .before .before .before .before .before in
+    let s = start at-loop in
+    let section = at-loop .loop .section in
+    let text = sectionText (s .args .n) (sheet s) in (
       search needs,
       put-as (put-then (at-loop .loop .inv .1) (c .before .before .section-lines .ensures))
-          (ap (λ k. linesOf (sectionText (s .args .n) (s .args .used) (s .args .types .now) (s .args .relationships .now) (s .args .rules .now) (s .args .bodies .now) (s .args .objects .now) (s .args .links .now) (s .args .events .now)) (at-loop .loop .section) ++ linesOf (lineOf (s .args .types .now) (s .args .relationships .now) (s .args .rules .now) (s .args .bodies .now) (s .args .objects .now) (s .args .links .now) (s .args .events .now) (at-loop .loop .section)) k) (c .before .before .before .before .rows-in .ensures)
-          ∙ lines-more (sectionText (s .args .n) (s .args .used) (s .args .types .now) (s .args .relationships .now) (s .args .rules .now) (s .args .bodies .now) (s .args .objects .now) (s .args .links .now) (s .args .events .now)) (at-loop .loop .section)),
+          (ap (λ k. linesOf text section ++ linesOf (lineOf (sheet s) section) k) (c .before .before .before .before .rows-in .ensures)
+          ∙ lines-more text section),
     )
 
 same-length : tie.Need-same-length Inv-loop μ-loop
 same-length c = c .before .loop .inv .1 .size
 
 returns : tie.Need-returns Inv-loop μ-loop
-unfolding textOf
+unfolding sheetText
 returns c =
-    let s = c .before .before .before .before .before .before .before .before .before .before in
-    let past : c .before .loop .section ≡ 6 = omega arith in
-    put-as (c .before .loop .inv .1) (ap (linesOf (sectionText (s .args .n) (s .args .used) (s .args .types .now) (s .args .relationships .now) (s .args .rules .now) (s .args .bodies .now) (s .args .objects .now) (s .args .links .now) (s .args .events .now))) past)
+    let at-loop = c .before in
+    let s = start at-loop in
+    let past : at-loop .loop .section ≡ 6 = omega arith in
+    put-as (at-loop .loop .inv .1) (ap (linesOf (sectionText (s .args .n) (sheet s))) past)
 
 pub text-spec : {M : Type 1} → statement M
 text-spec =

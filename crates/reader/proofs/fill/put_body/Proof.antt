@@ -16,7 +16,9 @@ same-length : tie.Need-same-length
 same-length c = search needs
 
 returns : tie.Need-returns
-returns c = ((λ t w q h. c .before .before .write-body .ensures t w (subst (λ n. WholeBody (drop n (now (c .before .before .before .before .before .before .before .before .args .line))) t w) (sym (c .before .before .before .before .body-place .ensures)) h)), (λ no. absurd (no (c .before .before .before .before .before .if1 .taken))))
+returns c =
+    let entry = c .before .before .before .before .before .before .before .before in
+    ((λ t w q h. c .before .before .write-body .ensures t w (subst (λ n. WholeBody (drop n (now (entry .args .line))) t w) (sym (c .before .before .before .before .body-place .ensures)) h)), (λ no. absurd (no (c .before .before .before .before .before .if1 .taken))))
 
 returns-2 : tie.Need-returns-2
 returns-2 c = ((λ t w q h. absurd (c .if1 .left q)), (λ no. refl))

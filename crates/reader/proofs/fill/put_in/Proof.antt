@@ -16,7 +16,9 @@ same-length : tie.Need-same-length
 same-length c = search needs
 
 returns : tie.Need-returns
-returns c = rw (eq-eqb (c .before .before .before .before .before .before .before .before .args .section) (c .before .before .before .before .before .before .before .before .args .wanted) (c .before .before .before .before .before .if1 .taken)) (c .before .before .write-row .ensures)
+returns c =
+    let entry = c .before .before .before .before .before .before .before .before in
+    rw (eq-eqb (entry .args .section) (entry .args .wanted) (c .before .before .before .before .before .if1 .taken)) (c .before .before .write-row .ensures)
 
 returns-2 : tie.Need-returns-2
 returns-2 c = rw (ne-eqb (c .before .before .before .args .section) (c .before .before .before .args .wanted) (c .if1 .left))

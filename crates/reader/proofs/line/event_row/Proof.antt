@@ -21,7 +21,10 @@ no-row-requires : tie.Need-no-row-requires
 no-row-requires c κs = search needs
 
 returns : tie.Need-returns
-returns c = event-no (c .before .before .before .before .before .before .before .before .before .args .items) (c .before .before .before .before .before .before .before .words-of .ensures .0) (c .before .before .before .before .before .before .before .before .before .args .kind) (ap (eqb (c .before .before .before .before .before .before .before .before .before .args .items .count)) (c .before .before .before .before .before .fields-of .ensures)) (c .before .before .before .and .ensures) (c .before .before .and2 .ensures) (c .before .if1 .taken) (c .no-row .ensures)
+returns c =
+    let at-words-of = c .before .before .before .before .before .before .before in
+    let entry = at-words-of .before .before in
+    event-no (entry .args .items) (at-words-of .words-of .ensures .0) (entry .args .kind) (ap (eqb (entry .args .items .count)) (c .before .before .before .before .before .fields-of .ensures)) (c .before .before .before .and .ensures) (c .before .before .and2 .ensures) (c .before .if1 .taken) (c .no-row .ensures)
 
 array-read-t7 : tie.Need-array-read-t7
 array-read-t7 c = search needs
@@ -33,7 +36,10 @@ array-read-t19 : tie.Need-array-read-t19
 array-read-t19 c = search needs
 
 returns-2 : tie.Need-returns-2
-returns-2 c = event-is (c .before .before .before .before .before .before .before .before .args .items) (c .before .before .before .before .before .before .words-of .ensures .0) (c .before .before .before .before .before .before .before .before .args .kind) (ap (eqb (c .before .before .before .before .before .before .before .before .args .items .count)) (c .before .before .before .before .fields-of .ensures)) (c .before .before .and .ensures) (c .before .and2 .ensures) (c .before .before .before .before .before .before .words-of .ensures .1) (c .if1 .left)
+returns-2 c =
+    let at-words-of = c .before .before .before .before .before .before in
+    let entry = at-words-of .before .before in
+    event-is (entry .args .items) (at-words-of .words-of .ensures .0) (entry .args .kind) (ap (eqb (entry .args .items .count)) (c .before .before .before .before .fields-of .ensures)) (c .before .before .and .ensures) (c .before .and2 .ensures) (at-words-of .words-of .ensures .1) (c .if1 .left)
 
 pub event-row-spec : {M : Type 1} → statement M
 event-row-spec =

@@ -37,14 +37,18 @@ no-row-requires c κs = search needs
 
 returns-5 : tie.Need-returns-5
 unfolding flatHeld
-returns-5 c = rw (ne-eqb (c .before .before .before .before .before .before .args .name) 0 (c .before .before .before .before .before .if1 .left), ne-eqb (c .before .before .before .before .before .before .args .name) 1 (c .before .before .before .before .if2 .left), ne-eqb (c .before .before .before .before .before .before .args .name) 3 (c .before .before .before .if3 .left), ne-eqb (c .before .before .before .before .before .before .args .name) 4 (c .before .before .if4 .left), lt-leb 5 (c .before .before .before .before .before .before .args .name) (c .before .if5 .taken)) (c .no-row .ensures)
+returns-5 c =
+    let entry = c .before .before .before .before .before .before in
+    rw (ne-eqb (entry .args .name) 0 (c .before .before .before .before .before .if1 .left), ne-eqb (entry .args .name) 1 (c .before .before .before .before .if2 .left), ne-eqb (entry .args .name) 3 (c .before .before .before .if3 .left), ne-eqb (entry .args .name) 4 (c .before .before .if4 .left), lt-leb 5 (entry .args .name) (c .before .if5 .taken)) (c .no-row .ensures)
 
 event-row-requires : tie.Need-event-row-requires
 event-row-requires c κs = search needs
 
 returns-6 : tie.Need-returns-6
 unfolding flatHeld
-returns-6 c = rw (ne-eqb (c .before .before .before .before .before .before .args .name) 0 (c .before .before .before .before .before .if1 .left), ne-eqb (c .before .before .before .before .before .before .args .name) 1 (c .before .before .before .before .if2 .left), ne-eqb (c .before .before .before .before .before .before .args .name) 3 (c .before .before .before .if3 .left), ne-eqb (c .before .before .before .before .before .before .args .name) 4 (c .before .before .if4 .left), le-leb 5 (c .before .before .before .before .before .before .args .name) (c .before .if5 .left)) (c .event-row .ensures)
+returns-6 c =
+    let entry = c .before .before .before .before .before .before in
+    rw (ne-eqb (entry .args .name) 0 (c .before .before .before .before .before .if1 .left), ne-eqb (entry .args .name) 1 (c .before .before .before .before .if2 .left), ne-eqb (entry .args .name) 3 (c .before .before .before .if3 .left), ne-eqb (entry .args .name) 4 (c .before .before .if4 .left), le-leb 5 (entry .args .name) (c .before .if5 .left)) (c .event-row .ensures)
 
 pub flat-row-spec : {M : Type 1} → statement M
 flat-row-spec =

@@ -28,13 +28,18 @@ no-row-requires-3 : tie.Need-no-row-requires-3
 no-row-requires-3 c κs = search needs
 
 returns-3 : tie.Need-returns-3
-returns-3 c = λ before section f. c .no-row3 .ensures ∙ says-unnamed before (now (c .before .before .before .before .before .before .before .args .line)) (c .before .before .before .before .before .if1 .left) (c .before .before .before .if2 .left) (c .before .before .name .ensures .0) (c .before .before .name .ensures .1) (c .before .if3 .taken)
+returns-3 c =
+    let entry = c .before .before .before .before .before .before .before in
+    λ before section f. c .no-row3 .ensures ∙ says-unnamed before (now (entry .args .line)) (c .before .before .before .before .before .if1 .left) (c .before .before .before .if2 .left) (c .before .before .name .ensures .0) (c .before .before .name .ensures .1) (c .before .if3 .taken)
 
 rule-row-requires : tie.Need-rule-row-requires
 rule-row-requires c κs = search needs
 
 returns-4 : tie.Need-returns-4
-returns-4 c = λ before section f. says-rule before (now (c .before .before .before .before .before .before .before .before .args .line)) (c .before .before .before .before .before .before .if1 .left) (c .before .before .before .before .if2 .left) (c .before .before .before .name .ensures .0) (c .before .before .before .name .ensures .1) (c .before .before .if3 .left) (c .before .if4 .taken) (c .rule-row .ensures before (f .rules-are))
+returns-4 c =
+    let at-if1 = c .before .before .before .before .before .before in
+    let entry = at-if1 .before .before in
+    λ before section f. says-rule before (now (entry .args .line)) (at-if1 .if1 .left) (c .before .before .before .before .if2 .left) (c .before .before .before .name .ensures .0) (c .before .before .before .name .ensures .1) (c .before .before .if3 .left) (c .before .if4 .taken) (c .rule-row .ensures before (f .rules-are))
 
 items-requires : tie.Need-items-requires
 items-requires c κs = search needs
@@ -43,7 +48,10 @@ flat-row-requires : tie.Need-flat-row-requires
 flat-row-requires c κs = search needs
 
 returns-5 : tie.Need-returns-5
-returns-5 c = λ before section f. says-flat before (now (c .before .before .before .before .before .before .before .before .before .args .line)) (c .before .before .before .before .before .before .before .if1 .left) (c .before .before .before .before .before .if2 .left) (c .before .before .before .before .name .ensures .0) (c .before .before .before .before .name .ensures .1) (c .before .before .before .if3 .left) (c .before .before .if4 .left) f (c .flat-row .ensures ∙ ap (λ i. flatHeld i (c .before .before .before .before .name .result .place) (c .before .before .before .before .before .before .before .before .before .args .types) (c .before .before .before .before .before .before .before .before .before .args .relationships) (now (c .before .before .before .before .before .before .before .before .before .args .cells))) (c .before .items .ensures))
+returns-5 c =
+    let at-if1 = c .before .before .before .before .before .before .before in
+    let entry = at-if1 .before .before in
+    λ before section f. says-flat before (now (entry .args .line)) (at-if1 .if1 .left) (c .before .before .before .before .before .if2 .left) (c .before .before .before .before .name .ensures .0) (c .before .before .before .before .name .ensures .1) (c .before .before .before .if3 .left) (c .before .before .if4 .left) f (c .flat-row .ensures ∙ ap (λ i. flatHeld i (c .before .before .before .before .name .result .place) (entry .args .types) (entry .args .relationships) (now (entry .args .cells))) (c .before .items .ensures))
 
 pub inside-row-spec : {M : Type 1} → statement M
 inside-row-spec =

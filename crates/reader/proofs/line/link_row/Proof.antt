@@ -13,7 +13,9 @@ no-row-requires : tie.Need-no-row-requires
 no-row-requires c κs = search needs
 
 returns : tie.Need-returns
-returns c = link-no (c .before .before .before .before .before .before .before .args .items) (c .before .before .before .before .before .words-of .ensures .0) (c .before .before .and .ensures) (c .before .if1 .taken) (c .no-row .ensures)
+returns c =
+    let entry = c .before .before .before .before .before .before .before in
+    link-no (entry .args .items) (c .before .before .before .before .before .words-of .ensures .0) (c .before .before .and .ensures) (c .before .if1 .taken) (c .no-row .ensures)
 
 array-read-t10 : tie.Need-array-read-t10
 array-read-t10 c = search needs
@@ -25,7 +27,9 @@ array-read-t16 : tie.Need-array-read-t16
 array-read-t16 c = search needs
 
 returns-2 : tie.Need-returns-2
-returns-2 c = link-is (c .before .before .before .before .before .before .args .items) (c .before .before .before .before .words-of .ensures .0) (c .before .before .before .before .words-of .ensures .1) (c .before .and .ensures) (c .if1 .left)
+returns-2 c =
+    let entry = c .before .before .before .before .before .before in
+    link-is (entry .args .items) (c .before .before .before .before .words-of .ensures .0) (c .before .before .before .before .words-of .ensures .1) (c .before .and .ensures) (c .if1 .left)
 
 pub link-row-spec : {M : Type 1} → statement M
 link-row-spec =

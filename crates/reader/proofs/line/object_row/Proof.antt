@@ -1,5 +1,6 @@
 use borrow.Author.Needs.{needs}
-use mathlib.Core.Path.{refl}
+use mathlib.Core.Path.{_≡_, refl}
+use lib.ListN.{length}
 use denote.Ref.{now}
 use Rattle.reader.proofs.Rows.{object-no, object-is}
 use Rattle.reader.proofs.line.object_row.Statement.{statement}
@@ -42,10 +43,19 @@ no-row-requires : tie.Need-no-row-requires
 no-row-requires c κs = search needs
 
 returns : tie.Need-returns
-returns c = object-no (c .before .before .before .before .before .before .before .before .before .before .before .before .args .items) (c .before .before .before .before .before .before .before .before .before .before .words-of .ensures .0) (c .before .before .before .before .before .before .before .before .before .before .before .before .args .types) (now (c .before .before .before .before .before .before .before .before .before .before .before .before .args .cells)) refl (c .before .before .before .before .before .before .before .before .cells-of .ensures) (c .before .before .before .before .before .and .ensures) (c .before .before .before .before .and2 .ensures) (c .before .before .before .and3 .ensures) (c .before .before .and4 .ensures) (c .before .if1 .taken) (c .no-row .ensures)
+returns c =
+    let at-cells-of = c .before .before .before .before .before .before .before .before in
+    let at-words-of = at-cells-of .before .before in
+    let entry = at-words-of .before .before in
+    object-no (entry .args .items) (at-words-of .words-of .ensures .0) (entry .args .types) (now (entry .args .cells)) refl (at-cells-of .cells-of .ensures) (c .before .before .before .before .before .and .ensures) (c .before .before .before .before .and2 .ensures) (c .before .before .before .and3 .ensures) (c .before .before .and4 .ensures) (c .before .if1 .taken) (c .no-row .ensures)
 
 returns-2 : tie.Need-returns-2
-returns-2 c = object-is (c .before .before .before .before .before .before .before .before .before .before .before .args .items) (c .before .before .before .before .before .before .before .before .before .words-of .ensures .0) (c .before .before .before .before .before .before .before .before .before .before .before .args .types) (now (c .before .before .before .before .before .before .before .before .before .before .before .args .cells)) refl (c .before .before .before .before .before .before .before .cells-of .ensures) (c .before .before .before .before .and .ensures) (c .before .before .before .and2 .ensures) (c .before .before .and3 .ensures) (c .before .and4 .ensures) (search needs) (c .before .before .before .before .before .before .before .before .before .words-of .ensures .1) (c .if1 .left)
+returns-2 c =
+    let wide : length (c .before .before .before .before .before .before .before .before .before .before .before .args .items .values) ≡ 10 = search needs in
+    let at-cells-of = c .before .before .before .before .before .before .before in
+    let at-words-of = at-cells-of .before .before in
+    let entry = at-words-of .before .before in
+    object-is (entry .args .items) (at-words-of .words-of .ensures .0) (entry .args .types) (now (entry .args .cells)) refl (at-cells-of .cells-of .ensures) (c .before .before .before .before .and .ensures) (c .before .before .before .and2 .ensures) (c .before .before .and3 .ensures) (c .before .and4 .ensures) wide (at-words-of .words-of .ensures .1) (c .if1 .left)
 
 pub object-row-spec : {M : Type 1} → statement M
 object-row-spec =

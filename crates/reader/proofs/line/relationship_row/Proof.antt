@@ -20,7 +20,10 @@ no-row-requires : tie.Need-no-row-requires
 no-row-requires c κs = search needs
 
 returns : tie.Need-returns
-returns c = relationship-no (c .before .before .before .before .before .before .before .before .args .items) (c .before .before .before .before .before .before .words-of .ensures .0) (c .before .before .before .before .before .before .before .before .args .relationships) refl (c .before .before .before .and .ensures) (c .before .before .and2 .ensures) (c .before .if1 .taken) (c .no-row .ensures)
+returns c =
+    let at-words-of = c .before .before .before .before .before .before in
+    let entry = at-words-of .before .before in
+    relationship-no (entry .args .items) (at-words-of .words-of .ensures .0) (entry .args .relationships) refl (c .before .before .before .and .ensures) (c .before .before .and2 .ensures) (c .before .if1 .taken) (c .no-row .ensures)
 
 array-read-t18 : tie.Need-array-read-t18
 array-read-t18 c = search needs
@@ -29,7 +32,9 @@ array-read-t21 : tie.Need-array-read-t21
 array-read-t21 c = search needs
 
 returns-2 : tie.Need-returns-2
-returns-2 c = relationship-is (c .before .before .before .before .before .before .before .args .items) (c .before .before .before .before .before .words-of .ensures .0) (c .before .before .before .before .before .before .before .args .relationships) refl (c .before .before .and .ensures) (c .before .and2 .ensures) (c .before .before .before .before .before .words-of .ensures .1) (c .if1 .left)
+returns-2 c =
+    let entry = c .before .before .before .before .before .before .before in
+    relationship-is (entry .args .items) (c .before .before .before .before .before .words-of .ensures .0) (entry .args .relationships) refl (c .before .before .and .ensures) (c .before .and2 .ensures) (c .before .before .before .before .before .words-of .ensures .1) (c .if1 .left)
 
 pub relationship-row-spec : {M : Type 1} → statement M
 relationship-row-spec =

@@ -30,13 +30,26 @@ no-row-requires : tie.Need-no-row-requires
 no-row-requires c κs = search needs
 
 returns : tie.Need-returns
-returns c = λ before counted. rule-no (now (c .before .before .before .before .before .before .before .before .before .before .before .args .line)) (c .before .before .before .before .before .before .before .before .before .before .before .args .at) before counted (c .before .before .before .before .before .before .before .before .before .item-at .ensures) (c .before .before .before .before .before .before .before .before .item-at2 .ensures) (c .before .before .before .before .before .before .before .body .ensures) (c .before .before .before .before .before .and .ensures) (c .before .before .before .before .and2 .ensures) (c .before .before .before .and3 .ensures) (c .before .before .and4 .ensures) (c .before .if1 .taken) (c .no-row .ensures)
+returns c =
+    let at-body = c .before .before .before .before .before .before .before in
+    let at-item-at2 = at-body .before in
+    let at-item-at = at-item-at2 .before in
+    let entry = at-item-at .before .before in
+    λ before counted. rule-no (now (entry .args .line)) (entry .args .at) before counted (at-item-at .item-at .ensures) (at-item-at2 .item-at2 .ensures) (at-body .body .ensures) (c .before .before .before .before .before .and .ensures) (c .before .before .before .before .and2 .ensures) (c .before .before .before .and3 .ensures) (c .before .before .and4 .ensures) (c .before .if1 .taken) (c .no-row .ensures)
 
 cast-word : tie.Need-cast-word
-cast-word c = let small = rule-word (c .before .before .before .before .before .before .before .item-at2 .result) (c .before .before .before .before .before .before .body .result) (c .before .before .before .before .and .result) (c .before .before .before .and2 .ensures) (c .before .before .and3 .ensures) (c .before .and4 .ensures) (c .if1 .left) in search needs
+cast-word c =
+    let at-body = c .before .before .before .before .before .before in
+    let at-item-at2 = at-body .before in
+    let small = rule-word (at-item-at2 .item-at2 .result) (at-body .body .result) (c .before .before .before .before .and .result) (c .before .before .before .and2 .ensures) (c .before .before .and3 .ensures) (c .before .and4 .ensures) (c .if1 .left) in search needs
 
 returns-2 : tie.Need-returns-2
-returns-2 c = λ before counted. rule-is (now (c .before .before .before .before .before .before .before .before .before .before .args .line)) (c .before .before .before .before .before .before .before .before .before .before .args .at) before counted (c .before .before .before .before .before .before .before .before .item-at .ensures) (c .before .before .before .before .before .before .before .item-at2 .ensures) (c .before .before .before .before .before .before .body .ensures) (c .before .before .before .before .and .ensures) (c .before .before .before .and2 .ensures) (c .before .before .and3 .ensures) (c .before .and4 .ensures) (c .if1 .left) refl
+returns-2 c =
+    let at-body = c .before .before .before .before .before .before in
+    let at-item-at2 = at-body .before in
+    let at-item-at = at-item-at2 .before in
+    let entry = at-item-at .before .before in
+    λ before counted. rule-is (now (entry .args .line)) (entry .args .at) before counted (at-item-at .item-at .ensures) (at-item-at2 .item-at2 .ensures) (at-body .body .ensures) (c .before .before .before .before .and .ensures) (c .before .before .before .and2 .ensures) (c .before .before .and3 .ensures) (c .before .and4 .ensures) (c .if1 .left) refl
 
 pub rule-row-spec : {M : Type 1} → statement M
 rule-row-spec =

@@ -32,22 +32,33 @@ no-row-requires : tie.Need-no-row-requires
 no-row-requires c κs = search needs
 
 returns : tie.Need-returns
-returns c = type-no (c .before .before .before .before .before .before .before .before .args .items) (c .before .before .before .before .before .before .before .before .args .types) (c .before .before .before .before .before .before .or .ensures) refl (c .before .before .before .before .and .ensures) (c .before .before .before .and2 .ensures) (c .before .before .and3 .ensures) (c .before .if1 .taken) (c .no-row .ensures)
+returns c =
+    let at-or = c .before .before .before .before .before .before in
+    let entry = at-or .before .before in
+    type-no (entry .args .items) (entry .args .types) (at-or .or .ensures) refl (c .before .before .before .before .and .ensures) (c .before .before .before .and2 .ensures) (c .before .before .and3 .ensures) (c .before .if1 .taken) (c .no-row .ensures)
 
 array-read-parent-word : tie.Need-array-read-parent-word
 array-read-parent-word c = search needs
 
 parent-word-requires : tie.Need-parent-word-requires
-parent-word-requires c κs = type-parent (c .before .before .before .before .before .before .before .args .items) (c .before .before .before .before .before .before .before .args .types) (c .before .before .before .before .before .or .ensures) refl (c .before .before .before .and .ensures) (c .before .before .and2 .ensures) (c .before .and3 .ensures) (c .if1 .left)
+parent-word-requires c κs =
+    let entry = c .before .before .before .before .before .before .before in
+    type-parent (entry .args .items) (entry .args .types) (c .before .before .before .before .before .or .ensures) refl (c .before .before .before .and .ensures) (c .before .before .and2 .ensures) (c .before .and3 .ensures) (c .if1 .left)
 
 array-read-cells : tie.Need-array-read-cells
 array-read-cells c = search needs
 
 cast-cells : tie.Need-cast-cells
-cast-cells c = let small = type-cells (c .before .before .before .before .before .before .before .before .args .items) (c .before .before .before .before .before .before .before .before .args .types) (c .before .before .before .before .before .before .or .ensures) refl (c .before .before .before .before .and .ensures) (c .before .before .before .and2 .ensures) (c .before .before .and3 .ensures) (c .before .if1 .left) in search needs
+cast-cells c =
+    let at-or = c .before .before .before .before .before .before in
+    let entry = at-or .before .before in
+    let small = type-cells (entry .args .items) (entry .args .types) (at-or .or .ensures) refl (c .before .before .before .before .and .ensures) (c .before .before .before .and2 .ensures) (c .before .before .and3 .ensures) (c .before .if1 .left) in search needs
 
 returns-2 : tie.Need-returns-2
-returns-2 c = type-is (c .before .before .before .before .before .before .before .before .args .items) (c .before .before .before .before .before .before .before .before .args .types) (c .before .before .before .before .before .before .or .ensures) refl (c .before .before .before .before .and .ensures) (c .before .before .before .and2 .ensures) (c .before .before .and3 .ensures) (c .parent-word .ensures) refl (c .before .if1 .left)
+returns-2 c =
+    let at-or = c .before .before .before .before .before .before in
+    let entry = at-or .before .before in
+    type-is (entry .args .items) (entry .args .types) (at-or .or .ensures) refl (c .before .before .before .before .and .ensures) (c .before .before .before .and2 .ensures) (c .before .before .and3 .ensures) (c .parent-word .ensures) refl (c .before .if1 .left)
 
 pub type-row-spec : {M : Type 1} → statement M
 type-row-spec =

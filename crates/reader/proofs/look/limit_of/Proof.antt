@@ -1,6 +1,6 @@
 use borrow.Author.Needs.{needs}
 use mathlib.Core.Path.{refl}
-use Rattle.text.specs.Texts.{limitOf}
+use Rattle.tables.specs.Layouts.{limitOf}
 use Rattle.reader.proofs.look.limit_of.Statement.{statement}
 use Rattle.reader.proofs.look.limit_of.Tie as tie
 

@@ -5,7 +5,10 @@ use lib.ListN.{length}
 use denote.Ref.{now}
 use native.Mathlib.Omega.{arith}
 use borrow.Author.Needs.{needs}
-use Rattle.reader.proofs.Looking.{Looking, look-starts, look-follows, look-ends, look-unended, look-bad, look-full, look-goes-on, count-small, line-short, end-within}
+use borrow.Author.Tests.{not-false}
+use Rattle.text.specs.Entries.{entryIn}
+use Rattle.reader.specs.Rows.{rowHeld}
+use Rattle.reader.proofs.Looking.{Looking, LineRead, look-starts, look-follows, look-ends, look-unended, look-bad, look-full, look-goes-on, count-small, line-short, end-within}
 use Rattle.reader.proofs.look.look.Statement.{statement}
 use Rattle.reader.proofs.look.look.Tie as tie
 
@@ -25,7 +28,9 @@ refused-requires : tie.Need-refused-requires Inv-loop μ-loop
 refused-requires c κs = search needs
 
 returns : tie.Need-returns Inv-loop μ-loop
-returns c = look-unended (c .before .before .before .before .loop .inv) (search needs) (c .before .before .before .before .before .before .pre) (c .before .before .is-ended .ensures) (c .before .if1 .taken) (c .refused .ensures)
+returns c =
+    let at-pre = c .before .before .before .before .before .before in
+    look-unended (c .before .before .before .before .loop .inv) (search needs) (at-pre .pre) (c .before .before .is-ended .ensures) (c .before .if1 .taken) (c .refused .ensures)
 
 line-requires : tie.Need-line-requires Inv-loop μ-loop
 line-requires c κs = search needs
@@ -40,13 +45,31 @@ array-read-read-line-3 : tie.Need-array-read-read-line-3 Inv-loop μ-loop
 array-read-read-line-3 c = search needs
 
 read-line-requires : tie.Need-read-line-requires Inv-loop μ-loop
-read-line-requires c κs = (line-short (c .before .before .before .before .before .loop .inv) (search needs) (c .before .before .before .before .before .before .before .pre) (c .before .line .ensures), look-follows (c .before .before .before .before .before .loop .inv) .types-few)
+read-line-requires c κs =
+    let at-pre = c .before .before .before .before .before .before .before in
+    (line-short (c .before .before .before .before .before .loop .inv) (search needs) (at-pre .pre) (c .before .line .ensures), look-follows (c .before .before .before .before .before .loop .inv) .types-few)
+
+-- the line that is read at a turn of the loop
+line-read : (c : tie.After-read-line Inv-loop μ-loop) → let at-loop = c .before .before .before .before .before .before in
+    LineRead (at-loop .loop .inv) (c .read-line .result)
+line-read c =
+    let at-line = c .before .before in
+    let at-ended = at-line .before .before in
+    let at-loop = at-ended .before .before in
+    record {
+      inside = at-ended .before .loop-test .taken;
+      short = at-loop .before .before .pre;
+      ended = sym (at-ended .is-ended .ensures) ∙ not-false (at-ended .is-ended .result) (at-line .before .if1 .left);
+      held-is =
+          c .read-line .ensures (at-loop .loop .inv .before) (look-follows (at-loop .loop .inv))
+          ∙ ap (λ l. rowHeld (entryIn (at-loop .loop .inv .before) l)) (at-line .line .ensures);
+    }
 
 refused-requires-2 : tie.Need-refused-requires-2 Inv-loop μ-loop
 refused-requires-2 c κs = search needs
 
 returns-2 : tie.Need-returns-2 Inv-loop μ-loop
-returns-2 c = look-bad (c .before .before .before .before .before .before .before .before .before .loop .inv) (search needs) (c .before .before .before .before .before .before .before .before .before .before .before .pre) (c .before .before .before .before .before .before .before .is-ended .ensures) (c .before .before .before .before .before .before .if1 .left) (c .before .before .before .before .before .line .ensures) (c .before .before .before .read-line .ensures (c .before .before .before .before .before .before .before .before .before .loop .inv .before) (look-follows (c .before .before .before .before .before .before .before .before .before .loop .inv))) (c .before .if2 .taken) (c .refused2 .ensures)
+returns-2 c = look-bad (line-read (c .before .before .before)) (c .before .if2 .taken) (c .refused2 .ensures)
 
 array-read-is-full : tie.Need-array-read-is-full Inv-loop μ-loop
 array-read-is-full c = search needs
@@ -58,7 +81,10 @@ refused-requires-3 : tie.Need-refused-requires-3 Inv-loop μ-loop
 refused-requires-3 c κs = search needs
 
 returns-3 : tie.Need-returns-3 Inv-loop μ-loop
-returns-3 c = look-full (c .before .before .before .before .before .before .before .before .before .before .before .before .loop .inv) (search needs) (c .before .before .before .before .before .before .before .before .before .before .before .before .before .before .pre) (c .before .before .before .before .before .before .before .before .before .before .is-ended .ensures) (c .before .before .before .before .before .before .before .before .before .if1 .left) (c .before .before .before .before .before .before .before .before .line .ensures) (c .before .before .before .before .before .before .read-line .ensures (c .before .before .before .before .before .before .before .before .before .before .before .before .loop .inv .before) (look-follows (c .before .before .before .before .before .before .before .before .before .before .before .before .loop .inv))) (search needs) (c .before .before .is-full .ensures) (c .before .if3 .taken) (c .refused3 .ensures)
+returns-3 c =
+    let at-full = c .before .before in
+    let at-else = at-full .before .before in
+    look-full (line-read (at-else .before .before)) (at-else .if2 .left) (at-full .is-full .ensures) (c .before .if3 .taken) (c .refused3 .ensures)
 
 array-read-more-cells : tie.Need-array-read-more-cells Inv-loop μ-loop
 array-read-more-cells c = search needs
@@ -70,22 +96,38 @@ more-cells-requires : tie.Need-more-cells-requires Inv-loop μ-loop
 more-cells-requires c κs = tt
 
 more-rows-requires : tie.Need-more-rows-requires Inv-loop μ-loop
-more-rows-requires c κs = (search needs, count-small (c .before .before .before .before .before .before .before .before .before .before .before .before .before .before .loop .inv) (search needs) (c .before .before .before .before .before .before .before .before .before .before .before .before .before .before .before .before .pre) (c .before .before .before .before .before .before .before .before .before .before .before .before .is-ended .ensures) (c .before .before .before .before .before .before .before .before .before .before .before .if1 .left) (c .before .before .before .before .before .before .before .before .before .before .line .ensures) (c .before .before .before .before .before .before .before .before .read-line .ensures (c .before .before .before .before .before .before .before .before .before .before .before .before .before .before .loop .inv .before) (look-follows (c .before .before .before .before .before .before .before .before .before .before .before .before .before .before .loop .inv))) (search needs) (c .before .before .before .before .is-full .ensures) (c .before .before .before .if3 .left))
+more-rows-requires c κs =
+    let at-full = c .before .before .before .before in
+    let at-else = at-full .before .before in
+    (at-else .if2 .left, count-small (line-read (at-else .before .before)) (at-else .if2 .left) (at-full .is-full .ensures) (c .before .before .before .if3 .left))
 
 line-end-requires : tie.Need-line-end-requires Inv-loop μ-loop
 line-end-requires c κs = search needs
 
 add-at : tie.Need-add-at Inv-loop μ-loop
-add-at c = let small = end-within (c .before .before .before .before .before .before .before .before .before .before .before .before .before .before .before .before .loop .inv) (search needs) (c .before .before .before .before .before .before .before .before .before .before .before .before .before .before .before .before .before .before .pre) (c .line-end .ensures) in let short = c .before .before .before .before .before .before .before .before .before .before .before .before .before .before .before .before .before .before .pre in omega arith
+add-at c =
+    let at-loop = c .before .before .before .before .before .before .before .before .before .before .before .before .before .before .before .before in
+    let at-pre = at-loop .before .before in
+    let small = end-within (at-loop .loop .inv) (search needs) (at-pre .pre) (c .line-end .ensures) in let short = at-pre .pre in omega arith
 
 add-n : tie.Need-add-n Inv-loop μ-loop
-add-n c = let few = c .before .before .before .before .before .before .before .before .before .before .before .before .before .before .before .before .loop .inv .few in let small = c .before .before .before .before .before .before .before .before .before .before .before .before .before .before .before .before .before .before .pre in search needs
+add-n c =
+    let at-loop = c .before .before .before .before .before .before .before .before .before .before .before .before .before .before .before .before in
+    let at-pre = at-loop .before .before in
+    let few = at-loop .loop .inv .few in let small = at-pre .pre in search needs
 
 loop-less : tie.Need-loop-less Inv-loop μ-loop
 loop-less c = let end = c .line-end .ensures in search needs
 
 loop-again : tie.Need-loop-again Inv-loop μ-loop
-loop-again c = look-goes-on (c .before .before .before .before .before .before .before .before .before .before .before .before .before .before .before .before .loop .inv) (search needs) (c .before .before .before .before .before .before .before .before .before .before .before .before .before .before .before .before .before .before .pre) (c .before .before .before .before .before .before .before .before .before .before .before .before .before .before .is-ended .ensures) (c .before .before .before .before .before .before .before .before .before .before .before .before .before .if1 .left) (c .before .before .before .before .before .before .before .before .before .before .before .before .line .ensures) (c .before .before .before .before .before .before .before .before .before .before .read-line .ensures (c .before .before .before .before .before .before .before .before .before .before .before .before .before .before .before .before .loop .inv .before) (look-follows (c .before .before .before .before .before .before .before .before .before .before .before .before .before .before .before .before .loop .inv))) (search needs) (c .before .before .before .before .before .before .is-full .ensures) (c .before .before .before .before .before .if3 .left) (c .line-end .ensures) (c .before .more-rows .ensures) (c .before .before .before .more-cells .ensures)
+loop-again c =
+    let at-rows = c .before in
+    let at-cells = at-rows .before .before in
+    let at-room = at-cells .before .before in
+    let at-full = at-room .before in
+    let at-else = at-full .before .before in
+    look-goes-on (line-read (at-else .before .before)) (at-else .if2 .left) (at-full .is-full .ensures) (at-room .if3 .left)
+    (c .line-end .ensures) (at-rows .more-rows .ensures) (at-cells .more-cells .ensures)
 
 returns-4 : tie.Need-returns-4 Inv-loop μ-loop
 returns-4 c = look-ends (c .before .loop .inv) (search needs) (c .before .before .before .pre)

@@ -1,20 +1,18 @@
 -- `register::search::guesses` meets its contract, which promises nothing.
 use Prim.Native.Nat.{_-_}
-use mathlib.Core.Path.{_≡_}
 use native.Mathlib.Omega.{arith}
-use lib.ListN.{length}
 use borrow.Author.Needs.{needs}
 use Rattle.register.proofs.search.guesses.Statement.{statement}
 use Rattle.register.proofs.search.guesses.Tie as tie
 
 abbrev Inv-loop : tie.InvT-loop
-Inv-loop object-count objects table₀ row₀ table row = length table ≡ 4096
+Inv-loop object-count objects table₀ row₀ table row = Unit {0}
 
 abbrev μ-loop : tie.MeasureT-loop
 μ-loop object-count objects table₀ row₀ table row = object-count - row
 
 loop-holds : tie.Need-loop-holds Inv-loop μ-loop
-loop-holds c = search needs
+loop-holds c = tt
 
 id-of-requires : tie.Need-id-of-requires Inv-loop μ-loop
 id-of-requires c κs = search needs
@@ -28,8 +26,8 @@ cast-table c = search needs
 mul-table : tie.Need-mul-table Inv-loop μ-loop
 mul-table c = search needs
 
-array-write-table : tie.Need-array-write-table Inv-loop μ-loop
-array-write-table c = search needs
+element-write-table : tie.Need-element-write-table Inv-loop μ-loop
+element-write-table c = search needs
 
 add-row : tie.Need-add-row Inv-loop μ-loop
 add-row c = omega arith
@@ -38,7 +36,7 @@ loop-less : tie.Need-loop-less Inv-loop μ-loop
 loop-less c = omega arith
 
 loop-again : tie.Need-loop-again Inv-loop μ-loop
-loop-again c = search needs
+loop-again c = tt
 
 returns : tie.Need-returns Inv-loop μ-loop
 returns c = search needs
@@ -54,7 +52,7 @@ guesses-spec =
     cast-at
     cast-table
     mul-table
-    array-write-table
+    element-write-table
     add-row
     loop-less
     loop-again

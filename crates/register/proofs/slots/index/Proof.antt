@@ -32,7 +32,7 @@ abbrev at-loop : Read → tie.At-loop Inv-loop μ-loop
 at-loop c = at-source c .before .before .before .before
 
 abbrev start : Read → tie.Start Inv-loop μ-loop
-start c = at-loop c .before .before .before .before
+start c = at-loop c .before .before .before .before .before
 
 abbrev row : Read → ℕ
 row c = at-loop c .loop .row
@@ -68,7 +68,7 @@ guesses-requires c κs = search needs
 
 loop-holds : tie.Need-loop-holds Inv-loop μ-loop
 loop-holds c =
-    let start = c .before .before .before in
+    let start = c .before .before .before .before in
     (le-refl (start .args .link-count), slotted-none (start .pre .2) (now (start .args .index)) (start .pre .3))
 
 sub-row : tie.Need-sub-row Inv-loop μ-loop
@@ -115,7 +115,7 @@ loop-again c =
 
 returns : tie.Need-returns Inv-loop μ-loop
 returns c =
-    let start = c .before .before .before .before .before in
+    let start = c .before .before .before .before .before .before in
     let none : 2 * c .before .loop .row ≡ 0 = omega (arith, c .loop-test .left) in
     record {
       objects-ascend = start .pre .0;

@@ -5,15 +5,12 @@ use lib.ListN.{length}
 use borrow.Author.Needs.{needs}
 use Rattle.test_text.proofs.build.lines.Statement.{statement}
 use Rattle.test_text.proofs.build.lines.Tie as tie
-use Rattle.test_text.proofs.build.lines.Reads as reads
-use Rattle.test_text.proofs.build.lines.Lts as lts
-use Rattle.test_text.proofs.build.numbered.Reads as numbered-reads
 
 abbrev Inv-loop : tie.InvT-loop
-Inv-loop out₀ at name from to rest next₀ i₀ out next i = length out ≡ length out₀
+Inv-loop out₀ at head from to tail next₀ i₀ out next i = length out ≡ length out₀
 
 abbrev μ-loop : tie.MeasureT-loop
-μ-loop out₀ at name from to rest next₀ i₀ out next i = to - i
+μ-loop out₀ at head from to tail next₀ i₀ out next i = to - i
 
 loop-holds : tie.Need-loop-holds Inv-loop μ-loop
 loop-holds c = search needs

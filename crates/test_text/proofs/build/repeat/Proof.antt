@@ -5,9 +5,6 @@ use lib.ListN.{length}
 use borrow.Author.Needs.{needs}
 use Rattle.test_text.proofs.build.repeat.Statement.{statement}
 use Rattle.test_text.proofs.build.repeat.Tie as tie
-use Rattle.test_text.proofs.build.repeat.Reads as reads
-use Rattle.test_text.proofs.build.repeat.Lts as lts
-use Rattle.lexical.proofs.write_bytes.Reads as write-bytes-reads
 
 abbrev Inv-loop : tie.InvT-loop
 Inv-loop out₀ at bytes times next₀ i₀ out next i = length out ≡ length out₀

@@ -24,7 +24,10 @@ same-length c = search needs
 
 returns : tie.Need-returns
 unfolding relationshipLine
-returns c = put-as (c .before .before .row-line .ensures) (ap₂ (λ p q. rowLine 1 (c .before .before .before .before .before .before .before .before .before .args .row ∷ p ∷ q ∷ [])) (c .before .before .before .before .before .before .word .ensures) (c .before .before .before .before .before .word2 .ensures))
+returns c =
+    let at-word = c .before .before .before .before .before .before in
+    let entry = at-word .before .before .before in
+    put-as (c .before .before .row-line .ensures) (ap₂ (λ p q. rowLine 1 (entry .args .row ∷ p ∷ q ∷ [])) (at-word .word .ensures) (c .before .before .before .before .before .word2 .ensures))
 
 pub relationship-line-spec : {M : Type 1} → statement M
 relationship-line-spec =

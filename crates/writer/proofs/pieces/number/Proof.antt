@@ -19,7 +19,9 @@ same-length : tie.Need-same-length
 same-length c = search needs
 
 returns : tie.Need-returns
-returns c = put-as (put-then (put-of (c .before .before .before .before .before .before .write-bytes .ensures)) (put-of (c .before .before .write-number .ensures))) (number-token _ (omega arith))
+returns c =
+    let at-write-bytes = c .before .before .before .before .before .before in
+    put-as (put-then (put-of (at-write-bytes .write-bytes .ensures)) (put-of (c .before .before .write-number .ensures))) (number-token _ (omega arith))
 
 pub number-spec : {M : Type 1} → statement M
 number-spec =

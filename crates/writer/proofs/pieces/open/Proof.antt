@@ -31,15 +31,21 @@ write-bytes-requires c κs = search needs
 
 sub-write-bytes : tie.Need-sub-write-bytes
 unfolding starts
-sub-write-bytes c = named _ (c .before .before .before .before .before .before .before .pre) .ascends
+sub-write-bytes c =
+    let at-pre = c .before .before .before .before .before .before .before in
+    named _ (at-pre .pre) .ascends
 
 part-write-bytes-start : tie.Need-part-write-bytes-start
 unfolding starts
-part-write-bytes-start c = let h = named _ (c .before .before .before .before .before .before .before .before .pre) in omega arith
+part-write-bytes-start c =
+    let at-pre = c .before .before .before .before .before .before .before .before in
+    let h = named _ (at-pre .pre) in omega arith
 
 part-write-bytes-end : tie.Need-part-write-bytes-end
 unfolding starts
-part-write-bytes-end c = let h = named _ (c .before .before .before .before .before .before .before .before .pre) in omega arith
+part-write-bytes-end c =
+    let at-pre = c .before .before .before .before .before .before .before .before in
+    let h = named _ (at-pre .pre) in omega arith
 
 write-bytes-requires-2 : tie.Need-write-bytes-requires-2
 write-bytes-requires-2 c κs = search needs
@@ -49,7 +55,10 @@ same-length c = search needs
 
 returns : tie.Need-returns
 unfolding starts letters
-returns c = put-as (put-then (put-of (c .before .before .before .before .before .before .before .before .write-bytes .ensures)) (put-of (c .before .before .write-bytes2 .ensures))) (ap (λ l. 40 ∷ l) (named _ (c .before .before .before .before .before .before .before .before .before .before .before .before .pre) .is))
+returns c =
+    let at-write-bytes = c .before .before .before .before .before .before .before .before in
+    let at-pre = at-write-bytes .before .before .before .before in
+    put-as (put-then (put-of (at-write-bytes .write-bytes .ensures)) (put-of (c .before .before .write-bytes2 .ensures))) (ap (λ l. 40 ∷ l) (named _ (at-pre .pre) .is))
 
 pub open-spec : {M : Type 1} → statement M
 open-spec =

@@ -19,7 +19,9 @@ same-length c = search needs
 
 returns : tie.Need-returns
 unfolding spellToken
-returns c = put-then (put-of (c .before .before .before .before .before .before .write-bytes .ensures)) (c .before .before .«open» .ensures)
+returns c =
+    let at-write-bytes = c .before .before .before .before .before .before in
+    put-then (put-of (at-write-bytes .write-bytes .ensures)) (c .before .before .«open» .ensures)
 
 pub open-inner-spec : {M : Type 1} → statement M
 open-inner-spec =

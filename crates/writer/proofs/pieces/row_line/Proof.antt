@@ -9,7 +9,9 @@ open-requires : tie.Need-open-requires
 open-requires c κs = search needs
 
 numbers-requires : tie.Need-numbers-requires
-numbers-requires c κs = (c .before .before .before .before .before .before .before .pre .1, put-within (c .before .before .before .«open» .ensures))
+numbers-requires c κs =
+    let at-pre = c .before .before .before .before .before .before .before in
+    (at-pre .pre .1, put-within (c .before .before .before .«open» .ensures))
 
 end-line-requires : tie.Need-end-line-requires
 end-line-requires c κs = search needs
@@ -18,7 +20,10 @@ same-length : tie.Need-same-length
 same-length c = search needs
 
 returns : tie.Need-returns
-returns c = put-as (put-then (put-then (c .before .before .before .before .before .before .before .before .before .before .«open» .ensures) (c .before .before .before .before .before .before .numbers .ensures)) (c .before .before .end-line .ensures)) (row-line _ _)
+returns c =
+    let at-numbers = c .before .before .before .before .before .before in
+    let entry = at-numbers .before .before .before .before in
+    put-as (put-then (put-then (entry .«open» .ensures) (at-numbers .numbers .ensures)) (c .before .before .end-line .ensures)) (row-line _ _)
 
 pub row-line-spec : {M : Type 1} → statement M
 row-line-spec =

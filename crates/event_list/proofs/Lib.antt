@@ -1,0 +1,5 @@
+-- Laws of a rule's event list.
+--   Marks      marks added to marks
+--   Nodes      what a form lists, by its row and its parts
+pub mod Marks
+pub mod Nodes

@@ -1,0 +1,3 @@
+// The event list of a rule: document 01's reach rules without objects.
+mod body;
+mod mark;

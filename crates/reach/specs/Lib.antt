@@ -1,0 +1,9 @@
+-- The reach rules as the code asks them.
+--   Questions   what a leaf asks of the events that name an object
+--   Able        what the reach rules are given of a body
+--   Moves       whether a form of a body moves in a direction of a set
+--   Traces      what is kept of a batch: the rows that its events name, and chains of the events of a row
+pub mod Questions
+pub mod Traces
+pub mod Moves
+pub mod Able

@@ -1,0 +1,3 @@
+// Document 01's reach rules over the register at the end of a batch.
+pub mod ask;
+pub mod forward;

@@ -1,0 +1,52 @@
+-- `judge::clear` is safe and ends.
+use Prim.Native.Nat.{_-_}
+use mathlib.Core.Path.{_≡_}
+use lib.ListN.{length}
+use borrow.Author.Needs.{needs}
+use Rattle.test_text.proofs.judge.clear.Statement.{statement}
+use Rattle.test_text.proofs.judge.clear.Tie as tie
+
+abbrev Inv-loop : tie.InvT-loop
+Inv-loop all₀ i₀ all i = length all ≡ length all₀
+
+abbrev μ-loop : tie.MeasureT-loop
+μ-loop all₀ i₀ all i = length all₀ - i
+
+loop-holds : tie.Need-loop-holds Inv-loop μ-loop
+loop-holds c = search needs
+
+mul-all : tie.Need-mul-all Inv-loop μ-loop
+mul-all c = search needs
+
+slice-write-all : tie.Need-slice-write-all Inv-loop μ-loop
+slice-write-all c = search needs
+
+add-i : tie.Need-add-i Inv-loop μ-loop
+add-i c = search needs
+
+loop-less : tie.Need-loop-less Inv-loop μ-loop
+loop-less c = search needs
+
+loop-again : tie.Need-loop-again Inv-loop μ-loop
+loop-again c = search needs
+
+same-length : tie.Need-same-length Inv-loop μ-loop
+same-length c = search needs
+
+returns : tie.Need-returns Inv-loop μ-loop
+returns c = search needs
+
+pub clear-spec : {M : Type 1} → statement M
+clear-spec =
+    tie.close
+    (tie.spec
+    Inv-loop
+    μ-loop
+    loop-holds
+    mul-all
+    slice-write-all
+    add-i
+    loop-less
+    loop-again
+    same-length
+    returns)

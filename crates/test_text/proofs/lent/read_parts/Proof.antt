@@ -1,0 +1,221 @@
+-- `lent::read_parts` is safe and ends.
+use borrow.Author.Needs.{needs}
+use borrow.Author.Needs.{needs}
+use Rattle.test_text.proofs.lent.read_parts.Statement.{statement}
+use Rattle.test_text.proofs.lent.read_parts.Tie as tie
+
+element-copy-out-lesser : tie.Need-element-copy-out-lesser
+element-copy-out-lesser c = search needs
+
+lesser-requires : tie.Need-lesser-requires
+lesser-requires c κs = search needs
+
+element-copy-out-lesser-2 : tie.Need-element-copy-out-lesser-2
+element-copy-out-lesser-2 c = search needs
+
+lesser-requires-2 : tie.Need-lesser-requires-2
+lesser-requires-2 c κs = search needs
+
+element-copy-out-lesser-3 : tie.Need-element-copy-out-lesser-3
+element-copy-out-lesser-3 c = search needs
+
+lesser-requires-3 : tie.Need-lesser-requires-3
+lesser-requires-3 c κs = search needs
+
+element-copy-out-lesser-4 : tie.Need-element-copy-out-lesser-4
+element-copy-out-lesser-4 c = search needs
+
+lesser-requires-4 : tie.Need-lesser-requires-4
+lesser-requires-4 c κs = search needs
+
+element-copy-out-lesser-5 : tie.Need-element-copy-out-lesser-5
+element-copy-out-lesser-5 c = search needs
+
+lesser-requires-5 : tie.Need-lesser-requires-5
+lesser-requires-5 c κs = search needs
+
+element-copy-out-lesser-6 : tie.Need-element-copy-out-lesser-6
+element-copy-out-lesser-6 c = search needs
+
+lesser-requires-6 : tie.Need-lesser-requires-6
+lesser-requires-6 c κs = search needs
+
+element-copy-out-lesser-7 : tie.Need-element-copy-out-lesser-7
+element-copy-out-lesser-7 c = search needs
+
+lesser-requires-7 : tie.Need-lesser-requires-7
+lesser-requires-7 c κs = search needs
+
+mul-read : tie.Need-mul-read
+mul-read c = search needs
+
+sub-read : tie.Need-sub-read
+sub-read c = search needs
+
+part-read-start : tie.Need-part-read-start
+part-read-start c = search needs
+
+part-read-end : tie.Need-part-read-end
+part-read-end c = search needs
+
+mul-read-2 : tie.Need-mul-read-2
+mul-read-2 c = search needs
+
+sub-read-2 : tie.Need-sub-read-2
+sub-read-2 c = search needs
+
+part-read-start-2 : tie.Need-part-read-start-2
+part-read-start-2 c = search needs
+
+part-read-end-2 : tie.Need-part-read-end-2
+part-read-end-2 c = search needs
+
+mul-read-3 : tie.Need-mul-read-3
+mul-read-3 c = search needs
+
+sub-read-3 : tie.Need-sub-read-3
+sub-read-3 c = search needs
+
+part-read-start-3 : tie.Need-part-read-start-3
+part-read-start-3 c = search needs
+
+part-read-end-3 : tie.Need-part-read-end-3
+part-read-end-3 c = search needs
+
+mul-read-4 : tie.Need-mul-read-4
+mul-read-4 c = search needs
+
+sub-read-4 : tie.Need-sub-read-4
+sub-read-4 c = search needs
+
+part-read-start-4 : tie.Need-part-read-start-4
+part-read-start-4 c = search needs
+
+part-read-end-4 : tie.Need-part-read-end-4
+part-read-end-4 c = search needs
+
+mul-read-5 : tie.Need-mul-read-5
+mul-read-5 c = search needs
+
+sub-read-5 : tie.Need-sub-read-5
+sub-read-5 c = search needs
+
+part-read-start-5 : tie.Need-part-read-start-5
+part-read-start-5 c = search needs
+
+part-read-end-5 : tie.Need-part-read-end-5
+part-read-end-5 c = search needs
+
+mul-read-6 : tie.Need-mul-read-6
+mul-read-6 c = search needs
+
+sub-read-6 : tie.Need-sub-read-6
+sub-read-6 c = search needs
+
+part-read-start-6 : tie.Need-part-read-start-6
+part-read-start-6 c = search needs
+
+part-read-end-6 : tie.Need-part-read-end-6
+part-read-end-6 c = search needs
+
+mul-read-7 : tie.Need-mul-read-7
+mul-read-7 c = search needs
+
+sub-read-7 : tie.Need-sub-read-7
+sub-read-7 c = search needs
+
+part-read-start-7 : tie.Need-part-read-start-7
+part-read-start-7 c = search needs
+
+part-read-end-7 : tie.Need-part-read-end-7
+part-read-end-7 c = search needs
+
+read-requires : tie.Need-read-requires
+read-requires c κs = search needs
+
+-- where the bodies come home, and the tables before them
+abbrev bodies-home : tie.After-slice-known14 → tie.After-bodies
+bodies-home c = c .before .before .before .before .before .before .before
+
+abbrev types-home : tie.After-slice-known14 → tie.After-types
+types-home c = bodies-home c .before .before .before .before .before .before
+
+same-length : tie.Need-same-length
+same-length c = let h = types-home c .types .given in search needs
+
+same-length-2 : tie.Need-same-length-2
+same-length-2 c = let h = bodies-home c .before .before .before .before .relationships .given in search needs
+
+same-length-3 : tie.Need-same-length-3
+same-length-3 c = let h = bodies-home c .before .before .rules .given in search needs
+
+same-length-4 : tie.Need-same-length-4
+same-length-4 c = search needs
+
+same-length-5 : tie.Need-same-length-5
+same-length-5 c = search needs
+
+same-length-6 : tie.Need-same-length-6
+same-length-6 c = search needs
+
+same-length-7 : tie.Need-same-length-7
+same-length-7 c = search needs
+
+returns : tie.Need-returns
+returns c = search needs
+
+pub read-parts-spec : {M : Type 1} → statement M
+read-parts-spec =
+    tie.close
+    (tie.spec
+    element-copy-out-lesser
+    lesser-requires
+    element-copy-out-lesser-2
+    lesser-requires-2
+    element-copy-out-lesser-3
+    lesser-requires-3
+    element-copy-out-lesser-4
+    lesser-requires-4
+    element-copy-out-lesser-5
+    lesser-requires-5
+    element-copy-out-lesser-6
+    lesser-requires-6
+    element-copy-out-lesser-7
+    lesser-requires-7
+    mul-read
+    sub-read
+    part-read-start
+    part-read-end
+    mul-read-2
+    sub-read-2
+    part-read-start-2
+    part-read-end-2
+    mul-read-3
+    sub-read-3
+    part-read-start-3
+    part-read-end-3
+    mul-read-4
+    sub-read-4
+    part-read-start-4
+    part-read-end-4
+    mul-read-5
+    sub-read-5
+    part-read-start-5
+    part-read-end-5
+    mul-read-6
+    sub-read-6
+    part-read-start-6
+    part-read-end-6
+    mul-read-7
+    sub-read-7
+    part-read-start-7
+    part-read-end-7
+    read-requires
+    same-length
+    same-length-2
+    same-length-3
+    same-length-4
+    same-length-5
+    same-length-6
+    same-length-7
+    returns)

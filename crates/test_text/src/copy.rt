@@ -1,0 +1,45 @@
+// The words of a table, copied out of those of a case and back, for each size of a table.
+use crate::lent::Words;
+use cases::sheet::base;
+use cases::sheet::give;
+use cases::sheet::take;
+
+pub fn take64(all: &Words, table: u32, out: &mut [u32; 64]) {
+    take(all, base(table), out);
+}
+
+pub fn give64(all: &mut Words, table: u32, words: &[u32; 64]) {
+    give(all, base(table), words);
+}
+
+pub fn take1024(all: &Words, table: u32, out: &mut [u32; 1024]) {
+    take(all, base(table), out);
+}
+
+pub fn give1024(all: &mut Words, table: u32, words: &[u32; 1024]) {
+    give(all, base(table), words);
+}
+
+pub fn take8192(all: &Words, table: u32, out: &mut [u32; 8192]) {
+    take(all, base(table), out);
+}
+
+pub fn give8192(all: &mut Words, table: u32, words: &[u32; 8192]) {
+    give(all, base(table), words);
+}
+
+pub fn take10240(all: &Words, table: u32, out: &mut [u32; 10240]) {
+    take(all, base(table), out);
+}
+
+pub fn give10240(all: &mut Words, table: u32, words: &[u32; 10240]) {
+    give(all, base(table), words);
+}
+
+pub fn take12288(all: &Words, table: u32, out: &mut [u32; 12288]) {
+    take(all, base(table), out);
+}
+
+pub fn give12288(all: &mut Words, table: u32, words: &[u32; 12288]) {
+    give(all, base(table), words);
+}
