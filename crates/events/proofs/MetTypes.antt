@@ -1,26 +1,31 @@
 -- The type that an event's object had when the event came: by the row that a search finds, and what it says of *under*.
 use Prim.Native.Nat.{ℕ, zero, suc, _≤_, _<_}
-use mathlib.Core.Path.{_≡_, refl, sym, ap, _∙_}
-use mathlib.Core.Logic.{_⊎_, inl, inr}
+use mathlib.Core.Path.{_≡_, refl, sym, ap, subst, _∙_}
+use mathlib.Core.Logic.{_⊎_, inl, inr, ⊎-elim}
 use mathlib.Core.Bool.{_&&_}
-use mathlib.Core.List.{List}
+use mathlib.Core.List.{List, [], _∷_, map, List·Memᴰ·not-nil, List·Memᴰ·cases-cons}
 use mathlib.Core.Option.{Option, none, some, Option·map}
 use native.Mathlib.Nat.{le-refl}
 use native.Mathlib.Omega.{arith}
 use lib.Dec.{ltb}
-use lib.ListN.{length}
+use lib.ListN.{length, getD, length-map, List·getD-map}
+use lib.Seq.{getD-take}
 use mir.Facts.{ltb-yes}
 use borrow.Author.Tests.{lt-ltb}
 use Rattle.meaning.specs.Limits.{maxTypes}
-use Rattle.meaning.specs.Lists.{holds}
+use Rattle.meaning.specs.Lists.{holds, _∈_}
 use Rattle.meaning.specs.Schema.{Schema, knownType, under}
 use Rattle.meaning.specs.Register.{Object, Link, Register, objectAt, isUnder}
-use Rattle.meaning.specs.Events.{Event}
+use Rattle.meaning.specs.Events.{Event, Lent, apply, batchRefusal}
+use Rattle.meaning.specs.Reach.{Step, stepAt, stepsOf}
+use Rattle.meaning.proofs.Schemas.{TypesFit}
 use Rattle.meaning.proofs.Registers.{RegisterFits, object-at, object-parts}
+use Rattle.meaning.proofs.Effects.{apply-fits}
+use Rattle.meaning.proofs.Steps.{Unrefused, unrefused}
 use Rattle.tables.specs.Columns.{objectRow, noEvent, eventOf}
 use Rattle.register.specs.Tables.{objectsWith, objectPlace}
 use Rattle.register.proofs.Searches.{object-row}
-use Rattle.events.specs.Runs.{objectOf, noType, typeOf, typeIn, metType}
+use Rattle.events.specs.Runs.{objectOf, noType, typeOf, typeIn, metType, metBy, RunLeft}
 use Rattle.events.proofs.Fields.{kind-unknown, kind-set, kind-join, kind-part, is-insert, is-delete, is-special, is-general}
 
 module _ (n : ℕ) (objects : List ℕ) (ls : List Link) (id : ℕ) where
@@ -93,3 +98,38 @@ module _ (S : Schema) (few : length (S .types) ≤ maxTypes) (g : Register) (fit
   pub met-under : (e : Event) (id : ℕ) → objectOf e ≡ some id → (t : ℕ) → isUnder (S .types) g id t ≡ (ltb (metType g e) noType && under (S .types) (metType g e) t)
   met-under e id q t =
       type-under id t ∙ ap (λ u. ltb u noType && under (S .types) u t) (sym (met-named g e id q))
+
+-- ---- of a batch, step by step
+
+getD-default : (l : List ℕ) (i : ℕ) → i < length l → (d e : ℕ) → getD l i d ≡ getD l i e
+getD-default [] i h d e = absurd (omega arith)
+getD-default (x ∷ xs) zero h d e = refl
+getD-default (x ∷ xs) (suc i) h d e = getD-default xs i (omega arith) d e
+
+length-steps : (S : Schema) (g : Register) (es : List Event) → length (stepsOf S g es) ≡ length es
+unfolding stepsOf
+length-steps S g [] = refl
+length-steps S g (e ∷ es) = ap suc (length-steps S (apply S e g) es)
+
+-- the type that stands at an event's number is the one that its step met
+pub met-at : {S : Schema} {lent : Lent} {g : Register} {es : List Event} {n : ℕ} {objects : List ℕ} {m : ℕ} {links met : List ℕ} → RunLeft S lent g es n objects m links met
+    → (i : ℕ) → i < length es → (d : Step) → getD met i 0 ≡ metBy (getD (stepsOf S g es) i d)
+met-at {S} {g = g} {es = es} {met = met} left i h d =
+    let steps = stepsOf S g es in
+    let there : i < length (map metBy steps) = omega (arith, length-map steps metBy, length-steps S g es) in
+    sym (getD-take (length es) met i 0 h) ∙ ap (λ l. getD l i 0) (left .met-types)
+    ∙ getD-default (map metBy steps) i there 0 (metBy d) ∙ List·getD-map metBy steps i d
+
+module _ (S : Schema) (types-fit : TypesFit (S .types)) (lent : Lent) where
+  -- every step of a batch that is not refused met a register that fits
+  pub step-fits : (g : Register) (es : List Event) → RegisterFits S g → Unrefused S lent g es → (s : Step) → s ∈ stepsOf S g es → RegisterFits S (s .met)
+  unfolding stepsOf
+  step-fits g [] f u s m = absurd (List·Memᴰ·not-nil m)
+  step-fits g (e ∷ es) f u s m =
+      ⊎-elim (λ (q : s ≡ stepAt g e). subst (λ t. RegisterFits S (t .met)) (sym q) f)
+      (λ k. step-fits (apply S e g) es (apply-fits S types-fit lent g f e (u .0)) (u .1) s k) (List·Memᴰ·cases-cons m)
+
+  -- so its met type says whether its object was under t
+  pub step-under : length (S .types) ≤ maxTypes → (g : Register) (es : List Event) → RegisterFits S g → batchRefusal S lent g es ≡ none → (s : Step) → s ∈ stepsOf S g es
+      → (id : ℕ) → objectOf (s .event) ≡ some id → (t : ℕ) → isUnder (S .types) (s .met) id t ≡ (ltb (metBy s) noType && under (S .types) (metBy s) t)
+  step-under few g es f r s m id q t = met-under S few (s .met) (step-fits g es f (unrefused S lent g es r) s m) (s .event) id q t

@@ -7,7 +7,7 @@ ghost use Rattle.meaning.specs.Schema.{Schema, Relationship, cellsOf};
 ghost use Rattle.meaning.specs.Events.{insert, delete, set, join, part, special, general, linkOf};
 ghost use mathlib.Core.List.{List};
 ghost use Rattle.rows.specs.Rows.{signed};
-ghost use Rattle.tables.specs.Columns.{typesOf, noEvent, eventOf};
+ghost use Rattle.tables.specs.Columns.{typesOf, noEvent, eventOf, eventRow};
 ghost use mathlib.Core.Path.{_≡_};
 ghost use Rattle.events.specs.Effects.{Can, Applied, ObjectsApplied, LinksApplied, CanInsert, CanChange, CanJoin, CanPart};
 
@@ -141,4 +141,39 @@ pub fn effect(
         objects: n,
         links: m,
     }
+}
+
+// What the event in a row of the table of events does. It is one that is not refused.
+pub fn row_effect(
+    type_count: u32,
+    types: &[u32],
+    held: Held,
+    objects: &mut [u32],
+    links: &mut [u32],
+    events: &[u32],
+    row: u32,
+) -> Held
+    requires { ⌜ (Can (typesOf «type_count» (now types)) (held .objects) (now objects) (held .links) (now links) (eventRow (now events) row))
+        × (eventRow (now events) row ≡ noEvent → ⊥) ⌝ }
+    ensures { λ r. ⌜ ((rs : List Relationship) →
+        Applied (record { types = typesOf «type_count» (now (types .entry)); relationships = rs }) (eventRow (now (events .entry)) row)
+        (held .objects) (now (objects .entry)) (held .links) (now (links .entry))
+        (r .objects) (now (objects .exit)) (r .links) (now (links .exit))) ⌝ }
+{
+    let kind = rows::word(events, 4, row, 0);
+    let x = rows::word(events, 4, row, 1);
+    let y = rows::word(events, 4, row, 2);
+    let z = rows::word(events, 4, row, 3);
+    effect(
+        type_count,
+        types,
+        held.objects,
+        objects,
+        held.links,
+        links,
+        kind,
+        x,
+        y,
+        z,
+    )
 }

@@ -76,21 +76,14 @@ pub fn step(
             held: held,
         },
         Found::Nothing => {
-            let kind = rows::word(events, 4, row, 0);
-            let x = rows::word(events, 4, row, 1);
-            let y = rows::word(events, 4, row, 2);
-            let z = rows::word(events, 4, row, 3);
-            let after = effect(
+            let after = effects::row_effect(
                 type_count,
                 types,
-                object_count,
+                held,
                 &mut *objects,
-                link_count,
                 &mut *links,
-                kind,
-                x,
-                y,
-                z,
+                events,
+                row,
             );
             Stepped {
                 refused: Found::Nothing,

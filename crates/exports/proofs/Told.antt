@@ -2,11 +2,10 @@
 use Prim.Native.Nat.{ℕ}
 use mathlib.Core.Path.{_≡_, refl, sym, ap, _∙_}
 use mathlib.Core.List.{List, [], _∷_}
-use mathlib.Core.Option.{Option, none, some}
 use native.Mathlib.Omega.{arith}
-use Rattle.meaning.specs.Events.{Refusal}
-use Rattle.tables.specs.Refusals.{Tables, verdictOf}
-use Rattle.tables.specs.declared.Verdict.{Verdict}
+use Rattle.tables.specs.Layouts.{Sheet}
+use Rattle.tables.specs.Refusals.{verdictOf}
+use Rattle.tables.specs.declared.Counts.{Counts}
 use Rattle.tables.specs.declared.Verdict.the-variants.{Clear, Refused}
 use Rattle.events.specs.declared.Ran.{Ran}
 use Rattle.lent_run.specs.Lent.{LentRun}
@@ -15,15 +14,15 @@ use Rattle.exports.specs.Runs.{RunTold}
 clear-refused : {n p : ℕ} → Clear ≡ Refused n p → ⊥
 clear-refused e = let z : _≡_ {A = ℕ} 0 1 = cc in omega arith
 
-module _ {t : Tables} {scratchObjects scratchLinks : List ℕ} {count : ℕ} {events : List ℕ} {ran : Ran} {objects links : List ℕ} (done : LentRun t scratchObjects scratchLinks count events ran objects links) where
-  pub told-clear : ran .verdict ≡ Clear → RunTold t scratchObjects scratchLinks count events (0 ∷ ran .held .objects ∷ ran .held .links ∷ []) objects links
+module _ {n : Counts} {s : Sheet} {scratchObjects scratchLinks : List ℕ} {ran : Ran} {objects links : List ℕ} (done : LentRun n s scratchObjects scratchLinks ran objects links) where
+  pub told-clear : ran .verdict ≡ Clear → RunTold n s scratchObjects scratchLinks (0 ∷ ran .held .objects ∷ ran .held .links ∷ []) objects links
   told-clear e =
       record {
         refused = λ r q. absurd (clear-refused (sym e ∙ done .verdict-is ∙ ap verdictOf q));
         left = λ q. record { objectCount = ran .held .objects; linkCount = ran .held .links; words-are = refl; end = done .left e .end };
       }
 
-  pub told-refused : {number place : ℕ} → ran .verdict ≡ Refused number place → RunTold t scratchObjects scratchLinks count events (1 ∷ number ∷ place ∷ []) objects links
+  pub told-refused : {number place : ℕ} → ran .verdict ≡ Refused number place → RunTold n s scratchObjects scratchLinks (1 ∷ number ∷ place ∷ []) objects links
   told-refused e =
       record {
         refused = λ r q. let same = sym e ∙ done .verdict-is ∙ ap verdictOf q in cc;

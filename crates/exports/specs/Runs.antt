@@ -4,18 +4,24 @@ use mathlib.Core.Path.{_≡_}
 use mathlib.Core.List.{List, [], _∷_}
 use mathlib.Core.Option.{none, some}
 use Rattle.meaning.specs.Events.{Refusal, after}
-use Rattle.tables.specs.Columns.{registerOf, eventsOf}
-use Rattle.tables.specs.Refusals.{Tables, bookOf, registerIn}
+use Rattle.tables.specs.Layouts.{Sheet}
+use Rattle.tables.specs.Columns.{registerOf, bookOf, registerIn, batchIn}
+use Rattle.tables.specs.declared.Counts.{Counts}
 use Rattle.lent_run.specs.Lent.{runRefusal}
 
 -- the scratch is the register after the batch, and the words are 0 and its used rows
-pub record Left (t : Tables) (count : ℕ) (events words objects links : List ℕ) : Type 0 where
+pub record Left (n : Counts) (s : Sheet) (words objects links : List ℕ) : Type 0 where
   pub objectCount : ℕ
   pub linkCount : ℕ
   pub words-are : words ≡ 0 ∷ objectCount ∷ linkCount ∷ []
-  pub end : registerOf objectCount objects linkCount links ≡ after ((bookOf t) .schema) (registerIn t) (eventsOf count events)
+  pub end : registerOf objectCount objects linkCount links ≡ after ((bookOf n s) .schema) (registerIn n s) (batchIn n s)
 
 -- three words: 0 and the used rows of objects and links; or 1, a refusal's number and place
-pub record RunTold (t : Tables) (scratchObjects scratchLinks : List ℕ) (count : ℕ) (events words objects links : List ℕ) : Type 0 where
-  pub refused : (r : Refusal) → runRefusal t scratchObjects scratchLinks count events ≡ some r → words ≡ 1 ∷ r .number ∷ r .place ∷ []
-  pub left : runRefusal t scratchObjects scratchLinks count events ≡ none → Left t count events words objects links
+pub record RunTold (n : Counts) (s : Sheet) (scratchObjects scratchLinks words objects links : List ℕ) : Type 0 where
+  pub refused : (r : Refusal) → runRefusal n s scratchObjects scratchLinks ≡ some r → words ≡ 1 ∷ r .number ∷ r .place ∷ []
+  pub left : runRefusal n s scratchObjects scratchLinks ≡ none → Left n s words objects links
+
+-- the used rows of a book, a register and a batch
+abbrev pub allUsed : ℕ → ℕ → ℕ → ℕ → ℕ → ℕ → Counts
+allUsed types relationships rules objects links events =
+    record { types = types; relationships = relationships; rules = rules; objects = objects; links = links; events = events }

@@ -1,9 +1,8 @@
 // A batch of events over pointers and numbers.
 use tables::Counts;
 use tables::Verdict;
-ghost use Rattle.tables.specs.Refusals.{lentTables};
-ghost use Rattle.exports.specs.Coded.{countsOf};
-ghost use Rattle.exports.specs.Runs.{RunTold};
+ghost use Rattle.tables.specs.Layouts.{sheetOf};
+ghost use Rattle.exports.specs.Runs.{allUsed, RunTold};
 
 // The events of a lent batch on a copy of the register's used rows. The answer is 0 and the used rows of the copy after the batch; or 1, a refusal's number and
 // its place. The copy stands in the scratch.
@@ -26,9 +25,9 @@ pub extern "C" fn checker_run(
     events: &[u32],
     answer: &mut [u32; 3],
 )
-    ensures { λ r. ⌜ RunTold (lentTables (countsOf «types_used» «relationships_used» «rules_used» «objects_used» «links_used»)
-        (now (types .entry)) (now (relationships .entry)) (now (rules .entry)) (now (bodies .entry)) (now (objects .entry)) (now (links .entry)))
-        (now («scratch_objects» .entry)) (now («scratch_links» .entry)) «events_used» (now (events .entry))
+    ensures { λ r. ⌜ RunTold (allUsed «types_used» «relationships_used» «rules_used» «objects_used» «links_used» «events_used»)
+        (sheetOf (now (types .entry)) (now (relationships .entry)) (now (rules .entry)) (now (bodies .entry)) (now (objects .entry)) (now (links .entry)) (now (events .entry)))
+        (now («scratch_objects» .entry)) (now («scratch_links» .entry))
         (now (answer .exit)) (now («scratch_objects» .exit)) (now («scratch_links» .exit)) ⌝ }
 {
     let n = Counts {
@@ -37,6 +36,7 @@ pub extern "C" fn checker_run(
         rules: rules_used,
         objects: objects_used,
         links: links_used,
+        events: events_used,
     };
     let ran = lent_run::run(
         n,
@@ -46,10 +46,9 @@ pub extern "C" fn checker_run(
         bodies,
         objects,
         links,
+        events,
         scratch_objects,
         scratch_links,
-        events_used,
-        events,
     );
     let held = ran.held;
     let verdict = ran.verdict;

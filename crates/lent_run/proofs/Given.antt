@@ -1,26 +1,27 @@
 -- What no refusal of the lent tables gives a run, and the first refusal of all.
-use Prim.Native.Nat.{ℕ, zero, suc, min, _≤_, zero-le}
+use Prim.Native.Nat.{ℕ}
 use mathlib.Core.Path.{_≡_, refl, sym, ap, _∙_}
 use mathlib.Core.Bool.{Bool, true, false, _||_, cond}
-use mathlib.Core.List.{List, [], _∷_}
+use mathlib.Core.List.{List}
 use mathlib.Core.Option.{Option, none, some, Option·some-ne-none}
 use native.Mathlib.Omega.{arith}
-use lib.ListN.{length, getD}
+use lib.ListN.{length}
 use borrow.Author.Tests.{ltb-false}
-use Rattle.meaning.specs.Lists.{any, firstOf}
-use Rattle.meaning.specs.Limits.{maxEvents}
-use Rattle.meaning.specs.Events.{Refusal, batchRefusal}
+use Rattle.meaning.specs.Lists.{firstOf}
+use Rattle.meaning.specs.Events.{Refusal}
 use Rattle.meaning.specs.Answers.{refusal}
 use Rattle.meaning.proofs.Lists.{first-of-none}
 use Rattle.meaning.proofs.Agreement.{Checked, checked}
-use Rattle.rows.specs.Rows.{rowsLent}
-use Rattle.tables.specs.Columns.{eventsOf}
-use Rattle.tables.specs.Refusals.{Table, Tables, bookOf, registerIn, verdictOf, overfull, broken, tablesOf, tableRefusal, lentRefusal}
-use Rattle.tables.specs.declared.Verdict.{Verdict}
+use Rattle.tables.specs.Layouts.{Sheet, layouts}
+use Rattle.tables.specs.Columns.{bookOf, registerIn, batchIn}
+use Rattle.tables.specs.Refusals.{verdictOf, anyOverfull, anyLong, notWhole, tableRefusal, refusalOf}
+use Rattle.tables.specs.declared.Counts.{Counts}
 use Rattle.tables.specs.declared.Verdict.the-variants.{Clear, Refused}
+use Rattle.checks.specs.Given.{Given, EventsLent}
+use Rattle.checks.proofs.Given.{given-all}
 use Rattle.events.specs.declared.Ran.{Ran}
 use Rattle.events.specs.Runs.{lentBy, CanRun, RunDone}
-use Rattle.lent_run.specs.Lent.{eventTable, shorter, spaceBroken, runRefusal, LentRun}
+use Rattle.lent_run.specs.Lent.{shorter, scratchShort, eventsMeet, runRefusal, LentRun}
 
 or-left : (a b : Bool) → (a || b) ≡ false → a ≡ false
 or-left true b e = e
@@ -34,108 +35,68 @@ not-refused : (b : Bool) (r : Refusal) (o : Option Refusal) → cond b (some r) 
 not-refused true r o e = absurd (Option·some-ne-none r e)
 not-refused false r o e = (refl, e)
 
-pub clear-none : (o : Option Refusal) → Clear ≡ verdictOf o → o ≡ none
-clear-none none e = refl
-clear-none (some r) e = cc
+module _ (n : Counts) (s : Sheet) (scratchObjects scratchLinks : List ℕ) where
+  abbrev short : Bool
+  short = scratchShort (s .objects) (s .links) scratchObjects scratchLinks
 
--- tables of which none is overfull keep their limits and the lent rows
-abbrev noTable : Table
-noTable = record { words = []; width = 0; used = 0; limit = 0 }
-
-abbrev room : Table → ℕ
-room x = min (x .limit) (rowsLent (x .words) (x .width))
-
-kept : (l : List Table) → any overfull l ≡ false → (k : ℕ) → (getD l k noTable) .used ≤ room (getD l k noTable)
-kept [] e k = zero-le
-kept (x ∷ xs) e zero = omega (arith, ltb-false (room x) (x .used) (or-left (overfull x) (any overfull xs) e))
-kept (x ∷ xs) e (suc k) = kept xs (or-right (overfull x) (any overfull xs) e) k
-
-module _ (t : Tables) (scratchObjects scratchLinks : List ℕ) (count : ℕ) (events : List ℕ) where
-  -- 6 of the events and the scratch
-  abbrev space : Bool
-  space = spaceBroken (t .objects) (t .links) scratchObjects scratchLinks events
-
-  module _ (few : overfull (eventTable count events) ≡ false) where
-    after-two : runRefusal t scratchObjects scratchLinks count events
-        ≡ firstOf (lentRefusal t space) (batchRefusal ((bookOf t) .schema) (lentBy (t .objects) (t .links) 0) (registerIn t) (eventsOf count events))
-    unfolding runRefusal
-    after-two = rw few
-
-    -- a refusal of the tables comes before those of the events
-    pub lent-refused : {number place : ℕ} → Refused number place ≡ verdictOf (lentRefusal t space) → Refused number place ≡ verdictOf (runRefusal t scratchObjects scratchLinks count events)
-    lent-refused {number} {place} e = step (lentRefusal t space) _ e ∙ sym (ap verdictOf after-two)
-      where
-        step : (o rest : Option Refusal) → Refused number place ≡ verdictOf o → Refused number place ≡ verdictOf (firstOf o rest)
-        step none rest q = cc
-        step (some r) rest q = q
-
-    module _ (clear : lentRefusal t space ≡ none) where
-      unrefused : (tableRefusal (tablesOf t) space ≡ none) × (refusal (bookOf t) (registerIn t) ≡ none)
-      unfolding lentRefusal
-      unrefused = first-of-none (tableRefusal (tablesOf t) space) (refusal (bookOf t) (registerIn t)) clear
-
-      passed : (any overfull (tablesOf t) ≡ false) × (space ≡ false)
-      unfolding tableRefusal
-      passed =
-          let two = not-refused (any overfull (tablesOf t)) _ _ (unrefused .0) in
-          let six = not-refused (any broken (tablesOf t) || space) _ _ (two .1) in
-          (two .0, or-right (any broken (tablesOf t)) space (six .0))
-
-      within : (k : ℕ) → (getD (tablesOf t) k noTable) .used ≤ room (getD (tablesOf t) k noTable)
-      within = kept (tablesOf t) (passed .0)
-
-      fit : Checked (bookOf t) (registerIn t)
-      fit = checked (bookOf t) (registerIn t) (unrefused .1)
-
-      -- the scratch is as long as the tables
-      long : (shorter scratchObjects (t .objects) ≡ false) × (shorter scratchLinks (t .links) ≡ false)
-      long =
-          let scratch = or-right (broken (eventTable 0 events)) (shorter scratchObjects (t .objects) || shorter scratchLinks (t .links)) (passed .1) in
-          (or-left (shorter scratchObjects (t .objects)) (shorter scratchLinks (t .links)) scratch, or-right (shorter scratchObjects (t .objects)) (shorter scratchLinks (t .links)) scratch)
-
-      pub can-run : CanRun ((bookOf t) .schema) (t .objectCount) (t .objects) (t .linkCount) (t .links) scratchObjects scratchLinks count
-      unfolding tablesOf
-      can-run =
-          record {
-            fit =
-                record {
-                  ready =
-                      record {
-                        types-fit = fit .types;
-                        fits = fit .register;
-                        objects-lent = omega arith;
-                        links-lent = omega arith;
-                        objects-used = omega (arith, within 4);
-                        links-used = omega (arith, within 5);
-                      };
-                  objects-few = omega (arith, within 4);
-                  links-few = omega (arith, within 5);
-                };
-            objects-scratch = omega (arith, ltb-false (length scratchObjects) (length (t .objects)) (long .0));
-            links-scratch = omega (arith, ltb-false (length scratchLinks) (length (t .links)) (long .1));
-            events-few = omega (arith, ltb-false (room (eventTable count events)) count few);
-          }
-
-      -- what the events meet is what the batch meets
-      pub lent-done : {ran : Ran} {o l : List ℕ} → RunDone ((bookOf t) .schema) (lentBy (t .objects) (t .links) 0) (registerIn t) (eventsOf count events) ran o l
-          → LentRun t scratchObjects scratchLinks count events ran o l
-      lent-done done =
-          record {
-            verdict-is =
-                done .verdict-is
-                ∙ sym (ap verdictOf (after-two ∙ ap (λ r. firstOf r (batchRefusal ((bookOf t) .schema) (lentBy (t .objects) (t .links) 0) (registerIn t) (eventsOf count events))) clear));
-            left = done .left;
-          }
-
-  -- 2 of the events, at 0
-  pub events-refused : overfull (eventTable count events) ≡ true → Refused 2 0 ≡ verdictOf (runRefusal t scratchObjects scratchLinks count events)
+  -- a refusal of the tables comes before those of the events
+  pub lent-refused : {number place : ℕ} → Refused number place ≡ verdictOf (refusalOf layouts n s short) → Refused number place ≡ verdictOf (runRefusal n s scratchObjects scratchLinks)
   unfolding runRefusal
-  events-refused many = rw many
+  lent-refused {number} {place} e = step (refusalOf layouts n s short) (eventsMeet n s) e
+    where
+      step : (o rest : Option Refusal) → Refused number place ≡ verdictOf o → Refused number place ≡ verdictOf (firstOf o rest)
+      step none rest q = cc
+      step (some r) rest q = q
 
   -- a run that a refusal kept from beginning
-  pub never-ran : {number place : ℕ} {ran : Ran} {o l : List ℕ} → ran .verdict ≡ Refused number place → Refused number place ≡ verdictOf (runRefusal t scratchObjects scratchLinks count events)
-      → LentRun t scratchObjects scratchLinks count events ran o l
+  pub never-ran : {number place : ℕ} {ran : Ran} {o l : List ℕ} → ran .verdict ≡ Refused number place → Refused number place ≡ verdictOf (runRefusal n s scratchObjects scratchLinks)
+      → LentRun n s scratchObjects scratchLinks ran o l
   never-ran {number} {place} e q = record { verdict-is = e ∙ q; left = λ c. absurd (refused-clear (sym e ∙ c)) }
     where
       refused-clear : Refused number place ≡ Clear → ⊥
       refused-clear p = let z : _≡_ {A = ℕ} 0 1 = cc in omega arith
+
+  module _ (clear : refusalOf layouts n s short ≡ none) where
+    given : Given n s × EventsLent n s
+    given = given-all n s short clear
+
+    fit : Checked (bookOf n s) (registerIn n s)
+    fit = checked (bookOf n s) (registerIn n s) (given .0 .clear)
+
+    -- the scratch is as long as the tables
+    long : (shorter scratchObjects (s .objects) ≡ false) × (shorter scratchLinks (s .links) ≡ false)
+    unfolding refusalOf tableRefusal
+    long =
+        let tables = first-of-none (tableRefusal layouts n s short) (refusal (bookOf n s) (registerIn n s)) clear .0 in
+        let two = not-refused (anyOverfull layouts n s || anyLong (s .rules) (n .rules)) _ _ tables in
+        let six = not-refused (notWhole layouts s || short) _ _ (two .1) in
+        let enough = or-right (notWhole layouts s) short (six .0) in
+        (or-left (shorter scratchObjects (s .objects)) (shorter scratchLinks (s .links)) enough, or-right (shorter scratchObjects (s .objects)) (shorter scratchLinks (s .links)) enough)
+
+    pub can-run : CanRun ((bookOf n s) .schema) (n .objects) (s .objects) (n .links) (s .links) scratchObjects scratchLinks (n .events)
+    can-run =
+        record {
+          fit =
+              record {
+                ready =
+                    record {
+                      types-fit = fit .types;
+                      fits = fit .register;
+                      objects-lent = omega arith;
+                      links-lent = omega arith;
+                      objects-used = omega (arith, given .0 .objects-lent);
+                      links-used = omega (arith, given .0 .links-lent);
+                    };
+                objects-few = given .0 .few-objects;
+                links-few = given .0 .few-links;
+              };
+          objects-scratch = omega (arith, ltb-false (length scratchObjects) (length (s .objects)) (long .0));
+          links-scratch = omega (arith, ltb-false (length scratchLinks) (length (s .links)) (long .1));
+          events-few = given .1 .few-events;
+        }
+
+    -- what the events meet is what the batch meets
+    pub lent-done : {ran : Ran} {o l : List ℕ} → RunDone ((bookOf n s) .schema) (lentBy (s .objects) (s .links) 0) (registerIn n s) (batchIn n s) ran o l
+        → LentRun n s scratchObjects scratchLinks ran o l
+    unfolding runRefusal
+    lent-done done = record { verdict-is = done .verdict-is ∙ sym (ap (λ o. verdictOf (firstOf o (eventsMeet n s))) clear); left = done .left }

@@ -4,10 +4,9 @@ use events::Ran;
 use tables::Counts;
 use tables::Verdict;
 ghost use mathlib.Core.Path.{_≡_};
-ghost use mathlib.Core.Bool.{_||_};
-ghost use Rattle.tables.specs.Refusals.{broken, lentTables};
+ghost use Rattle.tables.specs.Layouts.{sheetOf};
 ghost use Rattle.tables.specs.declared.Verdict.the-variants.{Refused};
-ghost use Rattle.lent_run.specs.Lent.{shorter, eventTable, spaceBroken, LentRun};
+ghost use Rattle.lent_run.specs.Lent.{scratchShort, LentRun};
 
 // A run that a refusal kept from beginning.
 fn refused(number: u32, place: u32) -> Ran
@@ -25,19 +24,10 @@ fn refused(number: u32, place: u32) -> Ran
     }
 }
 
-// 6, of the events and the scratch: not whole rows, or a scratch shorter than the table that is copied to it.
-fn space_broken(
-    objects: &[u32],
-    links: &[u32],
-    scratch_objects: &[u32],
-    scratch_links: &[u32],
-    events: &[u32],
-) -> bool
-    ensures { λ r. ⌜ r ≡ spaceBroken (now (objects .entry)) (now (links .entry)) (now («scratch_objects» .entry)) (now («scratch_links» .entry)) (now (events .entry)) ⌝ }
+// 6, of the scratch: shorter than the table that is copied to it.
+fn short(objects: &[u32], links: &[u32], scratch_objects: &[u32], scratch_links: &[u32]) -> bool
+    ensures { λ r. ⌜ r ≡ scratchShort (now (objects .entry)) (now (links .entry)) (now («scratch_objects» .entry)) (now («scratch_links» .entry)) ⌝ }
 {
-    if checks::not_whole(events, 4) {
-        return true;
-    }
     if scratch_objects.len() < objects.len() {
         return true;
     }
@@ -53,20 +43,15 @@ pub fn run(
     bodies: &[u32],
     objects: &[u32],
     links: &[u32],
+    events: &[u32],
     scratch_objects: &mut [u32],
     scratch_links: &mut [u32],
-    event_count: u32,
-    events: &[u32],
 ) -> Ran
-    ensures { λ r. ⌜ LentRun (lentTables n (now (types .entry)) (now (relationships .entry)) (now (rules .entry)) (now (bodies .entry)) (now (objects .entry)) (now (links .entry)))
-        (now («scratch_objects» .entry)) (now («scratch_links» .entry)) «event_count» (now (events .entry))
-        r (now («scratch_objects» .exit)) (now («scratch_links» .exit)) ⌝ }
+    ensures { λ r. ⌜ LentRun n (sheetOf (now (types .entry)) (now (relationships .entry)) (now (rules .entry)) (now (bodies .entry)) (now (objects .entry)) (now (links .entry)) (now (events .entry)))
+        (now («scratch_objects» .entry)) (now («scratch_links» .entry)) r (now («scratch_objects» .exit)) (now («scratch_links» .exit)) ⌝ }
 {
-    if checks::too_many(events, 4, event_count as usize, 256) {
-        return refused(2, 0);
-    }
-    let broken = space_broken(objects, links, &*scratch_objects, &*scratch_links, events);
-    match checks::check(
+    let too_short = short(objects, links, &*scratch_objects, &*scratch_links);
+    match checks::check_all(
         n,
         types,
         relationships,
@@ -74,7 +59,8 @@ pub fn run(
         bodies,
         objects,
         links,
-        broken,
+        events,
+        too_short,
     ) {
         Verdict::Refused(number, place) => refused(number, place),
         Verdict::Clear => events::run(
@@ -88,7 +74,7 @@ pub fn run(
             links,
             scratch_objects,
             scratch_links,
-            event_count,
+            n.events,
             events,
         ),
     }

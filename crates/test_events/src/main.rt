@@ -78,7 +78,6 @@ fn show(
     let none = [0u32; 4];
     match writer::write(
         n,
-        0,
         types,
         relationships,
         rules,
@@ -104,7 +103,6 @@ fn run(
     bodies: &[u32],
     objects: &[u32],
     links: &[u32],
-    event_count: u32,
     events: &[u32],
 ) {
     let mut scratch_objects = [7u32; 50];
@@ -117,10 +115,9 @@ fn run(
         bodies,
         objects,
         links,
+        events,
         &mut scratch_objects,
         &mut scratch_links,
-        event_count,
-        events,
     );
     let verdict = ran.verdict;
     let held = ran.held;
@@ -129,7 +126,7 @@ fn run(
         Verdict::Refused(number, place) => refused(b"refused ", number, place),
         Verdict::Clear => {
             io::write_all(1, b"met");
-            first_of(met, event_count);
+            first_of(met, n.events);
             io::write_all(1, b"\n");
             let end = Counts {
                 types: n.types,
@@ -137,6 +134,7 @@ fn run(
                 rules: n.rules,
                 objects: held.objects,
                 links: held.links,
+                events: 0,
             };
             show(
                 end,
@@ -171,33 +169,16 @@ fn try_text(text: &[u8]) {
         &mut events,
     ) {
         Outcome::Refused(number, line) => refused(b"not read ", number, line),
-        Outcome::Done {
-            types: a,
-            relationships: b,
-            rules: c,
-            objects: d,
-            links: e,
-            events: f,
-        } => {
-            let n = Counts {
-                types: a,
-                relationships: b,
-                rules: c,
-                objects: d,
-                links: e,
-            };
-            run(
-                n,
-                &types,
-                &relationships,
-                &rules,
-                &bodies,
-                &objects,
-                &links,
-                f,
-                &events,
-            );
-        }
+        Outcome::Done(n) => run(
+            n,
+            &types,
+            &relationships,
+            &rules,
+            &bodies,
+            &objects,
+            &links,
+            &events,
+        ),
     }
 }
 

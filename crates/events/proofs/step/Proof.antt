@@ -1,18 +1,16 @@
 -- `events::step` meets its contract: an event that no refusal meets can have its effect.
 use Prim.Native.Nat.{ℕ}
-use mathlib.Core.Path.{_≡_, refl, sym, ap, subst, _∙_}
+use mathlib.Core.Path.{_≡_, refl, sym, ap, _∙_}
 use mathlib.Core.Option.{none}
 use denote.Ref.{now}
 use Rattle.meaning.specs.Schema.{Schema}
 use Rattle.meaning.specs.Register.{Register}
 use Rattle.meaning.specs.Events.{Event, Lent, eventRefusal}
-use Rattle.tables.specs.Columns.{typesOf, relationshipsOf, schemaOf, registerOf, eventOf, eventRow}
+use Rattle.tables.specs.Columns.{relationshipsOf, schemaOf, registerOf, eventRow}
 use Rattle.tables.specs.Refusals.{foundOf}
 use Rattle.tables.specs.declared.Found.the-variants.{At, Nothing}
 use Rattle.schema.proofs.Founds.{found-none}
-use Rattle.events.specs.Effects.{Can}
 use Rattle.events.proofs.Allowed.{can, some-event}
-use Rattle.events.proofs.Applied.{as-applied}
 use native.Mathlib.Omega.{arith}
 use borrow.Author.Needs.{needs}
 use Rattle.events.proofs.step.Statement.{statement}
@@ -21,40 +19,31 @@ use Rattle.events.proofs.step.Tie as tie
 number-found : {n : ℕ} → At n ≡ Nothing → ⊥
 number-found e = let z : _≡_ {A = ℕ} 0 1 = cc in omega arith
 
--- what the function is given, as the definitions have it
-module _ (s : tie.Start) where
-  abbrev S : Schema
-  S = schemaOf (s .args .type-count) (now (s .args .types)) (s .args .relationship-count) (now (s .args .relationships))
+-- ---- where no refusal is met
 
-  abbrev lent : ℕ → Lent
-  lent w = record { objects = s .args .objects-lent; links = s .args .links-lent; words = w }
-
-  abbrev g : Register
-  g = registerOf (s .args .held .objects) (now (s .args .objects)) (s .args .held .links) (now (s .args .links))
-
-  abbrev event : Event
-  event = eventRow (now (s .args .events)) (s .args .row)
-
-  abbrev tables-can : Event → Type 0
-  tables-can = Can (typesOf (s .args .type-count) (now (s .args .types))) (s .args .held .objects) (now (s .args .objects)) (s .args .held .links) (now (s .args .links))
-
--- the way back from the event's fields, which are read where no refusal is met
-module _ (c : tie.After-word4) where
-  abbrev told : tie.After-enum-told
-  told = c .before .before .before .before
-
+module _ (c : tie.After-enum-told) where
   abbrev asked : tie.After-refusal
-  asked = told .before .before
+  asked = c .before .before
 
   abbrev start : tie.Start
-  start = asked .before .before .before .before .before .before .before .before
+  start = let first = asked .before .before .before in first .before .before .before .before .before
 
-  row-event : eventOf (c .before .before .before .word .result) (c .before .before .word2 .result) (c .before .word3 .result) (c .word4 .result) ≡ event start
-  unfolding eventRow
-  row-event = λ i. eventOf (c .before .before .before .word .ensures i) (c .before .before .word2 .ensures i) (c .before .word3 .ensures i) (c .word4 .ensures i)
+  abbrev S : Schema
+  S = schemaOf (start .args .type-count) (now (start .args .types)) (start .args .relationship-count) (now (start .args .relationships))
 
-  unrefused : (w : ℕ) → eventRefusal (S start) (lent start w) (g start) (event start) ≡ none
-  unrefused w = found-none _ (sym (told .enum-told .given .1) ∙ asked .refusal .ensures w)
+  abbrev lent : ℕ → Lent
+  lent w = record { objects = start .args .objects-lent; links = start .args .links-lent; words = w }
+
+  abbrev g : Register
+  g = registerOf (start .args .held .objects) (now (start .args .objects)) (start .args .held .links) (now (start .args .links))
+
+  abbrev event : Event
+  event = eventRow (now (start .args .events)) (start .args .row)
+
+  unrefused : (w : ℕ) → eventRefusal S (lent w) g event ≡ none
+  unrefused w = found-none _ (sym (c .enum-told .given .1) ∙ asked .refusal .ensures w)
+
+-- ---- needs
 
 refusal-requires : tie.Need-refusal-requires
 refusal-requires c κs = search needs
@@ -65,24 +54,11 @@ enum-known-number c = search needs
 enum-told : tie.Need-enum-told
 enum-told c = search needs
 
-word-requires : tie.Need-word-requires
-word-requires c κs = search needs
-
-word-requires-2 : tie.Need-word-requires-2
-word-requires-2 c κs = search needs
-
-word-requires-3 : tie.Need-word-requires-3
-word-requires-3 c κs = search needs
-
-word-requires-4 : tie.Need-word-requires-4
-word-requires-4 c κs = search needs
-
-effect-requires : tie.Need-effect-requires
-effect-requires c κs =
-    let words = c .before .before in
-    let s = start words in (
-      subst (tables-can s) (sym (row-event words)) (can (S s) (lent s 0) _ _ _ _ (s .pre) (event s) (unrefused words 0)),
-      λ p. some-event (S s) (lent s 0) _ _ _ _ (s .pre) (event s) (unrefused words 0) (sym (row-event words) ∙ p),
+row-effect-requires : tie.Need-row-effect-requires
+row-effect-requires c κs =
+    let told = c .before .before in (
+      can (S told) (lent told 0) _ _ _ _ (start told .pre) (event told) (unrefused told 0),
+      some-event (S told) (lent told 0) _ _ _ _ (start told .pre) (event told) (unrefused told 0),
     )
 
 same-length : tie.Need-same-length
@@ -111,12 +87,12 @@ same-length-4 c = search needs
 returns-2 : tie.Need-returns-2
 returns-2 c =
     let done = c .before .before .before .before in
-    let words = done .before .before .before in
-    let s = start words in
+    let told = done .before .before .before in
+    let x = start told .args in
     λ w.
     record {
-      refused-is = sym (ap foundOf (unrefused words w));
-      taken = λ e. as-applied (sym (row-event words)) (done .effect .ensures (relationshipsOf (s .args .relationship-count) (now (s .args .relationships))));
+      refused-is = sym (ap foundOf (unrefused told w));
+      taken = λ e. done .row-effect .ensures (relationshipsOf (x .relationship-count) (now (x .relationships)));
       kept = λ d. absurd (d refl);
     }
 
@@ -127,11 +103,7 @@ step-spec =
     refusal-requires
     enum-known-number
     enum-told
-    word-requires
-    word-requires-2
-    word-requires-3
-    word-requires-4
-    effect-requires
+    row-effect-requires
     same-length
     same-length-2
     returns
