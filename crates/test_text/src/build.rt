@@ -1,7 +1,7 @@
 // A text that lines make longer: TEXT and byte 10 by `|`, TEXT alone by `+`, TEXT so many times by `*`, lines numbered from A to below B by
 // `%A B HEAD@TAIL`; `-` takes so many bytes away.
 use crate::lent;
-use crate::lent::Numbers;
+use crate::lent::Words;
 use cases::line;
 use cases::sheet::size;
 
@@ -75,7 +75,7 @@ fn low(n: usize) -> u32 {
     (n % 4294967296) as u32
 }
 
-pub fn grow(line: &[u8], text: &mut [u8], n: &mut Numbers) {
-    let at = grown(line, text, size(n[lent::LENGTH]));
-    n[lent::LENGTH] = low(at);
+pub fn grow(line: &[u8], text: &mut [u8], all: &mut Words) {
+    let at = grown(line, text, size(lent::of(all, lent::LENGTH)));
+    lent::set(all, lent::LENGTH, low(at));
 }

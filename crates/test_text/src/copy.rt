@@ -43,3 +43,12 @@ pub fn take12288(all: &Words, table: u32, out: &mut [u32; 12288]) {
 pub fn give12288(all: &mut Words, table: u32, words: &[u32; 12288]) {
     give(all, base(table), words);
 }
+
+// Numbers put from a place on.
+pub fn give6(all: &mut Words, at: u32, numbers: &[u32; 6]) {
+    give(all, at, numbers);
+}
+
+pub fn give7(all: &mut Words, at: u32, numbers: &[u32; 7]) {
+    give(all, at, numbers);
+}

@@ -1,6 +1,5 @@
 // A text with one byte dropped, doubled or changed, for every byte of it.
 use crate::judge;
-use crate::lent::Numbers;
 use crate::lent::Words;
 use cases::line;
 use cases::say;
@@ -31,11 +30,11 @@ fn put_damaged(text: &[u8], at: usize, how: u32, out: &mut [u8]) -> usize {
 }
 
 // What is said of one damaged text.
-fn one(text: &[u8], at: usize, how: u32, n: &mut Numbers, all: &mut Words, out: &mut [u8]) {
+fn one(text: &[u8], at: usize, how: u32, all: &mut Words, out: &mut [u8]) {
     let mut damaged = [0u8; 512];
     let length = put_damaged(text, at, how, &mut damaged);
     say::words(b" ");
-    judge::show(judge::ask(line::first(&damaged, length), n, all, out));
+    judge::show(judge::ask(line::first(&damaged, length), all, out));
 }
 
 // A byte as it is shown.
@@ -48,21 +47,28 @@ fn show_byte(b: u8) {
     say::words(&shown);
 }
 
-// A byte's place, itself, and what is said of the text where it is dropped, doubled, changed.
-fn three(text: &[u8], at: usize, n: &mut Numbers, all: &mut Words, out: &mut [u8]) {
+// What is said of the text where a byte is dropped, doubled, changed.
+fn three(text: &[u8], at: usize, all: &mut Words, out: &mut [u8]) {
+    let mut how: u32 = 0;
+    while how < 3 {
+        one(text, at, how, &mut *all, &mut *out);
+        how += 1;
+    }
+}
+
+// A line for each byte: its place, itself, and what is said.
+fn say_byte(text: &[u8], at: usize) {
     io::print_decimal(1, at as u64);
     say::words(b" ");
     show_byte(line::byte(text, at));
-    one(text, at, 0, &mut *n, &mut *all, &mut *out);
-    one(text, at, 1, &mut *n, &mut *all, &mut *out);
-    one(text, at, 2, n, all, out);
-    say::words(b"\n");
 }
 
-pub fn every_byte(text: &[u8], n: &mut Numbers, all: &mut Words, out: &mut [u8]) {
+pub fn every_byte(text: &[u8], all: &mut Words, out: &mut [u8]) {
     let mut at: usize = 0;
     while at < text.len() {
-        three(text, at, &mut *n, &mut *all, &mut *out);
+        say_byte(text, at);
+        three(text, at, &mut *all, &mut *out);
+        say::words(b"\n");
         at += 1;
     }
 }

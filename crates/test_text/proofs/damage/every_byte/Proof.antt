@@ -7,16 +7,25 @@ use Rattle.test_text.proofs.damage.every_byte.Statement.{statement}
 use Rattle.test_text.proofs.damage.every_byte.Tie as tie
 
 abbrev Inv-loop : tie.InvT-loop
-Inv-loop text n₀ all₀ out₀ at₀ n all out at = length out ≡ length out₀
+Inv-loop text all₀ out₀ at₀ t5 all out at = length out ≡ length out₀
 
 abbrev μ-loop : tie.MeasureT-loop
-μ-loop text n₀ all₀ out₀ at₀ n all out at = length text - at
+μ-loop text all₀ out₀ at₀ t5 all out at = length text - at
 
 loop-holds : tie.Need-loop-holds Inv-loop μ-loop
 loop-holds c = search needs
 
+say-byte-requires : tie.Need-say-byte-requires Inv-loop μ-loop
+say-byte-requires c κs = search needs
+
 three-requires : tie.Need-three-requires Inv-loop μ-loop
 three-requires c κs = search needs
+
+slice-aggregate-words : tie.Need-slice-aggregate-words Inv-loop μ-loop
+slice-aggregate-words c = search needs
+
+words-requires : tie.Need-words-requires Inv-loop μ-loop
+words-requires c κs = search needs
 
 add-at : tie.Need-add-at Inv-loop μ-loop
 add-at c = search needs
@@ -40,7 +49,10 @@ every-byte-spec =
     Inv-loop
     μ-loop
     loop-holds
+    say-byte-requires
     three-requires
+    slice-aggregate-words
+    words-requires
     add-at
     loop-less
     loop-again
