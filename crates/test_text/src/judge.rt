@@ -260,7 +260,7 @@ fn tables_of(all: &Words) -> &[u32] {
 // Reads a text into other tables, all rows lent, and compares them with the tables that are there.
 fn compare(text: &[u8], all: &Words) {
     let mut again = [7u32; 31953];
-    lent::lend(b"lent 64 64 64 8192 10240 12288 1024", &mut again);
+    lent::lend_all(&mut again);
     lent::read(text, &mut again);
     say::words(b"counts");
     say_rows(&again);

@@ -39,10 +39,15 @@ pub fn set(all: &mut Words, at: u32, value: u32) {
 pub struct Said(pub u32, pub u32);
 
 // So many words of each table are lent.
-pub fn lend(line: &[u8], all: &mut Words) {
+fn lend(line: &[u8], all: &mut Words) {
     let mut n = [0u32; 7];
     line::numbers(line, &mut n);
     copy::give7(all, LENT, &n);
+}
+
+// All words are lent.
+pub fn lend_all(all: &mut Words) {
+    copy::give7(all, LENT, &[64, 64, 64, 8192, 10240, 12288, 1024]);
 }
 
 // So many rows of each section are used.
@@ -126,99 +131,38 @@ fn read_parts(
     )
 }
 
-// The same, of whole tables.
-fn read_tables(
-    text: &[u8],
-    all: &Words,
-    types: &mut [u32; 64],
-    relationships: &mut [u32; 64],
-    rules: &mut [u32; 64],
-    bodies: &mut [u32; 8192],
-    objects: &mut [u32; 10240],
-    links: &mut [u32; 12288],
-    events: &mut [u32; 1024],
-) -> Outcome {
-    read_parts(
+// Reads a text into the tables.
+fn read_tables(text: &[u8], all: &mut Words) -> Outcome {
+    let mut types = copy::out64(all, 0);
+    let mut relationships = copy::out64(all, 1);
+    let mut rules = copy::out64(all, 2);
+    let mut bodies = copy::out8192(all, 3);
+    let mut objects = copy::out10240(all, 4);
+    let mut links = copy::out12288(all, 5);
+    let mut events = copy::out1024(all, 6);
+    let outcome = read_parts(
         text,
         all,
-        types,
-        relationships,
-        rules,
-        bodies,
-        objects,
-        links,
-        events,
-    )
-}
-
-// The same, with the links and the events copied out of the words and back.
-fn read_batch(
-    text: &[u8],
-    all: &mut Words,
-    types: &mut [u32; 64],
-    relationships: &mut [u32; 64],
-    rules: &mut [u32; 64],
-    bodies: &mut [u32; 8192],
-    objects: &mut [u32; 10240],
-) -> Outcome {
-    let mut links = [0u32; 12288];
-    let mut events = [0u32; 1024];
-    copy::take12288(all, 5, &mut links);
-    copy::take1024(all, 6, &mut events);
-    let outcome = read_tables(
-        text,
-        all,
-        types,
-        relationships,
-        rules,
-        bodies,
-        objects,
+        &mut types,
+        &mut relationships,
+        &mut rules,
+        &mut bodies,
+        &mut objects,
         &mut links,
         &mut events,
     );
+    copy::give64(&mut *all, 0, &types);
+    copy::give64(&mut *all, 1, &relationships);
+    copy::give64(&mut *all, 2, &rules);
+    copy::give8192(&mut *all, 3, &bodies);
+    copy::give10240(&mut *all, 4, &objects);
     copy::give12288(&mut *all, 5, &links);
     copy::give1024(all, 6, &events);
     outcome
 }
 
-// The bodies and the objects too.
-fn read_register(
-    text: &[u8],
-    all: &mut Words,
-    types: &mut [u32; 64],
-    relationships: &mut [u32; 64],
-    rules: &mut [u32; 64],
-) -> Outcome {
-    let mut bodies = [0u32; 8192];
-    let mut objects = [0u32; 10240];
-    copy::take8192(all, 3, &mut bodies);
-    copy::take10240(all, 4, &mut objects);
-    let outcome = read_batch(
-        text,
-        &mut *all,
-        types,
-        relationships,
-        rules,
-        &mut bodies,
-        &mut objects,
-    );
-    copy::give8192(&mut *all, 3, &bodies);
-    copy::give10240(all, 4, &objects);
-    outcome
-}
-
-// Reads a text into the tables.
 pub fn read(text: &[u8], all: &mut Words) -> Said {
-    let mut types = [0u32; 64];
-    let mut relationships = [0u32; 64];
-    let mut rules = [0u32; 64];
-    copy::take64(all, 0, &mut types);
-    copy::take64(all, 1, &mut relationships);
-    copy::take64(all, 2, &mut rules);
-    let outcome = read_register(text, &mut *all, &mut types, &mut relationships, &mut rules);
-    copy::give64(&mut *all, 0, &types);
-    copy::give64(&mut *all, 1, &relationships);
-    copy::give64(&mut *all, 2, &rules);
+    let outcome = read_tables(text, &mut *all);
     said_read(outcome, all)
 }
 

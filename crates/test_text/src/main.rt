@@ -4,7 +4,6 @@
 // A text's answer is `ok`, or a refusal's number and line; after `ok/` stands the writer's refusal of tables that the reader takes.
 mod build;
 mod copy;
-mod damage;
 mod judge;
 mod lent;
 
@@ -25,7 +24,7 @@ fn title(line: &[u8], all: &mut Words) {
         return;
     }
     say::words(b": ");
-    lent::lend(b"lent 64 64 64 8192 10240 12288 1024", all);
+    lent::lend_all(all);
 }
 
 // No text, and no word in the tables.
@@ -43,7 +42,6 @@ fn now<'a>(text: &'a [u8], all: &Words) -> &'a [u8] {
 fn order(line: &[u8], text: &[u8], all: &mut Words, out: &mut [u8]) {
     match byte(line, 0) {
         97 | 99 => judge::asked(line, text, all, out),
-        100 => damage::every_byte(text, all, out),
         103 => judge::get(text, all),
         119 => judge::write(line, text, all, out),
         _ => lent::settle(line, all),
@@ -53,7 +51,7 @@ fn order(line: &[u8], text: &[u8], all: &mut Words, out: &mut [u8]) {
 // A line that makes the text another; any other leaves it.
 fn one_line(line: &[u8], text: &mut Bytes, all: &mut Words, out: &mut Bytes) {
     match byte(line, 0) {
-        37 | 42 | 43 | 45 | 124 => build::grow(line, text, all),
+        37 | 42 | 43 | 45 | 64 | 124 => build::grow(line, text, all),
         118 => judge::verify(text, all, out),
         _ => order(line, now(text, all), all, out),
     }
