@@ -85,6 +85,15 @@ pub fn part(all: &[u32], table: u32, count: u32) -> &[u32] {
     &all[a..e]
 }
 
+// The first words of a row of words, or all of them.
+pub fn first(all: &[u32], n: usize) -> &[u32] {
+    if all.len() < n {
+        return all;
+    }
+    let start = 0;
+    &all[start..n]
+}
+
 // Copies the words from a place on.
 pub fn take(all: &[u32], from: u32, out: &mut [u32]) {
     let start = size(from);

@@ -1,252 +1,160 @@
 // Refusals 2, 6, 3, 4 and 5 of lent tables. Each of 3, 4 and 5 is met at a first, a middle and a last row of the largest tables that the
-// limits allow: a case changes one word of them, asks, and puts the word back.
-mod cases;
-mod park;
-
+// limits allow. The cases are lines of standard input; `stdin` says how they are written.
+use cases::line;
+use cases::line::byte;
+use cases::say;
+use cases::sheet;
 use tables::Counts;
 use tables::Verdict;
 
-fn print(text: &[u8]) {
-    io::write_all(1, text);
+// The words of the tables. After them: how many words of each of the six tables are lent; how many rows of each of the five sections are
+// used; whether the scratch is too short; and how many cases there were.
+type Words = [u32; 31949];
+
+const LENT: u32 = 31936;
+
+const USED: u32 = 31942;
+
+const SCRATCH: u32 = 31947;
+
+const CASES: u32 = 31948;
+
+fn of(all: &Words, at: u32) -> u32 {
+    sheet::get(all, sheet::size(at))
 }
 
-fn show(v: Verdict) {
-    match v {
-        Verdict::Clear => {
-            print(b"clear\n");
-        }
-        Verdict::Refused(number, place) => {
-            print(b"refused ");
-            io::print_decimal(1, number as u64);
-            print(b" ");
-            io::print_decimal(1, place as u64);
-            print(b"\n");
-        }
-    }
+fn set(all: &mut Words, at: u32, value: u32) {
+    sheet::put(all, sheet::size(at), value);
 }
 
-fn get(t: &[u32], at: usize) -> u32 {
-    if at < t.len() { t[at] } else { 0 }
-}
-
-fn put(t: &mut [u32], at: usize, value: u32) {
-    if at < t.len() {
-        t[at] = value;
-    }
-}
-
-// Changes a word of a table and answers what stood there. Tables are numbered: types, relationships, rules, bodies, objects, links.
-fn change(
-    which: u32,
-    at: usize,
-    value: u32,
-    types: &mut [u32],
-    relationships: &mut [u32],
-    rules: &mut [u32],
-    bodies: &mut [u32],
-    objects: &mut [u32],
-    links: &mut [u32],
-) -> u32 {
-    if which == 0 {
-        return exchange(types, at, value);
-    }
-    if which == 1 {
-        return exchange(relationships, at, value);
-    }
-    if which == 2 {
-        return exchange(rules, at, value);
-    }
-    if which == 3 {
-        return exchange(bodies, at, value);
-    }
-    if which == 4 {
-        return exchange(objects, at, value);
-    }
-    exchange(links, at, value)
-}
-
-fn exchange(t: &mut [u32], at: usize, value: u32) -> u32 {
-    let old = get(t, at);
-    put(t, at, value);
-    old
-}
-
-// A word of a table, and the value that a case gives it.
-struct Case {
-    which: u32,
-    at: usize,
-    value: u32,
-}
-
-fn case_of(i: u32) -> Case {
-    let table = cases::CHANGES;
-    let which = rows::word(&table, 3, i, 0);
-    let at = rows::word(&table, 3, i, 1) as usize;
-    let value = rows::word(&table, 3, i, 2);
-    Case { which, at, value }
-}
-
-// Changes a word, asks, and answers what stood there.
-fn ask_changed(
-    k: Case,
-    n: Counts,
-    types: &mut [u32],
-    relationships: &mut [u32],
-    rules: &mut [u32],
-    bodies: &mut [u32],
-    objects: &mut [u32],
-    links: &mut [u32],
-) -> u32 {
-    let old = change(
-        k.which,
-        k.at,
-        k.value,
-        types,
-        relationships,
-        rules,
-        bodies,
-        objects,
-        links,
-    );
-    show(checks::check(
-        n,
-        types,
-        relationships,
-        rules,
-        bodies,
-        objects,
-        links,
-        false,
-    ));
-    old
-}
-
-// One case: the word is changed, the checks are asked, and the word is put back.
-fn one_case(
-    k: Case,
-    n: Counts,
-    types: &mut [u32],
-    relationships: &mut [u32],
-    rules: &mut [u32],
-    bodies: &mut [u32],
-    objects: &mut [u32],
-    links: &mut [u32],
-) {
-    let old = ask_changed(k, n, types, relationships, rules, bodies, objects, links);
-    change(
-        k.which,
-        k.at,
-        old,
-        types,
-        relationships,
-        rules,
-        bodies,
-        objects,
-        links,
-    );
-}
-
-// Every case of the table.
-fn all_cases(
-    n: Counts,
-    types: &mut [u32],
-    relationships: &mut [u32],
-    rules: &mut [u32],
-    bodies: &mut [u32],
-    objects: &mut [u32],
-    links: &mut [u32],
-) {
-    let mut i: u32 = 0;
-    while i < cases::COUNT {
-        let k = case_of(i);
-        one_case(k, n, types, relationships, rules, bodies, objects, links);
-        i += 1;
-    }
-}
-
-fn counts(types: u32, relationships: u32, rules: u32, objects: u32, links: u32) -> Counts {
+fn counts(all: &Words) -> Counts {
     Counts {
-        types,
-        relationships,
-        rules,
-        objects,
-        links,
+        types: of(all, 31942),
+        relationships: of(all, 31943),
+        rules: of(all, 31944),
+        objects: of(all, 31945),
+        links: of(all, 31946),
         events: 0,
     }
 }
 
-// Counts above the limit, or above the rows lent; unused rows are not looked at.
-fn counted(n: Counts) {
-    let types = [9u32; 66];
-    let rows = [0u32; 66];
-    let bodies = [0u32; 512];
-    let objects = [0u32; 20];
-    let links = [0u32; 6];
-    show(checks::check(n, &types, &rows, &rows, &bodies, &objects, &links, false));
+// A table as far as it is lent.
+fn part(all: &Words, table: u32) -> &[u32] {
+    sheet::part(all, table, of(all, std::num::wrapping_add_u32(LENT, table)))
 }
 
-// Tables that are not whole rows.
-fn broken(n: Counts, odd: u32) {
-    let two = [0u32; 2];
-    let three = [0u32; 3];
-    let four = [0u32; 4];
-    let ten = [0u32; 10];
-    let eleven = [0u32; 11];
-    match odd {
-        0 => show(checks::check(n, &three, &two, &two, &four, &ten, &three, false)),
-        1 => show(checks::check(n, &two, &three, &two, &four, &ten, &three, false)),
-        2 => show(checks::check(n, &two, &two, &three, &four, &ten, &three, false)),
-        3 => show(checks::check(n, &two, &two, &two, &three, &ten, &three, false)),
-        4 => show(checks::check(n, &two, &two, &two, &four, &eleven, &three, false)),
-        5 => show(checks::check(n, &two, &two, &two, &four, &ten, &four, false)),
-        6 => show(checks::check(n, &two, &two, &two, &four, &ten, &three, true)),
-        _ => show(checks::check(n, &two, &two, &two, &four, &ten, &three, false)),
+// What the checks say.
+fn ask(all: &Words) -> Verdict {
+    checks::check(
+        counts(all),
+        part(all, 0),
+        part(all, 1),
+        part(all, 2),
+        part(all, 3),
+        part(all, 4),
+        part(all, 5),
+        of(all, SCRATCH) == 1,
+    )
+}
+
+fn show(v: Verdict) {
+    match v {
+        Verdict::Clear => say::words(b"clear\n"),
+        Verdict::Refused(number, place) => {
+            say::words(b"refused ");
+            say::number(number);
+            say::words(b" ");
+            say::number(place);
+            say::words(b"\n");
+        }
     }
 }
 
-fn main() {
-    print(b"2\n");
-    counted(counts(0, 0, 0, 0, 0));
-    counted(counts(33, 0, 0, 0, 0));
-    counted(counts(0, 33, 0, 0, 0));
-    counted(counts(0, 0, 33, 0, 0));
-    counted(counts(0, 0, 3, 0, 0));
-    counted(counts(0, 0, 0, 3, 0));
-    counted(counts(0, 0, 0, 0, 3));
-    counted(counts(0, 0, 0, 0xFFFF_FFFF, 0));
-    print(b"6\n");
-    broken(counts(0, 0, 0, 0, 0), 0);
-    broken(counts(0, 0, 0, 0, 0), 1);
-    broken(counts(0, 0, 0, 0, 0), 2);
-    broken(counts(0, 0, 0, 0, 0), 3);
-    broken(counts(0, 0, 0, 0, 0), 4);
-    broken(counts(0, 0, 0, 0, 0), 5);
-    broken(counts(0, 0, 0, 0, 0), 6);
-    broken(counts(0, 0, 0, 0, 0), 7);
-    broken(counts(2, 0, 0, 0, 0), 0);
-    print(b"3, 4 and 5\n");
-    largest();
+// A case, if the line has a name after a colon.
+fn case(line: &[u8], colon: usize, all: &mut Words) {
+    if line.len() <= colon {
+        return;
+    }
+    let n = std::num::wrapping_add_u32(of(all, CASES), 1);
+    set(&mut *all, CASES, n);
+    say::words(line::from(line::from(line, colon), 2));
+    say::words(b": ");
+    show(ask(all));
 }
 
-// The largest tables, and every change of them.
-fn largest() {
-    let mut types = [0u32; 64];
-    let mut relationships = [0u32; 64];
-    let mut rules = [0u32; 64];
-    let mut bodies = [0u32; 8192];
-    let mut objects = [0u32; 10240];
-    let mut links = [0u32; 12288];
-    park::types(&mut types);
-    park::rules(&mut rules, &mut bodies);
-    park::objects(&mut objects);
-    park::links(&mut links);
-    all_cases(
-        counts(32, 32, 32, 1024, 4096),
-        &mut types,
-        &mut relationships,
-        &mut rules,
-        &mut bodies,
-        &mut objects,
-        &mut links,
-    );
+// A line about a table: with a name, the word is another for this case; without one, words are made of others.
+fn about_table(line: &[u8], colon: usize, table: u32, all: &mut Words) {
+    if line.len() <= colon {
+        sheet::change(line, table, all);
+        return;
+    }
+    let at = std::num::wrapping_add_u32(sheet::base(table), line::number(line, 1));
+    let old = of(all, at);
+    set(&mut *all, at, line::number(line, 2));
+    case(line, colon, &mut *all);
+    set(all, at, old);
+}
+
+fn lend(line: &[u8], all: &mut Words) {
+    let mut n = [0u32; 6];
+    line::numbers(line, &mut n);
+    put6(all, &n);
+}
+
+fn put6(all: &mut Words, n: &[u32; 6]) {
+    sheet::give(all, LENT, n);
+}
+
+fn use_rows(line: &[u8], all: &mut Words) {
+    let mut n = [0u32; 5];
+    line::numbers(line, &mut n);
+    put5(all, &n);
+}
+
+fn put5(all: &mut Words, n: &[u32; 5]) {
+    sheet::give(all, USED, n);
+}
+
+// A line about what is lent, used or too short; a heading; or a comment.
+fn settle(line: &[u8], colon: usize, all: &mut Words) {
+    match byte(line, 0) {
+        58 => {
+            say::words(line::from(line, 2));
+            say::words(b"\n");
+            return;
+        }
+        108 => lend(line, &mut *all),
+        115 => set(&mut *all, SCRATCH, line::number(line, 1)),
+        117 => use_rows(line, &mut *all),
+        _ => {
+            return;
+        }
+    }
+    case(line, colon, all);
+}
+
+fn one_line(line: &[u8], all: &mut Words) {
+    let colon = line::find(line, 0, 58);
+    let table = sheet::named(line);
+    if table < 7 {
+        about_table(line, colon, table, all);
+        return;
+    }
+    settle(line, colon, all);
+}
+
+fn all_lines(input: &[u8]) {
+    let mut all = [0u32; 31949];
+    let mut at: usize = 0;
+    while at < input.len() {
+        one_line(line::at(input, at), &mut all);
+        at = line::next(input, at);
+    }
+    say::named(b"cases", of(&all, CASES));
+}
+
+fn main() {
+    let mut input = io::large_buffer();
+    let length = io::read_full(0, &mut input);
+    all_lines(&input[..length]);
 }

@@ -1,12 +1,19 @@
 // The proved checks beside the plain evaluator, on one book and one register.
 use crate::plain;
 use crate::tally;
-use crate::tally::count;
+use crate::tally::Words;
+use crate::tally::add;
 use crate::tally::count_if;
+use crate::tally::of;
 use crate::words::word;
 use crate::world;
+use cases::sheet;
 use full::Answer;
 use tables::Counts;
+
+type World = [u64; 264];
+
+type Tree = [u32; 320];
 
 // An answer as numbers: 0 accepted, 1 broken, 2 refused; then its two values.
 struct Said {
@@ -15,23 +22,19 @@ struct Said {
     second: u32,
 }
 
+fn says(number: u32, first: u32, second: u32) -> Said {
+    Said {
+        number,
+        first,
+        second,
+    }
+}
+
 fn words_of(a: Answer) -> Said {
     match a {
-        Answer::Accepted => Said {
-            number: 0,
-            first: 0,
-            second: 0,
-        },
-        Answer::Broken(rule, id) => Said {
-            number: 1,
-            first: rule,
-            second: id,
-        },
-        Answer::Refused(number, place) => Said {
-            number: 2,
-            first: number,
-            second: place,
-        },
+        Answer::Accepted => says(0, 0, 0),
+        Answer::Broken(rule, id) => says(1, rule, id),
+        Answer::Refused(number, place) => says(2, number, place),
     }
 }
 
@@ -42,119 +45,111 @@ fn same(a: Said, b: Said) -> bool {
 // What a check is to say where a rule is broken at an id; accepted for id 0.
 fn broken_at(rule: u32, id: u32) -> Said {
     if id == 0 {
-        return Said {
-            number: 0,
-            first: 0,
-            second: 0,
-        };
+        return says(0, 0, 0);
     }
-    Said {
-        number: 1,
-        first: rule,
-        second: id,
+    says(1, rule, id)
+}
+
+// The tables: as many words as the largest book and register here have.
+fn types(all: &Words) -> &[u32] {
+    sheet::part(all, 0, 10)
+}
+
+fn relationships(all: &Words) -> &[u32] {
+    sheet::part(all, 1, 8)
+}
+
+fn rules(all: &Words) -> &[u32] {
+    sheet::part(all, 2, 10)
+}
+
+fn bodies(all: &Words) -> &[u32] {
+    sheet::part(all, 3, 1280)
+}
+
+fn objects(all: &Words) -> &[u32] {
+    sheet::part(all, 4, 140)
+}
+
+fn links(all: &Words) -> &[u32] {
+    sheet::part(all, 5, 72)
+}
+
+fn counts(all: &Words) -> Counts {
+    Counts {
+        types: 5,
+        relationships: 4,
+        rules: of(all, tally::RULES),
+        objects: of(all, tally::OBJECTS),
+        links: of(all, tally::LINKS),
+        events: 0,
     }
+}
+
+// What the proved full check says, and what it says of one rule at one object.
+fn proved(all: &Words) -> Said {
+    words_of(full::check(
+        counts(all),
+        types(all),
+        relationships(all),
+        rules(all),
+        bodies(all),
+        objects(all),
+        links(all),
+    ))
+}
+
+fn proved_at(all: &Words, rule: u32, id: u32) -> Said {
+    words_of(full::check_rule(
+        counts(all),
+        types(all),
+        relationships(all),
+        rules(all),
+        bodies(all),
+        objects(all),
+        links(all),
+        rule,
+        id,
+    ))
 }
 
 // The answer about one rule and one id, beside what it is to be.
-fn one_pair(
-    n: Counts,
-    types: &[u32],
-    relationships: &[u32],
-    rules: &[u32],
-    bodies: &[u32],
-    objects: &[u32],
-    links: &[u32],
-    rule: u32,
-    id: u32,
-    plainly: Said,
-    t: &mut [u32],
-) {
-    let proved = words_of(full::check_rule(
-        n,
-        types,
-        relationships,
-        rules,
-        bodies,
-        objects,
-        links,
-        rule,
-        id,
-    ));
-    count_if(t, tally::WRONG, !same(plainly, proved));
+fn one_pair(all: &mut Words, rule: u32, id: u32, plainly: Said) {
+    let wrong = !same(plainly, proved_at(all, rule, id));
+    add(&mut *all, tally::CASES, 1);
+    count_if(all, tally::WRONG, wrong);
 }
 
 // One rule at one row of the objects. Answers the id if it is broken there, else 0.
-fn one_object(
-    n: Counts,
-    types: &[u32],
-    relationships: &[u32],
-    rules: &[u32],
-    bodies: &[u32],
-    objects: &[u32],
-    links: &[u32],
-    w: &[u64],
-    tree: &[u32],
-    rule: u32,
-    row: u32,
-    t: &mut [u32],
-) -> u32 {
-    let id = word(objects, 10, row, 0);
-    let under = world::has(world::all(w, word(rules, 2, rule, 0)), row);
-    let broken = under && !plain::holds(tree, w, word(rules, 2, rule, 1), row);
+fn one_object(all: &mut Words, w: &World, tree: &Tree, rule: u32, row: u32) -> u32 {
+    let id = word(objects(all), 10, row, 0);
+    let under = world::has(world::all(w, word(rules(all), 2, rule, 0)), row);
+    let broken = under && !plain::holds(tree, w, word(rules(all), 2, rule, 1), row);
     let at = if broken { id } else { 0 };
-    let plainly = broken_at(rule, at);
-    one_pair(
-        n,
-        types,
-        relationships,
-        rules,
-        bodies,
-        objects,
-        links,
-        rule,
-        id,
-        plainly,
-        t,
-    );
-    count(t, tally::PAIRS);
-    count_if(t, tally::UNDER, under);
-    count_if(t, tally::BROKEN, broken);
+    one_pair(&mut *all, rule, id, broken_at(rule, at));
+    add(&mut *all, tally::PAIRS, 1);
+    count_if(&mut *all, tally::UNDER, under);
+    count_if(all, tally::BROKEN, broken);
     at
 }
 
+// The tree of a rule's body, and what is counted of it.
+fn plant(all: &mut Words, tree: &mut Tree, rule: u32) {
+    let rows = word(rules(all), 2, rule, 1);
+    plain::plant(&mut *tree, bodies(all), rule, rows);
+    plain::measure(tree, rows, &mut *all);
+    add(all, tally::RULES_SEEN, 1);
+}
+
 // One rule at every object, last first. Answers the lowest id at which it is broken, 0 if it holds.
-fn one_rule(
-    n: Counts,
-    types: &[u32],
-    relationships: &[u32],
-    rules: &[u32],
-    bodies: &[u32],
-    objects: &[u32],
-    links: &[u32],
-    w: &[u64],
-    rule: u32,
-    t: &mut [u32],
-) -> u32 {
+fn one_rule(all: &mut Words, w: &World, rule: u32) -> u32 {
     let mut tree = [0u32; 320];
-    plain::plant(&mut tree, bodies, rule, word(rules, 2, rule, 1));
+    plant(&mut *all, &mut tree, rule);
     let mut lowest: u32 = 0;
-    let mut row = n.objects;
+    let mut row = of(all, tally::OBJECTS);
     while 0 < row {
         row -= 1;
-        let id = one_object(
-            n,
-            types,
-            relationships,
-            rules,
-            bodies,
-            objects,
-            links,
-            w,
-            &tree,
-            rule,
-            row,
-            t,
-        );
+        let id = one_object(&mut *all, w, &tree, rule, row);
         if id != 0 {
             lowest = id;
         }
@@ -162,98 +157,28 @@ fn one_rule(
     lowest
 }
 
-// An object that is not there: no rule is broken at it.
-fn absent_object(
-    n: Counts,
-    types: &[u32],
-    relationships: &[u32],
-    rules: &[u32],
-    bodies: &[u32],
-    objects: &[u32],
-    links: &[u32],
-    t: &mut [u32],
-) {
-    let accepted = broken_at(0, 0);
-    one_pair(
-        n,
-        types,
-        relationships,
-        rules,
-        bodies,
-        objects,
-        links,
-        0,
-        65535,
-        accepted,
-        t,
+// The world of the register.
+fn fill(all: &Words, w: &mut World) {
+    world::fill(
+        w,
+        types(all),
+        objects(all),
+        of(all, tally::OBJECTS),
+        links(all),
+        of(all, tally::LINKS),
     );
-    count(t, tally::ABSENT);
-}
-
-// A rule that is not there: refused, whatever the object.
-fn absent_rule(
-    n: Counts,
-    types: &[u32],
-    relationships: &[u32],
-    rules: &[u32],
-    bodies: &[u32],
-    objects: &[u32],
-    links: &[u32],
-    t: &mut [u32],
-) {
-    let rule = n.rules;
-    let refused = Said {
-        number: 2,
-        first: 4,
-        second: rule,
-    };
-    let id = word(objects, 10, 0, 0);
-    one_pair(
-        n,
-        types,
-        relationships,
-        rules,
-        bodies,
-        objects,
-        links,
-        rule,
-        id,
-        refused,
-        t,
-    );
-    count(t, tally::ABSENT);
 }
 
 // Every rule at every object, last first. Answers what a full check is to say.
-fn all_rules(
-    n: Counts,
-    types: &[u32],
-    relationships: &[u32],
-    rules: &[u32],
-    bodies: &[u32],
-    objects: &[u32],
-    links: &[u32],
-    t: &mut [u32],
-) -> Said {
-    let mut w = [0u64; world::LENGTH];
-    world::fill(&mut w, types, objects, n.objects, links, n.links);
+fn all_rules(all: &mut Words) -> Said {
+    let mut w = [0u64; 264];
+    fill(all, &mut w);
     let mut lowest: u32 = 0;
     let mut id: u32 = 0;
-    let mut rule = n.rules;
+    let mut rule = of(all, tally::RULES);
     while 0 < rule {
         rule -= 1;
-        let found = one_rule(
-            n,
-            types,
-            relationships,
-            rules,
-            bodies,
-            objects,
-            links,
-            &w,
-            rule,
-            t,
-        );
+        let found = one_rule(&mut *all, &w, rule);
         if found != 0 {
             lowest = rule;
             id = found;
@@ -262,30 +187,40 @@ fn all_rules(
     broken_at(lowest, id)
 }
 
+// An object that is not there: no rule is broken at it. A rule that is not there: refused, whatever the object.
+fn absent(all: &mut Words) {
+    let rule = of(all, tally::RULES);
+    let id = word(objects(all), 10, 0, 0);
+    one_pair(&mut *all, 0, 65535, broken_at(0, 0));
+    one_pair(&mut *all, rule, id, says(2, 4, rule));
+    add(all, tally::ABSENT, 2);
+}
+
 // Counts a book by the two answers of its full check.
-fn count_book(n: Counts, plainly: Said, proved: Said, t: &mut [u32]) {
-    count(t, tally::BOOKS);
-    count_if(t, tally::ACCEPTED, proved.number == 0);
-    count_if(t, tally::LATER, proved.number == 1 && 0 < proved.first);
-    count_if(t, tally::WRONG, !same(plainly, proved));
-    tally::add(t, tally::OBJECTS, n.objects);
-    tally::add(t, tally::LINKS, n.links);
+fn count_book(all: &mut Words, plainly: Said, proved: Said) {
+    add(&mut *all, tally::BOOKS, 1);
+    add(&mut *all, tally::CASES, 1);
+    count_if(&mut *all, tally::ACCEPTED, proved.number == 0);
+    count_if(
+        &mut *all,
+        tally::LATER,
+        proved.number == 1 && 0 < proved.first,
+    );
+    count_if(all, tally::WRONG, !same(plainly, proved));
+}
+
+fn count_rows(all: &mut Words) {
+    let o = of(all, tally::OBJECTS);
+    let l = of(all, tally::LINKS);
+    add(&mut *all, tally::OBJECTS_SEEN, o);
+    add(all, tally::LINKS_SEEN, l);
 }
 
 // The full check and every pair of a book and a register.
-pub fn compare(
-    n: Counts,
-    types: &[u32],
-    relationships: &[u32],
-    rules: &[u32],
-    bodies: &[u32],
-    objects: &[u32],
-    links: &[u32],
-    t: &mut [u32],
-) {
-    let plainly = all_rules(n, types, relationships, rules, bodies, objects, links, t);
-    let proved = words_of(full::check(n, types, relationships, rules, bodies, objects, links));
-    absent_object(n, types, relationships, rules, bodies, objects, links, t);
-    absent_rule(n, types, relationships, rules, bodies, objects, links, t);
-    count_book(n, plainly, proved, t);
+pub fn compare(all: &mut Words) {
+    let plainly = all_rules(&mut *all);
+    let by_proof = proved(all);
+    absent(&mut *all);
+    count_book(&mut *all, plainly, by_proof);
+    count_rows(all);
 }

@@ -1,6 +1,8 @@
 // The plain evaluator, from document 01's "Body forms". Every set is made whole before it is used, both parts of every form are
 // evaluated, and a quantifier looks at every member. A value is one word: a truth is 0 or 1, a number is its two's complement, and a set
 // is one bit for each object's row.
+use crate::tally;
+use crate::tally::Words;
 use crate::words::down;
 use crate::words::get;
 use crate::words::put;
@@ -72,6 +74,60 @@ pub fn plant(tree: &mut [u32], bodies: &[u32], rule: u32, rows: u32) {
         top = hang(tree, &mut stack, top, row, code);
         row += 1;
     }
+}
+
+// How many variables are around a form's second part.
+fn inside(code: u32, count: u32) -> u32 {
+    if binds(code) {
+        return up(count);
+    }
+    count
+}
+
+// One bit more for the variable that a form names: kind, cell, role.
+fn with_named(named: u64, code: u32, x: u32) -> u64 {
+    match code {
+        13 | 15 | 20 => world::with(named, x),
+        _ => named,
+    }
+}
+
+// Puts the level and the variables of a form's parts beside their rows of the levels: one level deeper, and of the second part of a form
+// that binds one variable more.
+fn lower(tree: &[u32], levels: &mut [u32], row: u32, code: u32) {
+    if parts(code) == 0 {
+        return;
+    }
+    let deeper = up(word(levels, 2, row, 0));
+    let count = word(levels, 2, row, 1);
+    let first = word(tree, 5, row, 3);
+    let second = word(tree, 5, row, 4);
+    put_word(&mut *levels, 2, first, 0, deeper);
+    put_word(&mut *levels, 2, first, 1, count);
+    put_word(&mut *levels, 2, second, 0, deeper);
+    put_word(levels, 2, second, 1, inside(code, count));
+}
+
+// Counts a form of the tree: its operator, its level, and the variables around it.
+fn count_form(levels: &[u32], row: u32, code: u32, all: &mut Words) {
+    tally::add(&mut *all, code % 23, 1);
+    tally::raise(&mut *all, tally::DEPTH, word(levels, 2, row, 0));
+    tally::raise(all, tally::SCOPE, word(levels, 2, row, 1));
+}
+
+// Counts the forms of a tree from its root down.
+pub fn measure(tree: &[u32], rows: u32, all: &mut Words) {
+    let mut levels = [1u32; 128];
+    let mut named: u64 = 0;
+    let mut row = rows;
+    while 0 < row {
+        row -= 1;
+        let code = word(tree, 5, row, 0);
+        named = with_named(named, code, word(tree, 5, row, 1));
+        count_form(&levels, row, code, &mut *all);
+        lower(tree, &mut levels, row, code);
+    }
+    tally::raise(all, tally::NAMED, members(named));
 }
 
 fn truth(b: bool) -> u64 {

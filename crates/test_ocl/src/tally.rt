@@ -1,113 +1,82 @@
-// What is counted: how often each operator occurs, by its code, and then the rest.
-use crate::words::get;
+// The words of a book's tables, as a sheet has them; after them, how many rules, objects and links there are, and what is counted: how
+// often each operator occurs, by its code, and then the rest.
 use crate::words::greater;
-use crate::words::put;
-use crate::words::up;
+use cases::line;
+use cases::say;
+use cases::sheet;
 
-pub const BOOKS: usize = 23;
+pub type Words = [u32; 31977];
 
-pub const ACCEPTED: usize = 24;
+pub const RULES: u32 = 31936;
 
-pub const LATER: usize = 25;
+pub const OBJECTS: u32 = 31937;
 
-pub const RULES: usize = 26;
+pub const LINKS: u32 = 31938;
 
-pub const OBJECTS: usize = 27;
+// What is counted after the operators, by its slot.
+pub const BOOKS: u32 = 23;
 
-pub const LINKS: usize = 28;
+pub const ACCEPTED: u32 = 24;
 
-pub const PAIRS: usize = 29;
+pub const LATER: u32 = 25;
 
-pub const UNDER: usize = 30;
+pub const RULES_SEEN: u32 = 26;
 
-pub const BROKEN: usize = 31;
+pub const OBJECTS_SEEN: u32 = 27;
 
-pub const ABSENT: usize = 32;
+pub const LINKS_SEEN: u32 = 28;
 
-pub const DEPTH: usize = 33;
+pub const PAIRS: u32 = 29;
 
-pub const SCOPE: usize = 34;
+pub const UNDER: u32 = 30;
 
-pub const NAMED: usize = 35;
+pub const BROKEN: u32 = 31;
 
-pub const WRONG: usize = 36;
+pub const ABSENT: u32 = 32;
 
-pub const LENGTH: usize = 37;
+pub const DEPTH: u32 = 33;
 
-// One more in a slot.
-pub fn count(tally: &mut [u32], slot: usize) {
-    let n = up(get(tally, slot));
-    put(tally, slot, n);
+pub const SCOPE: u32 = 34;
+
+pub const NAMED: u32 = 35;
+
+pub const WRONG: u32 = 36;
+
+pub const CASES: u32 = 37;
+
+pub fn of(all: &Words, at: u32) -> u32 {
+    sheet::get(all, sheet::size(at))
+}
+
+pub fn set(all: &mut Words, at: u32, value: u32) {
+    sheet::put(all, sheet::size(at), value);
+}
+
+// Where a slot stands.
+fn place(slot: u32) -> u32 {
+    31939 + slot % 38
 }
 
 // So many more in a slot.
-pub fn add(tally: &mut [u32], slot: usize, more: u32) {
-    let n = std::num::wrapping_add_u32(get(tally, slot), more);
-    put(tally, slot, n);
+pub fn add(all: &mut Words, slot: u32, more: u32) {
+    let n = std::num::wrapping_add_u32(of(all, place(slot)), more);
+    set(all, place(slot), n);
 }
 
 // The greatest so far in a slot.
-pub fn raise(tally: &mut [u32], slot: usize, seen: u32) {
-    let n = greater(get(tally, slot), seen);
-    put(tally, slot, n);
+pub fn raise(all: &mut Words, slot: u32, seen: u32) {
+    let n = greater(of(all, place(slot)), seen);
+    set(all, place(slot), n);
 }
 
 // One more in a slot if something is so.
-pub fn count_if(tally: &mut [u32], slot: usize, so: bool) {
+pub fn count_if(all: &mut Words, slot: u32, so: bool) {
     if so {
-        count(tally, slot);
+        add(all, slot, 1);
     }
 }
 
-fn line(name: &[u8], n: u32) {
-    io::write_all(1, name);
-    io::write_all(1, b" ");
-    io::print_decimal(1, n as u64);
-    io::write_all(1, b"\n");
-}
-
-pub fn print_counts(t: &[u32]) {
-    line(b"books", get(t, BOOKS));
-    line(b"books accepted", get(t, ACCEPTED));
-    line(b"books first broken in a later rule", get(t, LATER));
-    line(b"rules", get(t, RULES));
-    line(b"objects", get(t, OBJECTS));
-    line(b"links", get(t, LINKS));
-    line(b"pairs", get(t, PAIRS));
-    line(b"pairs under the context", get(t, UNDER));
-    line(b"pairs broken", get(t, BROKEN));
-    line(b"absent rules and objects", get(t, ABSENT));
-}
-
-pub fn print_truths(t: &[u32]) {
-    line(b"le", get(t, 0));
-    line(b"lt", get(t, 1));
-    line(b"eq", get(t, 2));
-    line(b"ne", get(t, 3));
-    line(b"ge", get(t, 4));
-    line(b"gt", get(t, 5));
-    line(b"not", get(t, 6));
-    line(b"and", get(t, 7));
-    line(b"or", get(t, 8));
-    line(b"xor", get(t, 9));
-    line(b"implies", get(t, 10));
-    line(b"forall", get(t, 11));
-    line(b"exists", get(t, 12));
-    line(b"kind", get(t, 13));
-}
-
-pub fn print_others(t: &[u32]) {
-    line(b"num", get(t, 14));
-    line(b"cell", get(t, 15));
-    line(b"size", get(t, 16));
-    line(b"sum", get(t, 17));
-    line(b"add", get(t, 18));
-    line(b"sub", get(t, 19));
-    line(b"role", get(t, 20));
-    line(b"all", get(t, 21));
-    line(b"select", get(t, 22));
-    line(b"deepest form", get(t, DEPTH));
-    line(b"most variables in scope", get(t, SCOPE));
-    line(b"most variables named in a body", get(t, NAMED));
-    line(b"disagreements", get(t, WRONG));
+// A slot's number after its name.
+pub fn print(line: &[u8], all: &Words) {
+    say::named(line::rest(line, 2), of(all, place(line::number(line, 1))));
 }

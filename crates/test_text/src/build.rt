@@ -1,7 +1,7 @@
 // A text that lines make longer: TEXT and byte 10 by `|`, TEXT alone by `+`, TEXT so many times by `*`, lines numbered from A to below B by
-// `%A B HEAD@TAIL`; `-` takes so many bytes away.
+// `%A B HEAD@TAIL`; `-` takes so many bytes away; `@AT N B` puts the byte B, or none, for N bytes.
 use crate::lent;
-use crate::lent::Numbers;
+use crate::lent::Words;
 use cases::line;
 use cases::sheet::size;
 
@@ -57,6 +57,32 @@ fn less(at: usize, n: u32) -> usize {
     if k <= at { at - k } else { 0 }
 }
 
+// What stands in a text from a place on; it is short.
+fn tail(text: &[u8], from: usize) -> [u8; 512] {
+    let mut rest = [0u8; 512];
+    lexical::write_bytes(&mut rest, 0, line::from(text, from));
+    rest
+}
+
+// Puts the byte that a line names, if it names one.
+fn put_byte(line: &[u8], text: &mut [u8], at: usize) -> usize {
+    if line::spaces(line) < 2 {
+        return at;
+    }
+    let b = [(line::number(line, 2) % 256) as u8];
+    lexical::write_bytes(text, at, &b)
+}
+
+// Puts a byte or none for others.
+fn splice(line: &[u8], text: &mut [u8], length: usize) -> usize {
+    let at = size(line::number(line, 0));
+    let after = std::num::wrapping_add_usize(at, size(line::number(line, 1)));
+    let rest = tail(line::first(text, length), after);
+    let more = line::from(line::first(text, length), after).len();
+    let next = put_byte(line, &mut *text, at);
+    lexical::write_bytes(text, next, line::first(&rest, more))
+}
+
 // Where the text ends after a line.
 fn grown(line: &[u8], text: &mut [u8], at: usize) -> usize {
     match line::byte(line, 0) {
@@ -64,6 +90,7 @@ fn grown(line: &[u8], text: &mut [u8], at: usize) -> usize {
         42 => repeat(text, at, line::rest(line, 1), line::number(line, 0)),
         43 => lexical::write_bytes(text, at, line::from(line, 1)),
         45 => less(at, line::number(line::from(line, 1), 0)),
+        64 => splice(line, text, at),
         _ => {
             let a = lexical::write_bytes(&mut *text, at, line::from(line, 1));
             lexical::write_bytes(text, a, b"\n")
@@ -75,7 +102,7 @@ fn low(n: usize) -> u32 {
     (n % 4294967296) as u32
 }
 
-pub fn grow(line: &[u8], text: &mut [u8], n: &mut Numbers) {
-    let at = grown(line, text, size(n[lent::LENGTH]));
-    n[lent::LENGTH] = low(at);
+pub fn grow(line: &[u8], text: &mut [u8], all: &mut Words) {
+    let at = grown(line, text, size(lent::of(all, lent::LENGTH)));
+    lent::set(all, lent::LENGTH, low(at));
 }

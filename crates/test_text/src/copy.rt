@@ -4,42 +4,61 @@ use cases::sheet::base;
 use cases::sheet::give;
 use cases::sheet::take;
 
-pub fn take64(all: &Words, table: u32, out: &mut [u32; 64]) {
-    take(all, base(table), out);
+pub fn out64(all: &Words, table: u32) -> [u32; 64] {
+    let mut words = [0u32; 64];
+    take(all, base(table), &mut words);
+    words
 }
 
 pub fn give64(all: &mut Words, table: u32, words: &[u32; 64]) {
     give(all, base(table), words);
 }
 
-pub fn take1024(all: &Words, table: u32, out: &mut [u32; 1024]) {
-    take(all, base(table), out);
+pub fn out1024(all: &Words, table: u32) -> [u32; 1024] {
+    let mut words = [0u32; 1024];
+    take(all, base(table), &mut words);
+    words
 }
 
 pub fn give1024(all: &mut Words, table: u32, words: &[u32; 1024]) {
     give(all, base(table), words);
 }
 
-pub fn take8192(all: &Words, table: u32, out: &mut [u32; 8192]) {
-    take(all, base(table), out);
+pub fn out8192(all: &Words, table: u32) -> [u32; 8192] {
+    let mut words = [0u32; 8192];
+    take(all, base(table), &mut words);
+    words
 }
 
 pub fn give8192(all: &mut Words, table: u32, words: &[u32; 8192]) {
     give(all, base(table), words);
 }
 
-pub fn take10240(all: &Words, table: u32, out: &mut [u32; 10240]) {
-    take(all, base(table), out);
+pub fn out10240(all: &Words, table: u32) -> [u32; 10240] {
+    let mut words = [0u32; 10240];
+    take(all, base(table), &mut words);
+    words
 }
 
 pub fn give10240(all: &mut Words, table: u32, words: &[u32; 10240]) {
     give(all, base(table), words);
 }
 
-pub fn take12288(all: &Words, table: u32, out: &mut [u32; 12288]) {
-    take(all, base(table), out);
+pub fn out12288(all: &Words, table: u32) -> [u32; 12288] {
+    let mut words = [0u32; 12288];
+    take(all, base(table), &mut words);
+    words
 }
 
 pub fn give12288(all: &mut Words, table: u32, words: &[u32; 12288]) {
     give(all, base(table), words);
+}
+
+// Numbers put from a place on.
+pub fn give6(all: &mut Words, at: u32, numbers: &[u32; 6]) {
+    give(all, at, numbers);
+}
+
+pub fn give7(all: &mut Words, at: u32, numbers: &[u32; 7]) {
+    give(all, at, numbers);
 }

@@ -1,8 +1,8 @@
 // What is said of a text or of tables. Before a text is read, every word of the tables is a mark.
 use crate::lent;
-use crate::lent::Numbers;
 use crate::lent::Said;
 use crate::lent::Words;
+use crate::lent::of;
 use cases::line;
 use cases::line::byte;
 use cases::say;
@@ -32,16 +32,16 @@ fn mark_at(i: usize) -> u32 {
 
 fn mark(all: &mut [u32]) {
     let mut i: usize = 0;
-    while i < all.len() {
-        all[i] = mark_at(i);
+    while i < sheet::LENGTH {
+        sheet::put(&mut *all, i, mark_at(i));
         i += 1;
     }
 }
 
 pub fn clear(all: &mut [u32]) {
     let mut i: usize = 0;
-    while i < all.len() {
-        all[i] = 0;
+    while i < sheet::LENGTH {
+        sheet::put(&mut *all, i, 0);
         i += 1;
     }
 }
@@ -50,8 +50,8 @@ pub fn clear(all: &mut [u32]) {
 fn unmarked(all: &[u32]) -> u32 {
     let mut n: u32 = 0;
     let mut i: usize = 0;
-    while i < all.len() {
-        if all[i] != mark_at(i) {
+    while i < sheet::LENGTH {
+        if sheet::get(all, i) != mark_at(i) {
             n = up(n);
         }
         i += 1;
@@ -59,36 +59,26 @@ fn unmarked(all: &[u32]) -> u32 {
     n
 }
 
-// How many rows of a table are used.
-fn rows(n: &Numbers, table: u32) -> u32 {
-    match table {
-        0 => n[7],
-        1 => n[8],
-        2 => n[9],
-        3 => n[9],
-        4 => n[10],
-        5 => n[11],
-        _ => n[12],
+// Where the section of a table is counted: the bodies have a row for each rule.
+fn section(table: u32) -> u32 {
+    if table < 3 {
+        return std::num::wrapping_add_u32(lent::USED, table);
     }
-}
-
-// How many words of a table are lent.
-fn words(n: &Numbers, table: u32) -> u32 {
-    n[(table % 7) as usize]
+    std::num::wrapping_add_u32(31942, table)
 }
 
 // How many words past the used rows of a table are not 0.
-fn past(n: &Numbers, all: &Words, table: u32) -> u32 {
-    let from = sheet::place(table, sheet::row(table, rows(n, table)));
-    let to = sheet::place(table, words(n, table));
-    sheet::used(all, from, to)
+fn past(all: &Words, table: u32) -> u32 {
+    let from = sheet::row(table, of(all, section(table)));
+    let to = of(all, std::num::wrapping_add_u32(lent::LENT, table));
+    sheet::used(all, sheet::place(table, from), sheet::place(table, to))
 }
 
-fn all_past(n: &Numbers, all: &Words) -> u32 {
+fn all_past(all: &Words) -> u32 {
     let mut wrong: u32 = 0;
     let mut table: u32 = 0;
     while table < 7 {
-        wrong = std::num::wrapping_add_u32(wrong, past(n, all, table));
+        wrong = std::num::wrapping_add_u32(wrong, past(all, table));
         table += 1;
     }
     wrong
@@ -137,28 +127,36 @@ fn later(text: &[u8], out: &[u8], w: Said) -> Answer {
     a
 }
 
-fn add_wrong(n: &mut Numbers, wrong: u32) {
-    n[lent::WRONG] = std::num::wrapping_add_u32(n[lent::WRONG], wrong);
+// Adds to a number that is counted.
+fn count(all: &mut Words, at: u32, more: u32) {
+    let n = std::num::wrapping_add_u32(of(all, at), more);
+    lent::set(all, at, n);
 }
 
-// What is said of a text; a case more. Words are wrong where a refusal changed them, or where they are not 0 past the used rows.
-pub fn ask(text: &[u8], n: &mut Numbers, all: &mut Words, out: &mut [u8]) -> Answer {
-    n[lent::CASES] = up(n[lent::CASES]);
-    mark(&mut *all);
-    let read = lent::read(text, &mut *n, &mut *all);
-    if read.0 != 0 {
-        add_wrong(n, unmarked(all));
-        return Answer {
-            number: read.0,
-            line: read.1,
-            later: 0,
-            place: 0,
-        };
-    }
-    let wrong = all_past(n, all);
-    add_wrong(&mut *n, wrong);
-    let w = lent::write(n, all, &mut *out);
+// What is said of a text that was read: words are wrong that are not 0 past the used rows.
+fn read_well(text: &[u8], all: &mut Words, out: &mut [u8]) -> Answer {
+    let wrong = all_past(all);
+    count(&mut *all, lent::WRONG, wrong);
+    let w = lent::write(all, &mut *out);
     later(text, out, w)
+}
+
+// What is said of a text; a case more. Words are wrong that a refusal changed.
+pub fn ask(text: &[u8], all: &mut Words, out: &mut [u8]) -> Answer {
+    count(&mut *all, lent::CASES, 1);
+    mark(&mut *all);
+    let read = lent::read(text, &mut *all);
+    if read.0 == 0 {
+        return read_well(text, all, out);
+    }
+    let wrong = unmarked(all);
+    count(all, lent::WRONG, wrong);
+    Answer {
+        number: read.0,
+        line: read.1,
+        later: 0,
+        place: 0,
+    }
 }
 
 // An answer in short: the refusal and its line; or `ok`, and the writer's refusal if there is one.
@@ -174,31 +172,30 @@ pub fn show(a: Answer) {
     }
 }
 
-pub fn in_short(text: &[u8], n: &mut Numbers, all: &mut Words, out: &mut [u8]) {
-    show(ask(text, n, all, out));
-    say::words(b"\n");
-}
-
 // The rows of the six sections.
-fn say_rows(n: &Numbers) {
-    let mut i: usize = 7;
-    while i < 13 {
+fn say_rows(all: &Words) {
+    let mut i: u32 = lent::USED;
+    while i < lent::LENGTH {
         say::words(b" ");
-        say::number(n[i]);
+        say::number(of(all, i));
         i += 1;
     }
 }
 
-// An answer with the rows of each section and the words that were wrong so far.
-pub fn counted(text: &[u8], n: &mut Numbers, all: &mut Words, out: &mut [u8]) {
-    show(ask(text, &mut *n, all, out));
-    say_rows(n);
-    say::named(b", words wrong", n[lent::WRONG]);
+// An answer; by `counted`, with the rows of each section and the words that were wrong so far.
+pub fn asked(line: &[u8], text: &[u8], all: &mut Words, out: &mut [u8]) {
+    show(ask(text, &mut *all, out));
+    if byte(line, 0) == 97 {
+        say::words(b"\n");
+        return;
+    }
+    say_rows(all);
+    say::named(b", words wrong", of(all, lent::WRONG));
 }
 
 // Reads the text into the tables.
-pub fn get(text: &[u8], n: &mut Numbers, all: &mut Words) {
-    lent::read(text, n, all);
+pub fn get(text: &[u8], all: &mut Words) {
+    lent::read(text, all);
 }
 
 fn blank(out: &mut [u8]) {
@@ -235,31 +232,48 @@ fn show_written(w: Said, text: &[u8], out: &[u8]) {
     say::named(b" unlike, past them changed", changed_from(out, size(w.1)));
 }
 
-// Writes the tables into so many bytes; a case more.
-pub fn write(line: &[u8], text: &[u8], n: &mut Numbers, all: &Words, out: &mut [u8]) {
-    n[lent::CASES] = up(n[lent::CASES]);
+// Writes the tables into so many bytes.
+fn write_some(all: &Words, bytes: u32, out: &mut [u8]) -> Said {
     blank(&mut *out);
-    let bytes = sheet::lesser(line::number(line, 1), out.len());
     let from = 0;
-    let w = lent::write(n, all, &mut out[from..bytes]);
-    n[lent::WRITTEN] = w.1;
+    let to = sheet::lesser(bytes, out.len());
+    lent::write(all, &mut out[from..to])
+}
+
+// The same, and says what is written; a case more.
+pub fn write(line: &[u8], text: &[u8], all: &mut Words, out: &mut [u8]) {
+    count(&mut *all, lent::CASES, 1);
+    let w = write_some(all, line::number(line, 1), &mut *out);
+    lent::set(all, lent::WRITTEN, w.1);
     show_written(w, text, out);
 }
 
 fn differing(a: &Words, b: &Words) -> u32 {
-    sheet::differing(a, b)
+    sheet::differing(tables_of(a), tables_of(b))
+}
+
+// The words of the tables.
+fn tables_of(all: &Words) -> &[u32] {
+    sheet::first(all, sheet::LENGTH)
+}
+
+// Reads a text into other tables, all rows lent, and compares them with the tables that are there.
+fn compare(text: &[u8], all: &Words) {
+    let mut again = [7u32; 31953];
+    lent::lend_all(&mut again);
+    lent::read(text, &mut again);
+    say::words(b"counts");
+    say_rows(&again);
+    say::words(b"\n");
+    say::named(b"words differing", differing(&again, all));
 }
 
 // What was written is the text from now on: read again, and compared with the tables that were written; a case more.
-pub fn verify(text: &mut [u8], out: &[u8], n: &mut Numbers, all: &Words) {
-    n[lent::CASES] = up(n[lent::CASES]);
-    let written = line::first(out, size(n[lent::WRITTEN]));
-    n[lent::LENGTH] = n[lent::WRITTEN];
+pub fn verify(text: &mut [u8], all: &mut Words, out: &[u8]) {
+    count(&mut *all, lent::CASES, 1);
+    let length = of(all, lent::WRITTEN);
+    lent::set(&mut *all, lent::LENGTH, length);
+    let written = line::first(out, size(length));
     lexical::write_bytes(text, 0, written);
-    let mut again = [7u32; 31936];
-    lent::read(written, &mut *n, &mut again);
-    say::words(b"counts");
-    say_rows(n);
-    say::words(b"\n");
-    say::named(b"words differing", differing(&again, all));
+    compare(written, all);
 }

@@ -2,86 +2,101 @@
 // they are lent, and back.
 use crate::copy;
 use cases::line;
+use cases::sheet;
+use cases::sheet::get;
 use cases::sheet::lesser;
-use cases::sheet::part;
+use cases::sheet::put;
 use reader::Outcome;
 use tables::Counts;
 use writer::Written;
+ghost use Prim.Native.Nat.{_≤_};
 
-// How many words of each of the seven tables are lent; how many rows of each of the six sections are used; how long the text is, and what
-// was written last; how many words were wrong so far, and how many cases there were.
-pub type Numbers = [u32; 17];
+// The words of the tables. After them: how many words of each of the seven tables are lent; how many rows of each of the six sections are
+// used; how long the text is, and what was written last; how many words were wrong so far, and how many cases there were.
+pub type Words = [u32; 31953];
 
-// The words of the tables.
-pub type Words = [u32; 31936];
+pub const LENT: u32 = 31936;
 
-pub const USED: usize = 7;
+pub const USED: u32 = 31943;
 
-pub const LENGTH: usize = 13;
+pub const LENGTH: u32 = 31949;
 
-pub const WRITTEN: usize = 14;
+pub const WRITTEN: u32 = 31950;
 
-pub const WRONG: usize = 15;
+pub const WRONG: u32 = 31951;
 
-pub const CASES: usize = 16;
+pub const CASES: u32 = 31952;
+
+pub fn of(all: &Words, at: u32) -> u32 {
+    get(all, sheet::size(at))
+}
+
+pub fn set(all: &mut Words, at: u32, value: u32) {
+    put(all, sheet::size(at), value);
+}
 
 // A refusal's number and place; or 0, and how many bytes were written.
 pub struct Said(pub u32, pub u32);
 
 // So many words of each table are lent.
-pub fn lend(line: &[u8], n: &mut Numbers) {
-    let mut w = [0u32; 7];
-    line::numbers(line, &mut w);
-    n[0] = w[0];
-    n[1] = w[1];
-    n[2] = w[2];
-    n[3] = w[3];
-    n[4] = w[4];
-    n[5] = w[5];
-    n[6] = w[6];
+fn lend(line: &[u8], all: &mut Words) {
+    let mut n = [0u32; 7];
+    line::numbers(line, &mut n);
+    copy::give7(all, LENT, &n);
+}
+
+// All words are lent.
+pub fn lend_all(all: &mut Words) {
+    copy::give7(all, LENT, &[64, 64, 64, 8192, 10240, 12288, 1024]);
 }
 
 // So many rows of each section are used.
-fn set_used(u: [u32; 6], n: &mut Numbers) {
-    n[7] = u[0];
-    n[8] = u[1];
-    n[9] = u[2];
-    n[10] = u[3];
-    n[11] = u[4];
-    n[12] = u[5];
+fn use_rows(line: &[u8], all: &mut Words) {
+    let mut n = [0u32; 6];
+    line::numbers(line, &mut n);
+    copy::give6(all, USED, &n);
 }
 
-pub fn use_rows(line: &[u8], n: &mut Numbers) {
-    let mut u = [0u32; 6];
-    line::numbers(line, &mut u);
-    set_used(u, n);
+// A line about a table's words, or about what is lent or used.
+pub fn settle(line: &[u8], all: &mut Words) {
+    let table = sheet::named(line);
+    if table < 7 {
+        sheet::change(line, table, all);
+        return;
+    }
+    match line::byte(line, 0) {
+        108 => lend(line, all),
+        117 => use_rows(line, all),
+        _ => {}
+    }
 }
 
 // What the reader said; the rows used are noted.
-fn said_read(outcome: Outcome, n: &mut Numbers) -> Said {
+fn said_read(outcome: Outcome, all: &mut Words) -> Said {
     match outcome {
         Outcome::Refused(number, line) => {
-            set_used([0u32; 6], n);
+            copy::give6(all, USED, &[0u32; 6]);
             Said(number, line)
         }
-        Outcome::Done {
-            types: a,
-            relationships: b,
-            rules: c,
-            objects: d,
-            links: e,
-            events: f,
-        } => {
-            set_used([a, b, c, d, e, f], n);
+        Outcome::Done(n) => {
+            let used = [n.types, n.relationships, n.rules, n.objects, n.links, n.events];
+            copy::give6(all, USED, &used);
             Said(0, 0)
         }
     }
 }
 
-// Reads a text into tables of which so many words are lent.
+// How many words of a table are lent, of as many as there are.
+fn some(all: &Words, table: u32, length: usize) -> usize
+    ensures { λ r. ⌜ r ≤ length ⌝ }
+{
+    lesser(of(all, std::num::wrapping_add_u32(LENT, table)), length)
+}
+
+// Reads a text into tables, as far as they are lent.
 fn read_parts(
     text: &[u8],
-    n: &Numbers,
+    all: &Words,
     types: &mut [u32],
     relationships: &mut [u32],
     rules: &mut [u32],
@@ -91,13 +106,13 @@ fn read_parts(
     events: &mut [u32],
 ) -> Outcome {
     let from = 0;
-    let a = lesser(n[0], types.len());
-    let b = lesser(n[1], relationships.len());
-    let c = lesser(n[2], rules.len());
-    let d = lesser(n[3], bodies.len());
-    let e = lesser(n[4], objects.len());
-    let f = lesser(n[5], links.len());
-    let g = lesser(n[6], events.len());
+    let a = some(all, 0, types.len());
+    let b = some(all, 1, relationships.len());
+    let c = some(all, 2, rules.len());
+    let d = some(all, 3, bodies.len());
+    let e = some(all, 4, objects.len());
+    let f = some(all, 5, links.len());
+    let g = some(all, 6, events.len());
     reader::read(
         text,
         &mut types[from..a],
@@ -110,50 +125,18 @@ fn read_parts(
     )
 }
 
-// The same, of whole tables.
-fn read_tables(
-    text: &[u8],
-    n: &Numbers,
-    types: &mut [u32; 64],
-    relationships: &mut [u32; 64],
-    rules: &mut [u32; 64],
-    bodies: &mut [u32; 8192],
-    objects: &mut [u32; 10240],
-    links: &mut [u32; 12288],
-    events: &mut [u32; 1024],
-) -> Outcome {
-    read_parts(
-        text,
-        n,
-        types,
-        relationships,
-        rules,
-        bodies,
-        objects,
-        links,
-        events,
-    )
-}
-
 // Reads a text into the tables.
-pub fn read(text: &[u8], n: &mut Numbers, all: &mut Words) -> Said {
-    let mut types = [0u32; 64];
-    let mut relationships = [0u32; 64];
-    let mut rules = [0u32; 64];
-    let mut bodies = [0u32; 8192];
-    let mut objects = [0u32; 10240];
-    let mut links = [0u32; 12288];
-    let mut events = [0u32; 1024];
-    copy::take64(all, 0, &mut types);
-    copy::take64(all, 1, &mut relationships);
-    copy::take64(all, 2, &mut rules);
-    copy::take8192(all, 3, &mut bodies);
-    copy::take10240(all, 4, &mut objects);
-    copy::take12288(all, 5, &mut links);
-    copy::take1024(all, 6, &mut events);
-    let outcome = read_tables(
+fn read_tables(text: &[u8], all: &mut Words) -> Outcome {
+    let mut types = copy::out64(all, 0);
+    let mut relationships = copy::out64(all, 1);
+    let mut rules = copy::out64(all, 2);
+    let mut bodies = copy::out8192(all, 3);
+    let mut objects = copy::out10240(all, 4);
+    let mut links = copy::out12288(all, 5);
+    let mut events = copy::out1024(all, 6);
+    let outcome = read_parts(
         text,
-        n,
+        all,
         &mut types,
         &mut relationships,
         &mut rules,
@@ -169,7 +152,12 @@ pub fn read(text: &[u8], n: &mut Numbers, all: &mut Words) -> Said {
     copy::give10240(&mut *all, 4, &objects);
     copy::give12288(&mut *all, 5, &links);
     copy::give1024(all, 6, &events);
-    said_read(outcome, n)
+    outcome
+}
+
+pub fn read(text: &[u8], all: &mut Words) -> Said {
+    let outcome = read_tables(text, &mut *all);
+    said_read(outcome, all)
 }
 
 // What the writer said.
@@ -180,25 +168,33 @@ fn said_written(w: Written) -> Said {
     }
 }
 
+// A table as far as it is lent.
+fn part(all: &Words, table: u32) -> &[u32] {
+    sheet::part(all, table, of(all, std::num::wrapping_add_u32(LENT, table)))
+}
+
+fn counts(all: &Words) -> Counts {
+    Counts {
+        types: of(all, 31943),
+        relationships: of(all, 31944),
+        rules: of(all, 31945),
+        objects: of(all, 31946),
+        links: of(all, 31947),
+        events: of(all, 31948),
+    }
+}
+
 // Writes the tables into lent bytes.
-pub fn write(n: &Numbers, all: &Words, out: &mut [u8]) -> Said {
-    let counts = Counts {
-        types: n[7],
-        relationships: n[8],
-        rules: n[9],
-        objects: n[10],
-        links: n[11],
-    };
+pub fn write(all: &Words, out: &mut [u8]) -> Said {
     said_written(writer::write(
-        counts,
-        n[12],
-        part(all, 0, n[0]),
-        part(all, 1, n[1]),
-        part(all, 2, n[2]),
-        part(all, 3, n[3]),
-        part(all, 4, n[4]),
-        part(all, 5, n[5]),
-        part(all, 6, n[6]),
+        counts(all),
+        part(all, 0),
+        part(all, 1),
+        part(all, 2),
+        part(all, 3),
+        part(all, 4),
+        part(all, 5),
+        part(all, 6),
         out,
     ))
 }

@@ -4,93 +4,84 @@
 // A text's answer is `ok`, or a refusal's number and line; after `ok/` stands the writer's refusal of tables that the reader takes.
 mod build;
 mod copy;
-mod damage;
 mod judge;
 mod lent;
 
 use cases::line;
+use cases::line::byte;
 use cases::say;
 use cases::sheet;
-use lent::Numbers;
 use lent::Words;
 
 // A text, and what is written: one byte more than any text here has.
 type Bytes = [u8; 65538];
 
-// The name of a case; all rows are lent.
-fn begin(name: &[u8], n: &mut Numbers) {
-    say::words(name);
+// A heading, or a case's name; of a case all rows are lent.
+fn title(line: &[u8], all: &mut Words) {
+    say::words(line::from(line, 2));
+    if byte(line, 0) == 58 {
+        say::words(b"\n");
+        return;
+    }
     say::words(b": ");
-    lent::lend(b"lent 64 64 64 8192 10240 12288 1024", n);
-}
-
-fn heading(words: &[u8]) {
-    say::words(words);
-    say::words(b"\n");
+    lent::lend_all(all);
 }
 
 // No text, and no word in the tables.
-fn clear(n: &mut Numbers, all: &mut Words) {
-    n[lent::LENGTH] = 0;
+fn clear(all: &mut Words) {
+    lent::set(&mut *all, lent::LENGTH, 0);
     judge::clear(all);
 }
 
 // The text as far as it goes.
-fn now<'a>(text: &'a [u8], n: &Numbers) -> &'a [u8] {
-    line::first(text, sheet::size(n[lent::LENGTH]))
+fn now<'a>(text: &'a [u8], all: &Words) -> &'a [u8] {
+    line::first(text, sheet::size(lent::of(all, lent::LENGTH)))
 }
 
-// A line that asks for an answer, or says what is lent and used.
-fn order(line: &[u8], text: &mut Bytes, out: &mut Bytes, n: &mut Numbers, all: &mut Words) {
-    match line::byte(line, 0) {
-        97 => judge::in_short(now(text, n), n, all, out),
-        99 => judge::counted(now(text, n), n, all, out),
-        100 => damage::every_byte(now(text, n), n, all, out),
-        103 => judge::get(now(text, n), n, all),
-        108 => lent::lend(line, n),
-        117 => lent::use_rows(line, n),
-        118 => judge::verify(text, out, n, all),
-        119 => judge::write(line, now(text, n), n, all, out),
+// A line that says what is lent or used, or that asks about the text or the tables.
+fn order(line: &[u8], text: &[u8], all: &mut Words, out: &mut [u8]) {
+    match byte(line, 0) {
+        97 | 99 => judge::asked(line, text, all, out),
+        103 => judge::get(text, all),
+        119 => judge::write(line, text, all, out),
+        _ => lent::settle(line, all),
+    }
+}
+
+// A line that makes the text another; any other leaves it.
+fn one_line(line: &[u8], text: &mut Bytes, all: &mut Words, out: &mut Bytes) {
+    match byte(line, 0) {
+        37 | 42 | 43 | 45 | 64 | 124 => build::grow(line, text, all),
+        118 => judge::verify(text, all, out),
+        _ => order(line, now(text, all), all, out),
+    }
+}
+
+// What a line does besides to the text: a title, or a table's words.
+fn prepare(line: &[u8], all: &mut Words) {
+    match byte(line, 0) {
+        61 | 126 => clear(all),
         _ => {}
     }
-}
-
-// A line that begins a case, or makes its text longer; any other is an order.
-fn special(line: &[u8], text: &mut Bytes, out: &mut Bytes, n: &mut Numbers, all: &mut Words) {
-    match line::byte(line, 0) {
-        58 => heading(line::from(line, 2)),
-        61 => {
-            clear(&mut *n, all);
-            begin(line::from(line, 2), n);
-        }
-        126 => clear(n, all),
-        38 => begin(line::from(line, 2), n),
-        37 | 42 | 43 | 45 | 124 => build::grow(line, text, n),
-        _ => order(line, text, out, n, all),
+    match byte(line, 0) {
+        38 | 58 | 61 => title(line, all),
+        _ => {}
     }
-}
-
-fn one_line(line: &[u8], text: &mut Bytes, out: &mut Bytes, n: &mut Numbers, all: &mut Words) {
-    let table = sheet::named(line);
-    if table < 7 {
-        sheet::change(line, table, all);
-        return;
-    }
-    special(line, text, out, n, all);
 }
 
 fn all_lines(input: &[u8]) {
     let mut text = [0u8; 65538];
     let mut out = [0u8; 65538];
-    let mut n = [0u32; 17];
-    let mut all = [0u32; 31936];
+    let mut all = [0u32; 31953];
     let mut at: usize = 0;
     while at < input.len() {
-        one_line(line::at(input, at), &mut text, &mut out, &mut n, &mut all);
+        let line = line::at(input, at);
+        prepare(line, &mut all);
+        one_line(line, &mut text, &mut all, &mut out);
         at = line::next(input, at);
     }
-    say::named(b"words wrong", n[lent::WRONG]);
-    say::named(b"cases", n[lent::CASES]);
+    say::named(b"words wrong", lent::of(&all, lent::WRONG));
+    say::named(b"cases", lent::of(&all, lent::CASES));
 }
 
 fn main() {

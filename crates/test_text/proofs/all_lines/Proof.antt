@@ -6,16 +6,19 @@ use Rattle.test_text.proofs.all_lines.Statement.{statement}
 use Rattle.test_text.proofs.all_lines.Tie as tie
 
 abbrev Inv-loop : tie.InvT-loop
-Inv-loop input text₀ out₀ n₀ all₀ at₀ t7 t8 text out n all at = Unit {0}
+Inv-loop input text₀ out₀ all₀ at₀ t7 t8 text out all at = Unit {0}
 
 abbrev μ-loop : tie.MeasureT-loop
-μ-loop input text₀ out₀ n₀ all₀ at₀ t7 t8 text out n all at = length input - at
+μ-loop input text₀ out₀ all₀ at₀ t7 t8 text out all at = length input - at
 
 loop-holds : tie.Need-loop-holds Inv-loop μ-loop
 loop-holds c = tt
 
 at-requires : tie.Need-at-requires Inv-loop μ-loop
 at-requires c κs = search needs
+
+prepare-requires : tie.Need-prepare-requires Inv-loop μ-loop
+prepare-requires c κs = search needs
 
 one-line-requires : tie.Need-one-line-requires Inv-loop μ-loop
 one-line-requires c κs = search needs
@@ -32,8 +35,8 @@ loop-again c = tt
 slice-aggregate-named : tie.Need-slice-aggregate-named Inv-loop μ-loop
 slice-aggregate-named c = search needs
 
-array-read-named : tie.Need-array-read-named Inv-loop μ-loop
-array-read-named c = search needs
+of-requires : tie.Need-of-requires Inv-loop μ-loop
+of-requires c κs = search needs
 
 named-requires : tie.Need-named-requires Inv-loop μ-loop
 named-requires c κs = search needs
@@ -41,8 +44,8 @@ named-requires c κs = search needs
 slice-aggregate-named-2 : tie.Need-slice-aggregate-named-2 Inv-loop μ-loop
 slice-aggregate-named-2 c = search needs
 
-array-read-named-2 : tie.Need-array-read-named-2 Inv-loop μ-loop
-array-read-named-2 c = search needs
+of-requires-2 : tie.Need-of-requires-2 Inv-loop μ-loop
+of-requires-2 c κs = search needs
 
 named-requires-2 : tie.Need-named-requires-2 Inv-loop μ-loop
 named-requires-2 c κs = search needs
@@ -58,14 +61,15 @@ all-lines-spec =
     μ-loop
     loop-holds
     at-requires
+    prepare-requires
     one-line-requires
     next-requires
     loop-less
     loop-again
     slice-aggregate-named
-    array-read-named
+    of-requires
     named-requires
     slice-aggregate-named-2
-    array-read-named-2
+    of-requires-2
     named-requires-2
     returns)

@@ -5,10 +5,10 @@ use Rattle.test_text.proofs.judge.all_past.Statement.{statement}
 use Rattle.test_text.proofs.judge.all_past.Tie as tie
 
 abbrev Inv-loop : tie.InvT-loop
-Inv-loop n all wrong₀ table₀ wrong table = Unit {0}
+Inv-loop all wrong₀ table₀ wrong table = Unit {0}
 
 abbrev μ-loop : tie.MeasureT-loop
-μ-loop n all wrong₀ table₀ wrong table = 7 - table
+μ-loop all wrong₀ table₀ wrong table = 7 - table
 
 loop-holds : tie.Need-loop-holds Inv-loop μ-loop
 loop-holds c = tt

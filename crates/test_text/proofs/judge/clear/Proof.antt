@@ -10,16 +10,13 @@ abbrev Inv-loop : tie.InvT-loop
 Inv-loop all₀ i₀ all i = length all ≡ length all₀
 
 abbrev μ-loop : tie.MeasureT-loop
-μ-loop all₀ i₀ all i = length all₀ - i
+μ-loop all₀ i₀ all i = 31936 - i
 
 loop-holds : tie.Need-loop-holds Inv-loop μ-loop
 loop-holds c = search needs
 
-mul-all : tie.Need-mul-all Inv-loop μ-loop
-mul-all c = search needs
-
-slice-write-all : tie.Need-slice-write-all Inv-loop μ-loop
-slice-write-all c = search needs
+put-requires : tie.Need-put-requires Inv-loop μ-loop
+put-requires c κs = search needs
 
 add-i : tie.Need-add-i Inv-loop μ-loop
 add-i c = search needs
@@ -43,8 +40,7 @@ clear-spec =
     Inv-loop
     μ-loop
     loop-holds
-    mul-all
-    slice-write-all
+    put-requires
     add-i
     loop-less
     loop-again

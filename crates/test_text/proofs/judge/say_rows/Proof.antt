@@ -5,10 +5,10 @@ use Rattle.test_text.proofs.judge.say_rows.Statement.{statement}
 use Rattle.test_text.proofs.judge.say_rows.Tie as tie
 
 abbrev Inv-loop : tie.InvT-loop
-Inv-loop n i₀ t3 i = Unit {0}
+Inv-loop all i₀ t3 i = Unit {0}
 
 abbrev μ-loop : tie.MeasureT-loop
-μ-loop n i₀ t3 i = 13 - i
+μ-loop all i₀ t3 i = 31949 - i
 
 loop-holds : tie.Need-loop-holds Inv-loop μ-loop
 loop-holds c = tt
@@ -19,11 +19,8 @@ slice-aggregate-words c = search needs
 words-requires : tie.Need-words-requires Inv-loop μ-loop
 words-requires c κs = search needs
 
-mul-number : tie.Need-mul-number Inv-loop μ-loop
-mul-number c = search needs
-
-element-copy-out-number : tie.Need-element-copy-out-number Inv-loop μ-loop
-element-copy-out-number c = search needs
+of-requires : tie.Need-of-requires Inv-loop μ-loop
+of-requires c κs = search needs
 
 number-requires : tie.Need-number-requires Inv-loop μ-loop
 number-requires c κs = search needs
@@ -49,8 +46,7 @@ say-rows-spec =
     loop-holds
     slice-aggregate-words
     words-requires
-    mul-number
-    element-copy-out-number
+    of-requires
     number-requires
     add-i
     loop-less

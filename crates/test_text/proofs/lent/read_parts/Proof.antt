@@ -4,47 +4,26 @@ use borrow.Author.Needs.{needs}
 use Rattle.test_text.proofs.lent.read_parts.Statement.{statement}
 use Rattle.test_text.proofs.lent.read_parts.Tie as tie
 
-element-copy-out-lesser : tie.Need-element-copy-out-lesser
-element-copy-out-lesser c = search needs
+some-requires : tie.Need-some-requires
+some-requires c κs = search needs
 
-lesser-requires : tie.Need-lesser-requires
-lesser-requires c κs = search needs
+some-requires-2 : tie.Need-some-requires-2
+some-requires-2 c κs = search needs
 
-element-copy-out-lesser-2 : tie.Need-element-copy-out-lesser-2
-element-copy-out-lesser-2 c = search needs
+some-requires-3 : tie.Need-some-requires-3
+some-requires-3 c κs = search needs
 
-lesser-requires-2 : tie.Need-lesser-requires-2
-lesser-requires-2 c κs = search needs
+some-requires-4 : tie.Need-some-requires-4
+some-requires-4 c κs = search needs
 
-element-copy-out-lesser-3 : tie.Need-element-copy-out-lesser-3
-element-copy-out-lesser-3 c = search needs
+some-requires-5 : tie.Need-some-requires-5
+some-requires-5 c κs = search needs
 
-lesser-requires-3 : tie.Need-lesser-requires-3
-lesser-requires-3 c κs = search needs
+some-requires-6 : tie.Need-some-requires-6
+some-requires-6 c κs = search needs
 
-element-copy-out-lesser-4 : tie.Need-element-copy-out-lesser-4
-element-copy-out-lesser-4 c = search needs
-
-lesser-requires-4 : tie.Need-lesser-requires-4
-lesser-requires-4 c κs = search needs
-
-element-copy-out-lesser-5 : tie.Need-element-copy-out-lesser-5
-element-copy-out-lesser-5 c = search needs
-
-lesser-requires-5 : tie.Need-lesser-requires-5
-lesser-requires-5 c κs = search needs
-
-element-copy-out-lesser-6 : tie.Need-element-copy-out-lesser-6
-element-copy-out-lesser-6 c = search needs
-
-lesser-requires-6 : tie.Need-lesser-requires-6
-lesser-requires-6 c κs = search needs
-
-element-copy-out-lesser-7 : tie.Need-element-copy-out-lesser-7
-element-copy-out-lesser-7 c = search needs
-
-lesser-requires-7 : tie.Need-lesser-requires-7
-lesser-requires-7 c κs = search needs
+some-requires-7 : tie.Need-some-requires-7
+some-requires-7 c κs = search needs
 
 mul-read : tie.Need-mul-read
 mul-read c = search needs
@@ -133,7 +112,7 @@ part-read-end-7 c = search needs
 read-requires : tie.Need-read-requires
 read-requires c κs = search needs
 
--- where the bodies come home, and the tables before them
+-- where the bodies come home, and the types
 abbrev bodies-home : tie.After-slice-known14 → tie.After-bodies
 bodies-home c = c .before .before .before .before .before .before .before
 
@@ -168,20 +147,13 @@ pub read-parts-spec : {M : Type 1} → statement M
 read-parts-spec =
     tie.close
     (tie.spec
-    element-copy-out-lesser
-    lesser-requires
-    element-copy-out-lesser-2
-    lesser-requires-2
-    element-copy-out-lesser-3
-    lesser-requires-3
-    element-copy-out-lesser-4
-    lesser-requires-4
-    element-copy-out-lesser-5
-    lesser-requires-5
-    element-copy-out-lesser-6
-    lesser-requires-6
-    element-copy-out-lesser-7
-    lesser-requires-7
+    some-requires
+    some-requires-2
+    some-requires-3
+    some-requires-4
+    some-requires-5
+    some-requires-6
+    some-requires-7
     mul-read
     sub-read
     part-read-start
