@@ -20,7 +20,7 @@ fn valid_id(id: u32) -> bool
     if id < 1 {
         return false;
     }
-    id <= 65535
+    id <= meaning::MAX_ID
 }
 
 // Whether the fields are an object's id and a known type.
@@ -53,7 +53,7 @@ fn alone(x: u32, y: u32, z: u32) -> bool
 fn with_cell(x: u32, y: u32) -> bool
     ensures { λ r. ⌜ r ≡ (ltb y cellCount && validId x) ⌝ }
 {
-    if y < 8 {
+    if y < meaning::CELLS {
         return valid_id(x);
     }
     false

@@ -1,16 +1,16 @@
 // Every check of a lent book and register, in the order of document 01's table of refusals.
+use meaning::MAX_EVENTS;
+use meaning::MAX_FORMS;
+use meaning::MAX_LINKS;
+use meaning::MAX_OBJECTS;
+use meaning::MAX_RELATIONSHIPS;
+use meaning::MAX_RULES;
+use meaning::MAX_TYPES;
 use tables::BODY_WIDTH;
 use tables::Counts;
 use tables::EVENT_WIDTH;
 use tables::Found;
 use tables::LINK_WIDTH;
-use tables::MAX_EVENTS;
-use tables::MAX_FORMS;
-use tables::MAX_LINKS;
-use tables::MAX_OBJECTS;
-use tables::MAX_RELATIONSHIPS;
-use tables::MAX_RULES;
-use tables::MAX_TYPES;
 use tables::OBJECT_WIDTH;
 use tables::RELATIONSHIP_WIDTH;
 use tables::RULE_WIDTH;

@@ -91,7 +91,9 @@ fn put_line(
     events: &mut [u32],
 )
     requires { ⌜ (row .section ≡ ruleName → ((t : ℕ) × (w : Written) × WholeBody (drop (bodyPlace (now line)) (now line)) t w)) × (row .section ≡ ruleName → (getD (now counts) ruleName 0 + 1) * bodyWords ≤ length (now bodies)) ⌝ }
-    ensures { λ _. ⌜ LinePut (now (line .entry)) row (now (counts .entry)) (sheetOf (now (types .entry)) (now (relationships .entry)) (now (rules .entry)) (now (bodies .entry)) (now (objects .entry)) (now (links .entry)) (now (events .entry))) (sheetOf (now (types .exit)) (now (relationships .exit)) (now (rules .exit)) (now (bodies .exit)) (now (objects .exit)) (now (links .exit)) (now (events .exit))) ⌝ }
+    ensures { λ _. ⌜ LinePut (now (line .entry)) row (now (counts .entry))
+        (sheetOf (now (types .entry)) (now (relationships .entry)) (now (rules .entry)) (now (bodies .entry)) (now (objects .entry)) (now (links .entry)) (now (events .entry)))
+        (sheetOf (now (types .exit)) (now (relationships .exit)) (now (rules .exit)) (now (bodies .exit)) (now (objects .exit)) (now (links .exit)) (now (events .exit))) ⌝ }
 {
     let section = row.section;
     let held = row.words;

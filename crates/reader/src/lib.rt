@@ -1,11 +1,11 @@
 // Text to tables. The whole text is looked through before a row is written.
 use line::or;
 use look::lesser;
+use meaning::MAX_FORMS;
 use tables::BODY_WIDTH;
 use tables::Counts;
 use tables::EVENT_WIDTH;
 use tables::LINK_WIDTH;
-use tables::MAX_FORMS;
 use tables::OBJECT_WIDTH;
 use tables::RELATIONSHIP_WIDTH;
 use tables::RULE_WIDTH;

@@ -1,12 +1,12 @@
 // The text looked through, line by line: the first refusal, or how many rows each section has.
 use crate::line::read_line;
-use tables::MAX_EVENTS;
-use tables::MAX_FORMS;
-use tables::MAX_LINKS;
-use tables::MAX_OBJECTS;
-use tables::MAX_RELATIONSHIPS;
-use tables::MAX_RULES;
-use tables::MAX_TYPES;
+use meaning::MAX_EVENTS;
+use meaning::MAX_FORMS;
+use meaning::MAX_LINKS;
+use meaning::MAX_OBJECTS;
+use meaning::MAX_RELATIONSHIPS;
+use meaning::MAX_RULES;
+use meaning::MAX_TYPES;
 ghost use mathlib.Core.Path.{_≡_};
 ghost use mathlib.Core.Bool.{_&&_, _||_, cond};
 ghost use Prim.Native.Nat.{suc, _+_, min, _≤_, _<_};

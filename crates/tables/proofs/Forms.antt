@@ -310,7 +310,10 @@ module _ (rows : ℕ → BodyRow) where
   rowOf o x y = record { code = codeOf o; x = x; y = y; z = 0 }
 
   -- row i is that of an operator: what is read there by the readings of its parts
-  row-read : (i : ℕ) (op : Operator) (x y : ℕ) (parts : List Sort) (f s : RowsRead) → (shapeOf op) .parts ≡ parts → firstPart rows i ≡ f → secondPart rows i ≡ s → rowList (rows i) ≡ rowWords op x y → T (partsFit parts i f s) → T (fieldsFit ((shapeOf op) .fields) (rowOf op x y)) → ending rows (suc i) ≡ record { start = startOf parts i (f .start) (s .start); sound = true; form = formOf op (rowOf op x y) (f .form) (s .form) }
+  row-read : (i : ℕ) (op : Operator) (x y : ℕ) (parts : List Sort) (f s : RowsRead) → (shapeOf op) .parts ≡ parts
+      → firstPart rows i ≡ f → secondPart rows i ≡ s → rowList (rows i) ≡ rowWords op x y
+      → T (partsFit parts i f s) → T (fieldsFit ((shapeOf op) .fields) (rowOf op x y))
+      → ending rows (suc i) ≡ record { start = startOf parts i (f .start) (s .start); sound = true; form = formOf op (rowOf op x y) (f .form) (s .form) }
   unfolding readingOf rowOf
   row-read i op x y parts f s shape first second row there fields =
       let field : (k : ℕ) → getD (rowList (rows i)) k 0 ≡ getD (rowWords op x y) k 0 = λ k. ap (λ l. getD l k 0) row in

@@ -15,22 +15,6 @@ pub const LINK_WIDTH: u32 = 3;
 
 pub const EVENT_WIDTH: u32 = 4;
 
-// The limit on the used rows of each table.
-pub const MAX_TYPES: u32 = 32;
-
-pub const MAX_RELATIONSHIPS: u32 = 32;
-
-pub const MAX_RULES: u32 = 32;
-
-pub const MAX_OBJECTS: u32 = 1024;
-
-pub const MAX_LINKS: u32 = 4096;
-
-pub const MAX_EVENTS: u32 = 256;
-
-// The limit on the rows of a body. Each rule has so many rows of the table of bodies.
-pub const MAX_FORMS: u32 = 64;
-
 // How many rows of each lent table are used.
 pub struct Counts {
     pub types: u32,

@@ -119,11 +119,13 @@ ended-requires c κs = search needs
 
 returns-2 : tie.Need-returns-2 Inv-loop μ-loop
 returns-2 c =
-    let at-loop = c .before .before .before .before .before .before .before .before in
+    let at-lacking = c .before .before .before .before .before .before in
+    let at-token = at-lacking .before in
+    let at-loop = at-token .before in
     let t = at-loop .before .before .args .line .now in
     let now = at-loop .loop in
-    let s = found-stands t (now .i) _ _ (sym (c .before .before .before .found3 .given .1) ∙ c .before .before .before .before .before .before .before .token .ensures) refl in
-    let after = c .before .before .before .before .before .before .lacking .ensures ∙ ap (lackingAfter (now .lacks)) (c .before .before .before .found3 .given .1) in
+    let s = found-stands t (now .i) _ _ (sym (c .before .before .before .found3 .given .1) ∙ at-token .token .ensures) refl in
+    let after = at-lacking .lacking .ensures ∙ ap (lackingAfter (now .lacks)) (c .before .before .before .found3 .given .1) in
     c .ended .ensures ∙ sym (running-done t (now .i) (now .outer) (now .depth) (now .lacks) (now .forms) _ (now .inv) _ _ s after (c .before .before .before .before .before .if1 .left) (c .before .if2 .taken))
 
 array-read-lacks : tie.Need-array-read-lacks Inv-loop μ-loop

@@ -197,28 +197,34 @@ write-row-requires c κs = search needs
 
 add-row : tie.Need-add-row Inv-loop μ-loop
 add-row c =
-    let at-loop = c .before .before .before .before .before .before .before .before .before .before in
+    let at-next = c .before .before .before .before .before .before .before in
+    let at-token = at-next .before .before in
+    let at-loop = at-token .before in
     let start = at-loop .before .before .before in
     let now = at-loop .loop in
-    let s = found-stands (start .args .line .now) (now .i) _ _ (sym (c .before .before .before .before .before .before .before .next .given .1) ∙ c .before .before .before .before .before .before .before .before .before .token .ensures) refl in
+    let s = found-stands (start .args .line .now) (now .i) _ _ (sym (at-next .next .given .1) ∙ at-token .token .ensures) refl in
     let (t, w, whole) = start .pre .0 in
     let r = now .inv t w whole in
     record { fits = omega (arith, end-fits r _ s (c .before .before .before .before .before .if1 .left)) }
 
 loop-less-3 : tie.Need-loop-less-3 Inv-loop μ-loop
 loop-less-3 c =
-    let at-loop = c .before .before .before .before .before .before .before .before .before .before in
+    let at-next = c .before .before .before .before .before .before .before in
+    let at-token = at-next .before .before in
+    let at-loop = at-token .before in
     let start = at-loop .before .before .before in
     let now = at-loop .loop in
-    let s = found-stands (start .args .line .now) (now .i) _ _ (sym (c .before .before .before .before .before .before .before .next .given .1) ∙ c .before .before .before .before .before .before .before .before .before .token .ensures) refl in
+    let s = found-stands (start .args .line .now) (now .i) _ _ (sym (at-next .next .given .1) ∙ at-token .token .ensures) refl in
     omega (arith, s .inside, s .further)
 
 loop-again-3 : tie.Need-loop-again-3 Inv-loop μ-loop
 loop-again-3 c =
-    let at-loop = c .before .before .before .before .before .before .before .before .before .before in
+    let at-next = c .before .before .before .before .before .before .before in
+    let at-token = at-next .before .before in
+    let at-loop = at-token .before in
     let start = at-loop .before .before .before in
     let now = at-loop .loop in
-    let s = found-stands (start .args .line .now) (now .i) _ _ (sym (c .before .before .before .before .before .before .before .next .given .1) ∙ c .before .before .before .before .before .before .before .before .before .token .ensures) refl in
+    let s = found-stands (start .args .line .now) (now .i) _ _ (sym (at-next .next .given .1) ∙ at-token .token .ensures) refl in
     λ t w whole. rw (c .before .before .write-row .ensures) (putting-end (now .inv t w whole) _ s (c .before .before .before .before .before .if1 .left) (start .pre .1))
 
 enum-told : tie.Need-enum-told Inv-loop μ-loop

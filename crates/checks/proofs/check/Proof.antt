@@ -19,17 +19,20 @@ any-overfull-requires c κs = search needs
 
 returns : tie.Need-returns
 returns c =
-    let start = c .before .before .before .before .before .before .before .before in
+    let known = c .before .before .before .before .before .before in
+    let start = known .before .before in
     sym (counts-refused (start .args .n) (sheet start) bookTables (start .args .scratch-short) (sym (c .before .any-overfull .ensures) ∙ c .if1 .taken))
 
 -- no table has too many rows, and no body
-few : (c : tie.Else1) → let start = c .before .before .before .before .before .before .before .before in
+few : (c : tie.Else1) → let known = c .before .before .before .before .before .before in let start = known .before .before in
     anyOverfull bookTables (start .args .n) (sheet start) ≡ false
-few c = sym (c .before .any-overfull .ensures) ∙ c .if1 .left
+few c =
+    sym (c .before .any-overfull .ensures) ∙ c .if1 .left
 
-short : (c : tie.Else2) → let start = c .before .before .before .before .before .before .before .before .before .before in
+short : (c : tie.Else2) → let known = c .before .before .before .before .before .before in let start = known .before .before .before .before in
     anyLong (sheet start .rules) (start .args .n .rules) ≡ false
-short c = sym (c .before .any-long .ensures) ∙ c .if2 .left
+short c =
+    sym (c .before .any-long .ensures) ∙ c .if2 .left
 
 any-long-requires : tie.Need-any-long-requires
 any-long-requires c κs = search needs
@@ -37,7 +40,8 @@ any-long-requires c κs = search needs
 returns-2 : tie.Need-returns-2
 returns-2 c =
     let at-few = c .before .before in
-    let start = at-few .before .before .before .before .before .before .before .before in
+    let known = at-few .before .before .before .before in
+    let start = known .before .before .before .before in
     sym (bodies-refused (start .args .n) (sheet start) bookTables (start .args .scratch-short) (few at-few)
     (sym (c .before .any-long .ensures) ∙ c .if2 .taken))
 
@@ -51,7 +55,8 @@ returns-3 : tie.Need-returns-3
 returns-3 c =
     let at-short = c .before .before .before in
     let at-few = at-short .before .before in
-    let start = at-few .before .before .before .before .before .before .before .before in
+    let known = at-few .before .before .before .before in
+    let start = known .before .before .before .before in
     sym (rows-refused (start .args .n) (sheet start) bookTables (start .args .scratch-short) (few at-few) (short at-short)
     (sym (c .before .or .ensures ∙ ap (λ b. b || start .args .scratch-short) (c .before .before .any-broken .ensures)) ∙ c .if3 .taken))
 
@@ -63,7 +68,8 @@ returns-4 c =
     let at-or = c .before .before in
     let at-short = at-or .before .before in
     let at-few = at-short .before .before in
-    let start = at-few .before .before .before .before .before .before .before .before in
+    let known = at-few .before .before .before .before in
+    let start = known .before .before .before .before in
     c .contents .ensures
     ∙ sym (contents-decide (start .args .n) (sheet start) bookTables (start .args .scratch-short) (few at-few) (short at-short)
     (sym (at-or .or .ensures ∙ ap (λ b. b || start .args .scratch-short) (at-or .before .any-broken .ensures)) ∙ c .before .if3 .left))

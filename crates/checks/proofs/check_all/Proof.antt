@@ -22,7 +22,8 @@ too-many-requires c κs = search needs
 returns : tie.Need-returns
 returns c =
     let at-many = c .before in
-    let start = at-many .before .before .before .before .before .before .before .before .before in
+    let known = at-many .before .before .before .before in
+    let start = known .before .before .before .before .before in
     sym (events-refused (start .args .n) (sheet start) (start .args .scratch-short) (sym (at-many .too-many .ensures) ∙ c .if1 .taken))
 
 not-whole-requires : tie.Need-not-whole-requires
@@ -38,7 +39,8 @@ returns-2 : tie.Need-returns-2
 returns-2 c =
     let at-few = c .before .before .before in
     let at-many = at-few .before in
-    let start = at-many .before .before .before .before .before .before .before .before .before in
+    let known = at-many .before .before .before .before in
+    let start = known .before .before .before .before .before in
     let a = start .args in
     let short = c .before .or .ensures ∙ ap (λ b. b || a .scratch-short) (c .before .before .not-whole .ensures) in
     c .check .ensures

@@ -31,8 +31,9 @@ same-length c = search needs
 
 returns : tie.Need-returns
 returns c =
-    let start = c .before .before .before .before .before .before .before .before .before in
-    let call = c .before .before .before .before .before .before .spell in
+    let at-spell = c .before .before .before .before .before .before in
+    let start = at-spell .before .before .before in
+    let call = at-spell .spell in
     let l = call .last .1 .0 in
     let e : take (11 - call .result) (drop (call .result) l) ≡ decimalOf (signed (start .args .word)) =
     take-all (11 - call .result) (drop (call .result) l) (rw length-drop (omega (arith, call .ensures .2))) ∙ call .ensures .1 in

@@ -17,7 +17,8 @@ same-length c = search needs
 
 returns : tie.Need-returns
 returns c =
-    let entry = c .before .before .before .before .before .before .before .before in
+    let known = c .before .before .before .before .before .before in
+    let entry = known .before .before in
     ((λ t w q h. c .before .before .write-body .ensures t w (subst (λ n. WholeBody (drop n (now (entry .args .line))) t w) (sym (c .before .before .before .before .body-place .ensures)) h)), (λ no. absurd (no (c .before .before .before .before .before .if1 .taken))))
 
 returns-2 : tie.Need-returns-2

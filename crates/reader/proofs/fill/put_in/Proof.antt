@@ -17,7 +17,8 @@ same-length c = search needs
 
 returns : tie.Need-returns
 returns c =
-    let entry = c .before .before .before .before .before .before .before .before in
+    let known = c .before .before .before .before .before .before in
+    let entry = known .before .before in
     rw (eq-eqb (entry .args .section) (entry .args .wanted) (c .before .before .before .before .before .if1 .taken)) (c .before .before .write-row .ensures)
 
 returns-2 : tie.Need-returns-2

@@ -74,7 +74,8 @@ put-line-requires c κs =
 abbrev put-at : tie.After-cells2 Inv-loop μ-loop → tie.After-put-line Inv-loop μ-loop
 put-at c =
     let at-objects = c .before .before .before .before .before .before in
-    at-objects .before .before .before .before .before .before .before .before .before
+    let at-bodies = at-objects .before .before .before .before in
+    at-bodies .before .before .before .before .before
 
 abbrev read-at : tie.After-put-line Inv-loop μ-loop → tie.After-read-line Inv-loop μ-loop
 read-at c = let at-args = c .before .before .before .before .before in at-args .before .before .before .before .before

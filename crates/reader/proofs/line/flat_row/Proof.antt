@@ -23,14 +23,22 @@ object-row-requires c κs = search needs
 
 returns-3 : tie.Need-returns-3
 unfolding flatHeld
-returns-3 c = rw (ne-eqb (c .before .before .before .before .args .name) 0 (c .before .before .before .if1 .left), ne-eqb (c .before .before .before .before .args .name) 1 (c .before .before .if2 .left), eq-eqb (c .before .before .before .before .args .name) 3 (c .before .if3 .taken)) (c .object-row .ensures)
+returns-3 c =
+    let else2 = c .before .before in
+    let name = else2 .before .before .args .name in
+    rw (ne-eqb name 0 (else2 .before .if1 .left), ne-eqb name 1 (else2 .if2 .left), eq-eqb name 3 (c .before .if3 .taken)) (c .object-row .ensures)
 
 link-row-requires : tie.Need-link-row-requires
 link-row-requires c κs = search needs
 
 returns-4 : tie.Need-returns-4
 unfolding flatHeld
-returns-4 c = rw (ne-eqb (c .before .before .before .before .before .args .name) 0 (c .before .before .before .before .if1 .left), ne-eqb (c .before .before .before .before .before .args .name) 1 (c .before .before .before .if2 .left), ne-eqb (c .before .before .before .before .before .args .name) 3 (c .before .before .if3 .left), eq-eqb (c .before .before .before .before .before .args .name) 4 (c .before .if4 .taken)) (c .link-row .ensures)
+returns-4 c =
+    let else3 = c .before .before in
+    let else2 = else3 .before in
+    let name = else2 .before .before .args .name in
+    rw (ne-eqb name 0 (else2 .before .if1 .left), ne-eqb name 1 (else2 .if2 .left), ne-eqb name 3 (else3 .if3 .left), eq-eqb name 4 (c .before .if4 .taken))
+    (c .link-row .ensures)
 
 no-row-requires : tie.Need-no-row-requires
 no-row-requires c κs = search needs

@@ -39,7 +39,10 @@ returns-4 : tie.Need-returns-4
 returns-4 c =
     let at-if1 = c .before .before .before .before .before .before in
     let entry = at-if1 .before .before in
-    λ before section f. says-rule before (now (entry .args .line)) (at-if1 .if1 .left) (c .before .before .before .before .if2 .left) (c .before .before .before .name .ensures .0) (c .before .before .before .name .ensures .1) (c .before .before .if3 .left) (c .before .if4 .taken) (c .rule-row .ensures before (f .rules-are))
+    let at-name = c .before .before .before in
+    λ before section f.
+    says-rule before (now (entry .args .line)) (at-if1 .if1 .left) (at-name .before .if2 .left) (at-name .name .ensures .0) (at-name .name .ensures .1)
+    (c .before .before .if3 .left) (c .before .if4 .taken) (c .rule-row .ensures before (f .rules-are))
 
 items-requires : tie.Need-items-requires
 items-requires c κs = search needs
@@ -51,7 +54,13 @@ returns-5 : tie.Need-returns-5
 returns-5 c =
     let at-if1 = c .before .before .before .before .before .before .before in
     let entry = at-if1 .before .before in
-    λ before section f. says-flat before (now (entry .args .line)) (at-if1 .if1 .left) (c .before .before .before .before .before .if2 .left) (c .before .before .before .before .name .ensures .0) (c .before .before .before .before .name .ensures .1) (c .before .before .before .if3 .left) (c .before .before .if4 .left) f (c .flat-row .ensures ∙ ap (λ i. flatHeld i (c .before .before .before .before .name .result .place) (entry .args .types) (entry .args .relationships) (now (entry .args .cells))) (c .before .items .ensures))
+    let at-name = c .before .before .before .before in
+    λ before section f.
+    says-flat before (now (entry .args .line)) (at-if1 .if1 .left) (at-name .before .if2 .left) (at-name .name .ensures .0) (at-name .name .ensures .1)
+    (c .before .before .before .if3 .left) (c .before .before .if4 .left) f
+    (c .flat-row .ensures
+    ∙ ap (λ i. flatHeld i (at-name .name .result .place) (entry .args .types) (entry .args .relationships) (now (entry .args .cells)))
+    (c .before .items .ensures))
 
 pub inside-row-spec : {M : Type 1} → statement M
 inside-row-spec =

@@ -44,15 +44,17 @@ no-row-requires c κs = search needs
 
 returns : tie.Need-returns
 returns c =
-    let at-cells-of = c .before .before .before .before .before .before .before .before in
+    let at-struct-known2 = c .before .before .before .before .before .before in
+    let at-cells-of = at-struct-known2 .before .before in
     let at-words-of = at-cells-of .before .before in
     let entry = at-words-of .before .before in
     object-no (entry .args .items) (at-words-of .words-of .ensures .0) (entry .args .types) (now (entry .args .cells)) refl (at-cells-of .cells-of .ensures) (c .before .before .before .before .before .and .ensures) (c .before .before .before .before .and2 .ensures) (c .before .before .before .and3 .ensures) (c .before .before .and4 .ensures) (c .before .if1 .taken) (c .no-row .ensures)
 
 returns-2 : tie.Need-returns-2
 returns-2 c =
-    let wide : length (c .before .before .before .before .before .before .before .before .before .before .before .args .items .values) ≡ 10 = search needs in
     let at-cells-of = c .before .before .before .before .before .before .before in
+    let start = at-cells-of .before .before .before .before in
+    let wide : length (start .args .items .values) ≡ 10 = search needs in
     let at-words-of = at-cells-of .before .before in
     let entry = at-words-of .before .before in
     object-is (entry .args .items) (at-words-of .words-of .ensures .0) (entry .args .types) (now (entry .args .cells)) refl (at-cells-of .cells-of .ensures) (c .before .before .before .before .and .ensures) (c .before .before .before .and2 .ensures) (c .before .before .and3 .ensures) (c .before .and4 .ensures) wide (at-words-of .words-of .ensures .1) (c .if1 .left)

@@ -35,7 +35,11 @@ returns c =
     let at-item-at2 = at-body .before in
     let at-item-at = at-item-at2 .before in
     let entry = at-item-at .before .before in
-    λ before counted. rule-no (now (entry .args .line)) (entry .args .at) before counted (at-item-at .item-at .ensures) (at-item-at2 .item-at2 .ensures) (at-body .body .ensures) (c .before .before .before .before .before .and .ensures) (c .before .before .before .before .and2 .ensures) (c .before .before .before .and3 .ensures) (c .before .before .and4 .ensures) (c .before .if1 .taken) (c .no-row .ensures)
+    let at-and4 = c .before .before in
+    let at-and2 = at-and4 .before .before in
+    λ before counted.
+    rule-no (now (entry .args .line)) (entry .args .at) before counted (at-item-at .item-at .ensures) (at-item-at2 .item-at2 .ensures) (at-body .body .ensures)
+    (at-and2 .before .and .ensures) (at-and2 .and2 .ensures) (at-and4 .before .and3 .ensures) (at-and4 .and4 .ensures) (c .before .if1 .taken) (c .no-row .ensures)
 
 cast-word : tie.Need-cast-word
 cast-word c =

@@ -1,6 +1,6 @@
 use borrow.Author.Needs.{needs}
 use Prim.Native.Nat.{min}
-use mathlib.Core.Path.{ap, _∙_}
+use mathlib.Core.Path.{_≡_, ap, _∙_}
 use lib.ListN.{getD}
 use denote.Ref.{now}
 use Rattle.tables.specs.Layouts.{limitOf}
@@ -32,18 +32,32 @@ mul-if1 c = search needs
 element-copy-out-if1 : tie.Need-element-copy-out-if1
 element-copy-out-if1 c = search needs
 
+-- the lesser of the section's limit and the rows lent for it
+abbrev start : tie.After-lesser → tie.Start
+start c = c .before .before .before
+
+most : (c : tie.After-lesser) → let a = start c .args in c .lesser .result ≡ min (limitOf (a .section)) (getD (now (a .room)) (a .section) 0)
+most c =
+    let a = start c .args in
+    c .lesser .ensures ∙ ap (λ l. min l (getD (now (a .room)) (a .section) 0)) (c .before .before .limit-of .ensures)
+
 returns : tie.Need-returns
-returns c = full-rows (c .before .before .before .before .before .args .section) (c .before .before .before .before .before .args .forms) (limitOf (c .before .before .before .before .before .args .section)) (getD (now (c .before .before .before .before .before .args .room)) (c .before .before .before .before .before .args .section) 0) (c .before .before .lesser .ensures ∙ ap (λ l. min l (getD (now (c .before .before .before .before .before .args .room)) (c .before .before .before .before .before .args .section) 0)) (c .before .before .before .before .limit-of .ensures)) (c .if1 .taken)
+returns c =
+    let least = c .before .before in
+    let a = start least .args in
+    full-rows (a .section) (a .forms) (limitOf (a .section)) (getD (now (a .room)) (a .section) 0) (most least) (c .if1 .taken)
 
 returns-2 : tie.Need-returns-2
 returns-2 c =
-    let entry = c .before .before .before .before .before .before in
-    full-body (entry .args .section) (entry .args .forms) (limitOf (entry .args .section)) (getD (now (entry .args .room)) (entry .args .section) 0) (c .before .before .before .lesser .ensures ∙ ap (λ l. min l (getD (now (entry .args .room)) (entry .args .section) 0)) (c .before .before .before .before .before .limit-of .ensures)) (c .before .if1 .left) (c .if2 .taken)
+    let least = c .before .before .before in
+    let a = start least .args in
+    full-body (a .section) (a .forms) (limitOf (a .section)) (getD (now (a .room)) (a .section) 0) (most least) (c .before .if1 .left) (c .if2 .taken)
 
 returns-3 : tie.Need-returns-3
 returns-3 c =
-    let entry = c .before .before .before .before .before .before in
-    row-left (entry .args .section) (entry .args .forms) (limitOf (entry .args .section)) (getD (now (entry .args .room)) (entry .args .section) 0) (c .before .before .before .lesser .ensures ∙ ap (λ l. min l (getD (now (entry .args .room)) (entry .args .section) 0)) (c .before .before .before .before .before .limit-of .ensures)) (c .before .if1 .left) (c .if2 .left)
+    let least = c .before .before .before in
+    let a = start least .args in
+    row-left (a .section) (a .forms) (limitOf (a .section)) (getD (now (a .room)) (a .section) 0) (most least) (c .before .if1 .left) (c .if2 .left)
 
 pub is-full-spec : {M : Type 1} → statement M
 is-full-spec =

@@ -106,13 +106,17 @@ line-end-requires c κs = search needs
 
 add-at : tie.Need-add-at Inv-loop μ-loop
 add-at c =
-    let at-loop = c .before .before .before .before .before .before .before .before .before .before .before .before .before .before .before .before in
+    let at-is-full = c .before .before .before .before .before .before in
+    let at-line = at-is-full .before .before .before .before .before .before in
+    let at-loop = at-line .before .before .before .before in
     let at-pre = at-loop .before .before in
     let small = end-within (at-loop .loop .inv) (search needs) (at-pre .pre) (c .line-end .ensures) in let short = at-pre .pre in omega arith
 
 add-n : tie.Need-add-n Inv-loop μ-loop
 add-n c =
-    let at-loop = c .before .before .before .before .before .before .before .before .before .before .before .before .before .before .before .before in
+    let at-is-full = c .before .before .before .before .before .before in
+    let at-line = at-is-full .before .before .before .before .before .before in
+    let at-loop = at-line .before .before .before .before in
     let at-pre = at-loop .before .before in
     let few = at-loop .loop .inv .few in let small = at-pre .pre in search needs
 

@@ -84,11 +84,18 @@ module _ (t : ℕ) where
   few : (c : form-lts.After-shape (calls t) (form-at t) form.Post) → c .shape .result ≤ 2
   few c = let s = c .before .before .before .before in subst (λ n. n ≤ 2) (sym (count c)) (few-fields (operator s))
 
-  second : (c : form-lts.After-shape2 (calls t) (form-at t) form.Post) → let s = c .before .before .before .before .before .before .before .before .before in c .shape2 .result ≡ secondSort (partsHere (rows s) (row s) (sound s))
-  second c = let s = c .before .before .before .before .before .before .before .before .before in c .shape2 .ensures (operator s) (coded (c .before .before .before .before .before .before))
+  second : (c : form-lts.After-shape2 (calls t) (form-at t) form.Post) → let at-field = c .before .before .before .before .before .before in let s = at-field .before .before .before in c .shape2 .result ≡ secondSort (partsHere (rows s) (row s) (sound s))
+  second c =
+      let at-field = c .before .before .before .before .before .before in
+      let s = at-field .before .before .before in
+      c .shape2 .ensures (operator s) (coded at-field)
 
-  first : (c : form-lts.After-shape3 (calls t) (form-at t) form.Post) → let s = c .before .before .before .before .before .before .before .before .before .before .before in c .shape3 .result ≡ firstSort (partsHere (rows s) (row s) (sound s))
-  first c = let s = c .before .before .before .before .before .before .before .before .before .before .before in c .shape3 .ensures (operator s) (coded (c .before .before .before .before .before .before .before .before))
+  first : (c : form-lts.After-shape3 (calls t) (form-at t) form.Post) → let at-open-inner-arg = c .before .before .before .before .before .before in let s = at-open-inner-arg .before .before .before .before .before in c .shape3 .result ≡ firstSort (partsHere (rows s) (row s) (sound s))
+  first c =
+      let at-open-inner-arg = c .before .before .before .before .before .before in
+      let at-field = at-open-inner-arg .before .before in
+      let s = at-field .before .before .before in
+      c .shape3 .ensures (operator s) (coded at-field)
 
   -- a spelling of the form that ends with the row is one of the form at the place
   spelled : (s : Start) {l : List ℕ} → l ≡ spellForm (rows s) (suc (row s)) → l ≡ spellForm (rows s) (s .args .end)
@@ -100,12 +107,13 @@ module _ (t : ℕ) where
 
   -- ---- the parts
 
-  second-some : (c : form-lts.Else1 (calls t) (form-at t) form.Post) → let s = c .before .before .before .before .before .before .before .before .before .before in secondSort (partsHere (rows s) (row s) (sound s)) ≡ 3 → ⊥
+  second-some : (c : form-lts.Else1 (calls t) (form-at t) form.Post) → let at-before = c .before .before .before .before .before .before in let s = at-before .before .before .before .before in secondSort (partsHere (rows s) (row s) (sound s)) ≡ 3 → ⊥
   second-some c q = c .if1 .left (second (c .before) ∙ q)
 
-  second-asks : (c : form-lts.Else1 (calls t) (form-at t) form.Post) → let s = c .before .before .before .before .before .before .before .before .before .before in (row s < t) × ((Starts (rows s) (s .args .starts .now) (row s)) × T ((ending (rows s) (row s)) .sound))
+  second-asks : (c : form-lts.Else1 (calls t) (form-at t) form.Post) → let at-shape = c .before .before .before .before .before .before in let s = at-shape .before .before .before .before in (row s < t) × ((Starts (rows s) (s .args .starts .now) (row s)) × T ((ending (rows s) (row s)) .sound))
   second-asks c =
-      let s = c .before .before .before .before .before .before .before .before .before .before in
+      let at-shape = c .before .before .before .before .before .before in
+      let s = at-shape .before .before .before .before in
       let k = positive s in
       let m = s .pre .0 in
       (omega arith, (starts-less (s .pre .1 .0) (row s) (omega arith), second-here (rows s) (row s) (sound s) (second-some c)))
@@ -116,7 +124,7 @@ module _ (t : ℕ) where
   middle-low : (s : Start) → getD (s .args .starts .now) (row s) 0 ≤ row s
   middle-low s = subst (λ n. n ≤ row s) (sym (middle-is s)) (ending-start (rows s) (row s))
 
-  first-some : (c : form-lts.Else2 (calls t) (form-at t) form.Post) → let s = c .before .before .before .before .before .before .before .before .before .before .before .before in firstSort (partsHere (rows s) (row s) (sound s)) ≡ 3 → ⊥
+  first-some : (c : form-lts.Else2 (calls t) (form-at t) form.Post) → let at-before = c .before .before .before .before .before .before in let s = at-before .before .before .before .before .before .before in firstSort (partsHere (rows s) (row s) (sound s)) ≡ 3 → ⊥
   first-some c q = c .if2 .left (first (c .before) ∙ q)
 
   -- ---- the needs, in the order of the code
@@ -140,15 +148,23 @@ module _ (t : ℕ) where
   shape-requires-2 c κs = (low (c .before .before .before .before .before), omega arith)
 
   close-requires : form-lts.Need-close-requires (calls t) (form-at t) form.Post
-  close-requires c κs = (inside (c .before .before .before .before .before .before .before .before .before .before .before), few (c .before .before .before .before .before .before .before))
+  close-requires c κs =
+      let at-shape = c .before .before .before .before .before .before .before in
+      let start = at-shape .before .before .before .before in
+      (inside start, few at-shape)
 
   returns : form-lts.Need-returns (calls t) (form-at t) form.Post
   returns c =
-      let s = c .before .before .before .before .before .before .before .before .before .before .before .before .before .before in
-      put-as (put-then (c .before .before .before .before .before .before .before .before .open-inner .ensures) (c .before .before .close .ensures))
+      let at-last = c .before .before .before .before .before .before in
+      let at-open-inner = at-last .before .before in
+      let at-shape = at-open-inner .before .before in
+      let at-field = at-shape .before in
+      let known = at-field .before in
+      let s = known .before .before in
+      put-as (put-then (at-open-inner .open-inner .ensures) (c .before .before .close .ensures))
       (spelled s
-      (ap₂ (λ k n. spellToken (begin (12 + k)) ++ spellClosing (take n ((rows s (row s)) .x ∷ (rows s (row s)) .y ∷ []))) (c .before .before .before .before .before .before .before .before .before .before .before .field .ensures) (count (c .before .before .before .before .before .before .before .before .before .before))
-      ∙ leaf-spelled (rows s) (row s) (sound s) (word (c .before .before .before .before .before .before .before .before .before .before .before .before)) (sym (second (c .before .before .before .before .before)) ∙ c .before .before .before .before .if1 .taken)))
+      (ap₂ (λ k n. spellToken (begin (12 + k)) ++ spellClosing (take n ((rows s (row s)) .x ∷ (rows s (row s)) .y ∷ []))) (at-field .field .ensures) (count at-shape)
+      ∙ leaf-spelled (rows s) (row s) (sound s) (word known) (sym (second (c .before .before .before .before .before)) ∙ c .before .before .before .before .if1 .taken)))
 
   same-length : form-lts.Need-same-length (calls t) (form-at t) form.Post
   same-length c = (returns c) .size
@@ -160,50 +176,89 @@ module _ (t : ℕ) where
   form-requires c κs = second-asks (c .before .before .before)
 
   close-requires-2 : form-lts.Need-close-requires-2 (calls t) (form-at t) form.Post
-  close-requires-2 c κs = (inside (c .before .before .before .before .before .before .before .before .before .before .before .before .before .before .before .before .before), few (c .before .before .before .before .before .before .before .before .before .before .before .before .before))
+  close-requires-2 c κs =
+      let at-shape3 = c .before .before .before .before .before .before in
+      let at-shape = at-shape3 .before .before .before .before .before .before .before in
+      let start = at-shape .before .before .before .before in
+      (inside start, few at-shape)
 
   returns-2 : form-lts.Need-returns-2 (calls t) (form-at t) form.Post
   returns-2 c =
-      let s = c .before .before .before .before .before .before .before .before .before .before .before .before .before .before .before .before .before .before .before .before in
-      put-as (put-then (put-then (c .before .before .before .before .before .before .before .before .before .before .before .before .before .before .open-inner .ensures) (c .before .before .before .before .before .before .form .ensures)) (c .before .before .close2 .ensures))
+      let at-form = c .before .before .before .before .before .before in
+      let then2 = at-form .before .before in
+      let at-shape3 = then2 .before in
+      let else1 = at-shape3 .before in
+      let at-open-inner = else1 .before .before .before .before in
+      let at-shape = at-open-inner .before .before in
+      let at-field = at-shape .before in
+      let known = at-field .before in
+      let s = known .before .before in
+      put-as (put-then (put-then (at-open-inner .open-inner .ensures) (at-form .form .ensures)) (c .before .before .close2 .ensures))
       (spelled s
-      (ap₂ (λ k n. pieces s k (spellForm (rows s) (row s)) n) (c .before .before .before .before .before .before .before .before .before .before .before .before .before .before .before .before .before .field .ensures) (count (c .before .before .before .before .before .before .before .before .before .before .before .before .before .before .before .before))
-      ∙ over-spelled (rows s) (row s) (sound s) (word (c .before .before .before .before .before .before .before .before .before .before .before .before .before .before .before .before .before .before)) (second-some (c .before .before .before .before .before .before .before .before .before .before)) (sym (first (c .before .before .before .before .before .before .before .before .before)) ∙ c .before .before .before .before .before .before .before .before .if2 .taken)))
+      (ap₂ (λ k n. pieces s k (spellForm (rows s) (row s)) n) (at-field .field .ensures) (count at-shape)
+      ∙ over-spelled (rows s) (row s) (sound s) (word known) (second-some else1) (sym (first at-shape3) ∙ then2 .if2 .taken)))
 
   same-length-2 : form-lts.Need-same-length-2 (calls t) (form-at t) form.Post
   same-length-2 c = (returns-2 c) .size
 
   cast-index : form-lts.Need-cast-index (calls t) (form-at t) form.Post
-  cast-index c = let h = inside (c .before .before .before .before .before .before .before .before .before .before .before .before) in omega arith
+  cast-index c =
+      let at-last = c .before .before .before .before .before .before in
+      let start = at-last .before .before .before .before .before .before in
+      let h = inside start in omega arith
 
   mul-form : form-lts.Need-mul-form (calls t) (form-at t) form.Post
-  mul-form c = let h = inside (c .before .before .before .before .before .before .before .before .before .before .before .before .before) in omega arith
+  mul-form c =
+      let at-last = c .before .before .before .before .before .before in
+      let start = at-last .before .before .before .before .before .before .before in
+      let h = inside start in omega arith
 
   element-copy-out-form : form-lts.Need-element-copy-out-form (calls t) (form-at t) form.Post
-  element-copy-out-form c = let h = inside (c .before .before .before .before .before .before .before .before .before .before .before .before .before) in omega arith
+  element-copy-out-form c =
+      let at-out = c .before .before .before .before .before .before in
+      let start = at-out .before .before .before .before .before .before .before in
+      let h = inside start in omega arith
 
   form-requires-2 : form-lts.Need-form-requires-2 (calls t) (form-at t) form.Post
   form-requires-2 c κs =
-      let s = c .before .before .before .before .before .before .before .before .before .before .before .before .before .before in
+      let at-last = c .before .before .before .before .before .before in
+      let known = at-last .before .before .before .before .before .before in
+      let s = known .before .before in
       let low = middle-low s in
       let k = positive s in
       let m = s .pre .0 in
       (omega arith, (starts-less (s .pre .1 .0) (getD (s .args .starts .now) (row s) 0) (omega arith), subst (λ n. T ((ending (rows s) n) .sound)) (sym (middle-is s)) (first-here (rows s) (row s) (sound s) (first-some (c .before .before)))))
 
   form-requires-3 : form-lts.Need-form-requires-3 (calls t) (form-at t) form.Post
-  form-requires-3 c κs = second-asks (c .before .before .before .before .before .before .before .before)
+  form-requires-3 c κs =
+      let else2 = c .before .before .before .before .before .before in
+      let else1 = else2 .before .before in
+      second-asks else1
 
   close-requires-3 : form-lts.Need-close-requires-3 (calls t) (form-at t) form.Post
-  close-requires-3 c κs = (inside (c .before .before .before .before .before .before .before .before .before .before .before .before .before .before .before .before .before .before .before .before .before .before), few (c .before .before .before .before .before .before .before .before .before .before .before .before .before .before .before .before .before .before))
+  close-requires-3 c κs =
+      let at-out5 = c .before .before .before .before .before .before in
+      let else1 = at-out5 .before .before .before .before .before .before in
+      let at-shape = else1 .before .before .before .before .before .before in
+      let start = at-shape .before .before .before .before in
+      (inside start, few at-shape)
 
   returns-3 : form-lts.Need-returns-3 (calls t) (form-at t) form.Post
   returns-3 c =
-      let s = c .before .before .before .before .before .before .before .before .before .before .before .before .before .before .before .before .before .before .before .before .before .before .before .before .before in
-      put-as (put-then (put-then (put-then (c .before .before .before .before .before .before .before .before .before .before .before .before .before .before .before .before .before .before .before .open-inner .ensures) (c .before .before .before .before .before .before .before .before .before .before .form2 .ensures)) (c .before .before .before .before .before .before .form3 .ensures)) (c .before .before .close3 .ensures))
+      let at-form3 = c .before .before .before .before .before .before in
+      let at-form2 = at-form3 .before .before .before .before in
+      let else2 = at-form2 .before .before .before in
+      let else1 = else2 .before .before in
+      let at-open-inner = else1 .before .before .before .before in
+      let at-shape = at-open-inner .before .before in
+      let at-field = at-shape .before in
+      let known = at-field .before in
+      let s = known .before .before in
+      put-as (put-then (put-then (put-then (at-open-inner .open-inner .ensures) (at-form2 .form2 .ensures)) (at-form3 .form3 .ensures)) (c .before .before .close3 .ensures))
       (spelled s
-      (ap₂ (λ k n. ((spellToken (begin (12 + k)) ++ spellForm (rows s) (getD (s .args .starts .now) (row s) 0)) ++ spellForm (rows s) (row s)) ++ spellClosing (take n ((rows s (row s)) .x ∷ (rows s (row s)) .y ∷ []))) (c .before .before .before .before .before .before .before .before .before .before .before .before .before .before .before .before .before .before .before .before .before .before .field .ensures) (count (c .before .before .before .before .before .before .before .before .before .before .before .before .before .before .before .before .before .before .before .before .before))
+      (ap₂ (λ k n. ((spellToken (begin (12 + k)) ++ spellForm (rows s) (getD (s .args .starts .now) (row s) 0)) ++ spellForm (rows s) (row s)) ++ spellClosing (take n ((rows s (row s)) .x ∷ (rows s (row s)) .y ∷ []))) (at-field .field .ensures) (count at-shape)
       ∙ ap (λ m. ((spellToken (begin (12 + (rows s (row s)) .code)) ++ spellForm (rows s) m) ++ spellForm (rows s) (row s)) ++ spellClosing (take ((shapeOf (operator s)) .fields) ((rows s (row s)) .x ∷ (rows s (row s)) .y ∷ []))) (middle-is s)
-      ∙ both-spelled (rows s) (row s) (sound s) (word (c .before .before .before .before .before .before .before .before .before .before .before .before .before .before .before .before .before .before .before .before .before .before .before)) (second-some (c .before .before .before .before .before .before .before .before .before .before .before .before .before .before .before)) (first-some (c .before .before .before .before .before .before .before .before .before .before .before .before .before))))
+      ∙ both-spelled (rows s) (row s) (sound s) (word known) (second-some else1) (first-some else2)))
 
   same-length-3 : form-lts.Need-same-length-3 (calls t) (form-at t) form.Post
   same-length-3 c = (returns-3 c) .size
@@ -211,4 +266,6 @@ module _ (t : ℕ) where
 pub +form-spec : {M : Type 1} → statement M
 +form-spec =
     close μ-form λ t.
-    form-lts.spec (calls t) (form-at t) form.Post (sub-row t) (field-requires t) (shape-requires t) (add-open-inner t) (open-inner-requires t) (shape-requires-2 t) (close-requires t) (same-length t) (returns t) (shape-requires-3 t) (form-requires t) (close-requires-2 t) (same-length-2 t) (returns-2 t) (cast-index t) (mul-form t) (element-copy-out-form t) (form-requires-2 t) (form-requires-3 t) (close-requires-3 t) (same-length-3 t) (returns-3 t)
+    form-lts.spec (calls t) (form-at t) form.Post (sub-row t) (field-requires t) (shape-requires t) (add-open-inner t)
+    (open-inner-requires t) (shape-requires-2 t) (close-requires t) (same-length t) (returns t) (shape-requires-3 t)
+    (form-requires t) (close-requires-2 t) (same-length-2 t) (returns-2 t) (cast-index t) (mul-form t) (element-copy-out-form t) (form-requires-2 t) (form-requires-3 t) (close-requires-3 t) (same-length-3 t) (returns-3 t)

@@ -38,8 +38,11 @@ same-length-2 c = search needs
 
 returns-2 : tie.Need-returns-2
 returns-2 c =
-    put-as (put-then (c .before .before .before .before .before .before .before .before .number .ensures) (put-of (c .before .before .write-bytes2 .ensures)))
-    (ap (λ x. spellToken (item x) ++ 41 ∷ []) (c .before .before .before .before .before .before .before .before .before .field .ensures) ∙ closing-one _ _ _ (c .before .before .before .before .before .if2 .taken))
+    let known = c .before .before .before .before .before .before in
+    let at-number = known .before .before in
+    let at-field = at-number .before in
+    put-as (put-then (at-number .number .ensures) (put-of (c .before .before .write-bytes2 .ensures)))
+    (ap (λ x. spellToken (item x) ++ 41 ∷ []) (at-field .field .ensures) ∙ closing-one _ _ _ (c .before .before .before .before .before .if2 .taken))
 
 field-requires-2 : tie.Need-field-requires-2
 field-requires-2 c κs = search needs
@@ -58,10 +61,14 @@ same-length-3 c = search needs
 
 returns-3 : tie.Need-returns-3
 returns-3 c =
-    let s = c .before .before .before .before .before .before .before .before .before .before .before .before .before .before .before .before .before .before .before in
+    let at-number2 = c .before .before .before .before .before .before .before in
+    let at-field2 = at-number2 .before in
+    let at-number = at-field2 .before .before .before .before .before in
+    let at-field = at-number .before in
+    let s = at-field .before .before .before .before .before in
     let two : s .args .fields ≡ 2 = omega (arith, s .pre .1) in
-    put-as (put-then (put-then (c .before .before .before .before .before .before .before .before .before .before .before .before .before .number .ensures) (c .before .before .before .before .before .before .before .number2 .ensures)) (put-of (c .before .before .write-bytes3 .ensures)))
-    (ap₂ (λ x y. (spellToken (item x) ++ spellToken (item y)) ++ 41 ∷ []) (c .before .before .before .before .before .before .before .before .before .before .before .before .before .before .field .ensures) (c .before .before .before .before .before .before .before .before .field2 .ensures) ∙ closing-two _ _ _ two)
+    put-as (put-then (put-then (at-number .number .ensures) (at-number2 .number2 .ensures)) (put-of (c .before .before .write-bytes3 .ensures)))
+    (ap₂ (λ x y. (spellToken (item x) ++ spellToken (item y)) ++ 41 ∷ []) (at-field .field .ensures) (at-field2 .field2 .ensures) ∙ closing-two _ _ _ two)
 
 pub close-spec : {M : Type 1} → statement M
 close-spec =

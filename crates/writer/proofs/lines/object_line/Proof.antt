@@ -37,7 +37,8 @@ same-length c = search needs
 returns : tie.Need-returns
 unfolding objectLine
 returns c =
-    let s = c .before .before .before .before .before .before .before .before .before in
+    let known = c .before .before .before .before .before .before in
+    let s = known .before .before .before in
     let cells : c .before .before .before .before .word2 .result ≡ cellsFor (s .args .types .now) (s .args .objects .now) (s .args .row) = c .before .before .before .before .word2 .ensures ∙ ap (λ t. wordAt (s .args .types .now) 2 t 1) (c .before .before .before .before .before .word .ensures) in
     put-as (c .before .before .row-line .ensures) (ap (λ k. rowLine 3 (take (2 + k) (drop (s .args .row * 10) (s .args .objects .now)))) cells)
 

@@ -35,8 +35,12 @@ number-requires-2 c κs = search needs
 
 form-requires : tie.Need-form-requires
 form-requires c κs =
-    let s = c .before .before .before .before .before .before .before .before .before .before .before .before .before .before .before .before .before .before .before .before .before in
-    (c .before .before .before .before .before .before .before .before .before .before .before .before .before .before .before .before .scan .ensures .0, subst (λ n. T ((ending (bodyOf (s .args .bodies .now) (s .args .row)) n) .sound)) (sym (c .before .before .before .before .before .before .before .before .before .before .before .before .before .before .before .before .before .word .ensures)) (whole-body _ _ (s .pre) .sound))
+    let at-number-arg2 = c .before .before .before .before .before .before in
+    let at-out = at-number-arg2 .before .before .before .before .before .before in
+    let at-scan = at-out .before .before .before .before in
+    let at-word = at-scan .before in
+    let s = at-word .before .before .before .before in
+    (at-scan .scan .ensures .0, subst (λ n. T ((ending (bodyOf (s .args .bodies .now) (s .args .row)) n) .sound)) (sym (at-word .word .ensures)) (whole-body _ _ (s .pre) .sound))
 
 end-line-requires : tie.Need-end-line-requires
 end-line-requires c κs = search needs
@@ -46,10 +50,16 @@ same-length c = search needs
 
 returns : tie.Need-returns
 returns c =
-    let s = c .before .before .before .before .before .before .before .before .before .before .before .before .before .before .before .before .before .before .before .before .before .before .before .before .before .before .before .before in
-    let put = put-then (put-then (put-then (put-then (c .before .before .before .before .before .before .before .before .before .before .before .before .before .before .before .before .before .before .before .before .«open» .ensures) (c .before .before .before .before .before .before .before .before .before .before .before .before .before .before .before .before .number .ensures)) (c .before .before .before .before .before .before .before .before .before .before .before .number2 .ensures)) (c .before .before .before .before .before .before .form .ensures)) (c .before .before .end-line .ensures) in
+    let at-form = c .before .before .before .before .before .before in
+    let at-number2 = at-form .before .before .before .before .before in
+    let at-word2 = at-number2 .before in
+    let at-number = at-word2 .before .before .before .before in
+    let at-open = at-number .before .before .before .before in
+    let at-word = at-open .before .before .before .before in
+    let s = at-word .before .before .before .before in
+    let put = put-then (put-then (put-then (put-then (at-open .«open» .ensures) (at-number .number .ensures)) (at-number2 .number2 .ensures)) (at-form .form .ensures)) (c .before .before .end-line .ensures) in
     put-as put
-    (ap₂ (λ x n. ((((40 ∷ nameOf 2) ++ spellToken (item (s .args .row))) ++ spellToken (item x)) ++ spellForm (bodyOf (s .args .bodies .now) (s .args .row)) n) ++ 41 ∷ 10 ∷ []) (c .before .before .before .before .before .before .before .before .before .before .before .before .word2 .ensures) (c .before .before .before .before .before .before .before .before .before .before .before .before .before .before .before .before .before .before .before .before .before .before .before .before .word .ensures)
+    (ap₂ (λ x n. ((((40 ∷ nameOf 2) ++ spellToken (item (s .args .row))) ++ spellToken (item x)) ++ spellForm (bodyOf (s .args .bodies .now) (s .args .row)) n) ++ 41 ∷ 10 ∷ []) (at-word2 .word2 .ensures) (at-word .word .ensures)
     ∙ rule-spelled (s .args .rules .now) (s .args .bodies .now) (s .args .row) (s .pre))
 
 pub rule-line-spec : {M : Type 1} → statement M

@@ -38,9 +38,16 @@ same-length c = search needs
 returns : tie.Need-returns
 unfolding typeLine
 returns c =
-    let put = put-then (put-then (put-then (put-then (c .before .before .before .before .before .before .before .before .before .before .before .before .before .before .before .before .before .before .before .before .«open» .ensures) (c .before .before .before .before .before .before .before .before .before .before .before .before .before .before .before .before .number .ensures)) (c .before .before .before .before .before .before .before .before .before .before .before .parent .ensures)) (c .before .before .before .before .before .before .number2 .ensures)) (c .before .before .end-line .ensures) in
+    let at-number2 = c .before .before .before .before .before .before in
+    let at-word2 = at-number2 .before in
+    let at-parent = at-word2 .before .before .before .before in
+    let at-word = at-parent .before in
+    let at-number = at-word .before .before .before .before in
+    let at-open = at-number .before .before .before .before in
+    let start = at-open .before .before .before .before in
+    let put = put-then (put-then (put-then (put-then (at-open .«open» .ensures) (at-number .number .ensures)) (at-parent .parent .ensures)) (at-number2 .number2 .ensures)) (c .before .before .end-line .ensures) in
     put-as put
-    (ap₂ (λ p q. ((((40 ∷ nameOf 0) ++ spellToken (item (c .before .before .before .before .before .before .before .before .before .before .before .before .before .before .before .before .before .before .before .before .before .before .before .before .args .row))) ++ spellToken (item (parentItem p))) ++ spellToken (item q)) ++ 41 ∷ 10 ∷ []) (c .before .before .before .before .before .before .before .before .before .before .before .before .word .ensures) (c .before .before .before .before .before .before .before .word2 .ensures)
+    (ap₂ (λ p q. ((((40 ∷ nameOf 0) ++ spellToken (item (start .args .row))) ++ spellToken (item (parentItem p))) ++ spellToken (item q)) ++ 41 ∷ 10 ∷ []) (at-word .word .ensures) (at-word2 .word2 .ensures)
     ∙ three-line 0 _ _ _)
 
 pub type-line-spec : {M : Type 1} → statement M

@@ -38,13 +38,15 @@ sub-write-bytes c =
 part-write-bytes-start : tie.Need-part-write-bytes-start
 unfolding starts
 part-write-bytes-start c =
-    let at-pre = c .before .before .before .before .before .before .before .before in
+    let at-write-bytes-arg = c .before .before .before .before .before .before in
+    let at-pre = at-write-bytes-arg .before .before in
     let h = named _ (at-pre .pre) in omega arith
 
 part-write-bytes-end : tie.Need-part-write-bytes-end
 unfolding starts
 part-write-bytes-end c =
-    let at-pre = c .before .before .before .before .before .before .before .before in
+    let at-last = c .before .before .before .before .before .before in
+    let at-pre = at-last .before .before in
     let h = named _ (at-pre .pre) in omega arith
 
 write-bytes-requires-2 : tie.Need-write-bytes-requires-2
@@ -56,7 +58,8 @@ same-length c = search needs
 returns : tie.Need-returns
 unfolding starts letters
 returns c =
-    let at-write-bytes = c .before .before .before .before .before .before .before .before in
+    let known = c .before .before .before .before .before .before in
+    let at-write-bytes = known .before .before in
     let at-pre = at-write-bytes .before .before .before .before in
     put-as (put-then (put-of (at-write-bytes .write-bytes .ensures)) (put-of (c .before .before .write-bytes2 .ensures))) (ap (λ l. 40 ∷ l) (named _ (at-pre .pre) .is))
 
