@@ -90,6 +90,6 @@ module _ {S : Schema} {w : Site} {starts : List ℕ} {e : ℕ} {vars : List ℕ}
       over-moves q k a = a ∙ simp (q, eq-eqb (firstSort (sorts able)) 2 k) at two-is
 
 -- the members at the end, as the batch has them
-pub members-end : {c : Change} (w : Site) {count : ℕ} {events trace : List ℕ} → Traced c (w .counts) (w .types) (w .objects) (w .links) count events trace → (e : ℕ) (vars : List ℕ) (depth set : ℕ) → membersOf w e vars depth ≡ membersIn c (idsOf w depth vars) set (formAt w e)
+pub members-end : {c : Change} (w : Site) {events trace : List ℕ} → Traced c (w .counts) (w .types) (w .objects) (w .links) events trace → (e : ℕ) (vars : List ℕ) (depth set : ℕ) → membersOf w e vars depth ≡ membersIn c (idsOf w depth vars) set (formAt w e)
 unfolding membersOf
 members-end {c} w traced e vars depth set = sym (ap₂ (λ ts g. meaning ts g (asCollection (formAt w e)) (idsOf w depth vars)) (traced .seen .types-are) (traced .seen .end-is))

@@ -63,7 +63,7 @@ some-within f read (y ∷ l) k (suc n) e (suc i) x q =
 
 -- ---- the rows that places name
 
-module _ {c : Change} {n : Counts} {types objects links : List ℕ} {count : ℕ} {events trace : List ℕ} (traced : Traced c n types objects links count events trace) {row : ℕ} (there : row < n .objects) where
+module _ {c : Change} {n : Counts} {types objects links events trace : List ℕ} (traced : Traced c n types objects links events trace) {row : ℕ} (there : row < n .objects) where
   abbrev u : ℕ
   u = idIn objects row
 
@@ -91,7 +91,7 @@ module _ {c : Change} {n : Counts} {types objects links : List ℕ} {count : ℕ
     answerAt p = answersAt (typesOf (n .types) types) q (eventRow events (p / 2)) (p % 2) (metWord trace (p / 2)) (eqb (thereWord trace (p / 2)) 1)
 
     -- an event answers at its places
-    at-step : (i : ℕ) (s : Step) → getElem? (c .steps) i ≡ some s → s .event ≡ eventRow events i → i < count
+    at-step : (i : ℕ) (s : Step) → getElem? (c .steps) i ≡ some s → s .event ≡ eventRow events i → i < n .events
         → answers c q u s ≡ ((names u (eventRow events i) 0 && answerAt (2 * i)) || (names u (eventRow events i) 1 && answerAt (2 * i + 1)))
     at-step i s e is h =
         let first : 2 * i / 2 ≡ i = omega arith in
@@ -107,14 +107,14 @@ module _ {c : Change} {n : Counts} {types objects links : List ℕ} {count : ℕ
         (λ k. answersAt (typesOf (n .types) types) q (eventRow events (sym second k)) (sym odd k) (metWord trace (sym second k)) (eqb (thereWord trace (sym second k)) 1))
 
     -- the step of an event
-    step-at : (i : ℕ) → i < count → (s : Step) × (getElem? (c .steps) i ≡ some s) × (s .event ≡ eventRow events i)
+    step-at : (i : ℕ) → i < n .events → (s : Step) × (getElem? (c .steps) i ≡ some s) × (s .event ≡ eventRow events i)
     step-at i h =
-        let r = mapped-at (λ (s : Step). s .event) (eventRow events) (c .steps) 0 count (traced .seen .events-are) i h in
+        let r = mapped-at (λ (s : Step). s .event) (eventRow events) (c .steps) 0 (n .events) (traced .seen .events-are) i h in
         let at : 0 + i ≡ i = omega arith in
         (r .0, r .1, r .2 ∙ ap (eventRow events) at)
 
     -- a place that names the row, and answers
-    pub found : (p : ℕ) → p < 2 * count → key p ≡ row → answerAt p ≡ true → true ≡ asked c q u
+    pub found : (p : ℕ) → p < 2 * n .events → key p ≡ row → answerAt p ≡ true → true ≡ asked c q u
     unfolding asked someStep
     found p h k a =
         let r = step-at (p / 2) (omega arith) in
@@ -137,17 +137,17 @@ module _ {c : Change} {n : Counts} {types objects links : List ℕ} {count : ℕ
         side (suc (suc j)) e l = absurd (omega arith)
 
     -- no place that names the row answers
-    pub not-found : ((p : ℕ) → p < 2 * count → key p ≡ row → answerAt p ≡ false) → false ≡ asked c q u
+    pub not-found : ((p : ℕ) → p < 2 * n .events → key p ≡ row → answerAt p ≡ false) → false ≡ asked c q u
     unfolding asked someStep
     not-found h = sym (any-none-at (answers c q u) (c .steps) still)
       where
-        silent : (i j p : ℕ) → p < 2 * count → p / 2 ≡ i → p % 2 ≡ j → (b : Bool) → names u (eventRow events i) j ≡ b → (b && answerAt p) ≡ false
+        silent : (i j p : ℕ) → p < 2 * n .events → p / 2 ≡ i → p % 2 ≡ j → (b : Bool) → names u (eventRow events i) j ≡ b → (b && answerAt p) ≡ false
         silent i j p l d m true e = h p l (ap₂ (λ x y. rowNamed (n .objects) objects (namedAt (eventRow events x) y)) d m ∙ names-row (namedAt (eventRow events i) j) e)
         silent i j p l d m false e = refl
 
         still : (i : ℕ) (s : Step) → getElem? (c .steps) i ≡ some s → answers c q u s ≡ false
         still i s e =
-            let within = some-within (λ (t : Step). t .event) (eventRow events) (c .steps) 0 count (traced .seen .events-are) i s e in
+            let within = some-within (λ (t : Step). t .event) (eventRow events) (c .steps) 0 (n .events) (traced .seen .events-are) i s e in
             let r = step-at i within in
             let own : r .0 ≡ s = Option·some-injective (r .0) s (sym (r .1) ∙ e) in
             at-step i s e (ap (λ (t : Step). t .event) (sym own) ∙ r .2) within

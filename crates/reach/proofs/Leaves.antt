@@ -51,7 +51,7 @@ module _ (c : Change) (u x : ℕ) where
   asked-generalised = refl
 
 -- an object that is there at the end, brought in by a special
-module _ {c : Change} {n : Counts} {types objects links : List ℕ} {count : ℕ} {events trace : List ℕ} (traced : Traced c n types objects links count events trace) {row : ℕ} (there : row < n .objects) where
+module _ {c : Change} {n : Counts} {types objects links events trace : List ℕ} (traced : Traced c n types objects links events trace) {row : ℕ} (there : row < n .objects) where
   pub under-end : (t : ℕ) → under (typesOf (n .types) types) ((objectRow objects row) .type) t ≡ isUnder (c .schema .types) (c .end) (idIn objects row) t
   under-end t =
       sym (ap₂ (λ ts g. isUnder ts g (idIn objects row) t) (traced .seen .types-are) (traced .seen .end-is)

@@ -56,11 +56,11 @@ abbrev pub placeRow : ℕ → List ℕ → List ℕ → ℕ → ℕ
 placeRow n objects events p = rowNamed n objects (namedAt (eventRow events (p / 2)) (p % 2))
 
 -- The batch c as the code has it: it ends in the register of the tables, its events are the first rows of their table, and of each the type that its object had when it came is kept.
-pub record Seen (c : Change) (n : Counts) (types objects links : List ℕ) (count : ℕ) (events : List ℕ) (met : ℕ → ℕ) : Type 0 where
-  pub few : count ≤ maxEvents
+pub record Seen (c : Change) (n : Counts) (types objects links events : List ℕ) (met : ℕ → ℕ) : Type 0 where
+  pub few : n .events ≤ maxEvents
   pub types-are : c .schema .types ≡ typesOf (n .types) types
   pub end-is : c .end ≡ registerOf (n .objects) objects (n .links) links
-  pub events-are : map (λ (s : Step). s .event) (c .steps) ≡ eventsOf count events
+  pub events-are : map (λ (s : Step). s .event) (c .steps) ≡ eventsOf (n .events) events
   pub met-is : (i : ℕ) (s : Step) → getElem? (c .steps) i ≡ some s → (id t : ℕ) → objectOf (s .event) ≡ some id → isUnder (c .schema .types) (s .met) id t ≡ metUnder (c .schema .types) (met i) t
 
 -- the table's columns
@@ -84,16 +84,16 @@ abbrev pub itself : ℕ → ℕ
 itself p = p
 
 -- the table is that of the batch
-pub record Traced (c : Change) (n : Counts) (types objects links : List ℕ) (count : ℕ) (events trace : List ℕ) : Type 0 where
-  pub seen : Seen c n types objects links count events (metWord trace)
+pub record Traced (c : Change) (n : Counts) (types objects links events trace : List ℕ) : Type 0 where
+  pub seen : Seen c n types objects links events (metWord trace)
   pub ascends : ObjectsAscend (n .objects) objects
   pub objects-few : n .objects ≤ maxObjects
-  pub row-is : (p : ℕ) → p < 2 * count → getD trace p 0 ≡ placeRow (n .objects) objects events p
-  pub chained : Chained itself (placeRow (n .objects) objects events) (2 * count) (nextPlace trace) (firstPlace trace) 0
-  pub there-is : (i : ℕ) → i < count → (r a b : ℕ) → eventRow events i ≡ join r a b → eqb (thereWord trace i) 1 ≡ hasLink (c .end) (linkOf r a b)
+  pub row-is : (p : ℕ) → p < 2 * n .events → getD trace p 0 ≡ placeRow (n .objects) objects events p
+  pub chained : Chained itself (placeRow (n .objects) objects events) (2 * n .events) (nextPlace trace) (firstPlace trace) 0
+  pub there-is : (i : ℕ) → i < n .events → (r a b : ℕ) → eventRow events i ≡ join r a b → eqb (thereWord trace i) 1 ≡ hasLink (c .end) (linkOf r a b)
   pub all-is : (t : ℕ) → t < maxTypes → (d : Direction) → has (allSet trace t) d ≡ allMoves c t d
   pub all-small : (t : ℕ) → t < maxTypes → allSet trace t < 4
 
 -- it is that of some batch
-abbrev pub Traces : Counts → List ℕ → List ℕ → List ℕ → ℕ → List ℕ → List ℕ → Type 0
-Traces n types objects links count events trace = (c : Change) × Traced c n types objects links count events trace
+abbrev pub Traces : Counts → List ℕ → List ℕ → List ℕ → List ℕ → List ℕ → Type 0
+Traces n types objects links events trace = (c : Change) × Traced c n types objects links events trace

@@ -156,15 +156,14 @@ pub fn ask(
     types: &[u32],
     objects: &[u32],
     links: &[u32],
-    count: u32,
     events: &[u32],
     trace: &[u16; 2593],
     row: u32,
     question: u32,
     x: u32,
 ) -> bool
-    requires { ⌜ (Traces n (now types) (now objects) (now links) count (now events) (now trace)) × (row < n .objects) × (question < 6) ⌝ }
-    ensures { λ r. ⌜ ((c : Change) → Traced c n (now (types .entry)) (now (objects .entry)) (now (links .entry)) count (now (events .entry)) (now (trace .entry))
+    requires { ⌜ (Traces n (now types) (now objects) (now links) (now events) (now trace)) × (row < n .objects) × (question < 6) ⌝ }
+    ensures { λ r. ⌜ ((c : Change) → Traced c n (now (types .entry)) (now (objects .entry)) (now (links .entry)) (now (events .entry)) (now (trace .entry))
         → r ≡ asked c (questionOf question x) (idIn (now (objects .entry)) row)) ⌝ }
 {
     let head = (1568 + row) as usize;
@@ -188,15 +187,14 @@ pub fn ask_if(
     types: &[u32],
     objects: &[u32],
     links: &[u32],
-    count: u32,
     events: &[u32],
     trace: &[u16; 2593],
     row: u32,
     question: u32,
     x: u32,
 ) -> bool
-    requires { ⌜ (Traces n (now types) (now objects) (now links) count (now events) (now trace)) × (row < n .objects) × (question < 6) ⌝ }
-    ensures { λ r. ⌜ ((c : Change) → Traced c n (now (types .entry)) (now (objects .entry)) (now (links .entry)) count (now (events .entry)) (now (trace .entry))
+    requires { ⌜ (Traces n (now types) (now objects) (now links) (now events) (now trace)) × (row < n .objects) × (question < 6) ⌝ }
+    ensures { λ r. ⌜ ((c : Change) → Traced c n (now (types .entry)) (now (objects .entry)) (now (links .entry)) (now (events .entry)) (now (trace .entry))
         → r ≡ (first && (second && asked c (questionOf question x) (idIn (now (objects .entry)) row)))) ⌝ }
 {
     if !first {
@@ -205,16 +203,5 @@ pub fn ask_if(
     if !second {
         return false;
     }
-    ask(
-        n,
-        types,
-        objects,
-        links,
-        count,
-        events,
-        trace,
-        row,
-        question,
-        x,
-    )
+    ask(n, types, objects, links, events, trace, row, question, x)
 }

@@ -45,15 +45,14 @@ fn role_moved(
     types: &[u32],
     objects: &[u32],
     links: &[u32],
-    count: u32,
     events: &[u32],
     trace: &[u16; 2593],
     row: u32,
     role: u32,
     set: u32,
 ) -> bool
-    requires { ⌜ (Traces n (now types) (now objects) (now links) count (now events) (now trace)) × (row < n .objects) ⌝ }
-    ensures { λ r. ⌜ ((c : Change) → Traced c n (now (types .entry)) (now (objects .entry)) (now (links .entry)) count (now (events .entry)) (now (trace .entry))
+    requires { ⌜ (Traces n (now types) (now objects) (now links) (now events) (now trace)) × (row < n .objects) ⌝ }
+    ensures { λ r. ⌜ ((c : Change) → Traced c n (now (types .entry)) (now (objects .entry)) (now (links .entry)) (now (events .entry)) (now (trace .entry))
         → r ≡ someOf set (roleMoves c role (idIn (now (objects .entry)) row))) ⌝ }
 {
     let up = directions::contains(set, UP);
@@ -64,7 +63,6 @@ fn role_moved(
         types,
         objects,
         links,
-        count,
         events,
         trace,
         row,
@@ -81,7 +79,6 @@ fn role_moved(
         types,
         objects,
         links,
-        count,
         events,
         trace,
         row,
@@ -96,15 +93,14 @@ fn kind_moved(
     types: &[u32],
     objects: &[u32],
     links: &[u32],
-    count: u32,
     events: &[u32],
     trace: &[u16; 2593],
     row: u32,
     t: u32,
     set: u32,
 ) -> bool
-    requires { ⌜ (Traces n (now types) (now objects) (now links) count (now events) (now trace)) × (row < n .objects) ⌝ }
-    ensures { λ r. ⌜ ((c : Change) → Traced c n (now (types .entry)) (now (objects .entry)) (now (links .entry)) count (now (events .entry)) (now (trace .entry))
+    requires { ⌜ (Traces n (now types) (now objects) (now links) (now events) (now trace)) × (row < n .objects) ⌝ }
+    ensures { λ r. ⌜ ((c : Change) → Traced c n (now (types .entry)) (now (objects .entry)) (now (links .entry)) (now (events .entry)) (now (trace .entry))
         → r ≡ someOf set (kindMoves c (idIn (now (objects .entry)) row) t)) ⌝ }
 {
     let up = directions::contains(set, UP);
@@ -116,7 +112,6 @@ fn kind_moved(
         types,
         objects,
         links,
-        count,
         events,
         trace,
         row,
@@ -133,7 +128,6 @@ fn kind_moved(
         types,
         objects,
         links,
-        count,
         events,
         trace,
         row,
@@ -148,14 +142,13 @@ fn all_moved(
     types: &[u32],
     objects: &[u32],
     links: &[u32],
-    count: u32,
     events: &[u32],
     trace: &[u16; 2593],
     t: u32,
     set: u32,
 ) -> bool
-    requires { ⌜ (Traces n (now types) (now objects) (now links) count (now events) (now trace)) × (t < maxTypes) ⌝ }
-    ensures { λ r. ⌜ ((c : Change) → Traced c n (now (types .entry)) (now (objects .entry)) (now (links .entry)) count (now (events .entry)) (now (trace .entry))
+    requires { ⌜ (Traces n (now types) (now objects) (now links) (now events) (now trace)) × (t < maxTypes) ⌝ }
+    ensures { λ r. ⌜ ((c : Change) → Traced c n (now (types .entry)) (now (objects .entry)) (now (links .entry)) (now (events .entry)) (now (trace .entry))
         → r ≡ someOf set (allMoves c t)) ⌝ }
 {
     let at = (1536 + t) as usize;
@@ -172,7 +165,6 @@ fn leaf(
     types: &[u32],
     objects: &[u32],
     links: &[u32],
-    count: u32,
     events: &[u32],
     trace: &[u16; 2593],
     vs: &[u32; 64],
@@ -182,13 +174,13 @@ fn leaf(
     y: u32,
     set: u32,
 ) -> bool
-    requires { ⌜ (Traces n (now types) (now objects) (now links) count (now events) (now trace))
+    requires { ⌜ (Traces n (now types) (now objects) (now links) (now events) (now trace))
         × (LeafAble (n .objects) (now vs) depth code x) × (0 < set) × (set < 4) ⌝ }
-    ensures { λ r. ⌜ ((c : Change) → Traced c n (now (types .entry)) (now (objects .entry)) (now (links .entry)) count (now (events .entry)) (now (trace .entry))
+    ensures { λ r. ⌜ ((c : Change) → Traced c n (now (types .entry)) (now (objects .entry)) (now (links .entry)) (now (events .entry)) (now (trace .entry))
         → r ≡ someOf set (leafMoves c (map (idIn (now (objects .entry))) (take depth (now (vs .entry)))) code x y)) ⌝ }
 {
     if code == ALL {
-        return all_moved(n, types, objects, links, count, events, trace, x, set);
+        return all_moved(n, types, objects, links, events, trace, x, set);
     }
     if code == NUM {
         return false;
@@ -201,7 +193,6 @@ fn leaf(
             types,
             objects,
             links,
-            count,
             events,
             trace,
             row,
@@ -210,9 +201,9 @@ fn leaf(
         );
     }
     if code == ROLE {
-        return role_moved(n, types, objects, links, count, events, trace, row, y, set);
+        return role_moved(n, types, objects, links, events, trace, row, y, set);
     }
-    kind_moved(n, types, objects, links, count, events, trace, row, y, set)
+    kind_moved(n, types, objects, links, events, trace, row, y, set)
 }
 
 // Whether a cell of some member of a collection was set.
@@ -224,7 +215,6 @@ fn member_set(
     index: &[u16; 81920],
     bodies: &[u32],
     spans: &[u32; 65],
-    count: u32,
     events: &[u32],
     trace: &[u16; 2593],
     vs: &[u32; 64],
@@ -232,8 +222,8 @@ fn member_set(
     cell: u32,
 ) -> bool
     requires { ⌜ (Ready (siteOf n (now types) (now objects) (now links) (now index) (now bodies) (of .0)) (now spans) (of .1) (now vs) (of .2) collection)
-        × (Traces n (now types) (now objects) (now links) count (now events) (now trace)) ⌝ }
-    ensures { λ r. ⌜ ((c : Change) → Traced c n (now (types .entry)) (now (objects .entry)) (now (links .entry)) count (now (events .entry)) (now (trace .entry))
+        × (Traces n (now types) (now objects) (now links) (now events) (now trace)) ⌝ }
+    ensures { λ r. ⌜ ((c : Change) → Traced c n (now (types .entry)) (now (objects .entry)) (now (links .entry)) (now (events .entry)) (now (trace .entry))
         → r ≡ any (λ m. cellMoves c m cell) (membersOf
         (siteOf n (now (types .entry)) (now (objects .entry)) (now (links .entry)) (now (index .entry)) (now (bodies .entry)) (of .0))
         (of .1) (now (vs .entry)) (of .2))) ⌝ }
@@ -249,7 +239,6 @@ fn member_set(
             types,
             objects,
             links,
-            count,
             events,
             trace,
             object,
@@ -271,7 +260,6 @@ pub fn moved(
     index: &[u16; 81920],
     bodies: &[u32],
     spans: &[u32; 65],
-    count: u32,
     events: &[u32],
     trace: &[u16; 2593],
     vs: &[u32; 64],
@@ -279,8 +267,8 @@ pub fn moved(
     set: u32,
 ) -> bool
     requires { ⌜ ((S : Schema) × Able S (siteOf n (now types) (now objects) (now links) (now index) (now bodies) (at .0)) (now spans) (at .1) (now vs) (at .2))
-        × (Traces n (now types) (now objects) (now links) count (now events) (now trace)) × (set < 4) ⌝ }
-    ensures { λ r. ⌜ ((c : Change) → Traced c n (now (types .entry)) (now (objects .entry)) (now (links .entry)) count (now (events .entry)) (now (trace .entry))
+        × (Traces n (now types) (now objects) (now links) (now events) (now trace)) × (set < 4) ⌝ }
+    ensures { λ r. ⌜ ((c : Change) → Traced c n (now (types .entry)) (now (objects .entry)) (now (links .entry)) (now (events .entry)) (now (trace .entry))
         → r ≡ movesAt c
         (siteOf n (now (types .entry)) (now (objects .entry)) (now (links .entry)) (now (index .entry)) (now (bodies .entry)) (at .0))
         (at .1) (now (vs .entry)) (at .2) set) ⌝ }
@@ -300,7 +288,6 @@ pub fn moved(
             types,
             objects,
             links,
-            count,
             events,
             trace,
             vs,
@@ -322,7 +309,6 @@ pub fn moved(
             index,
             bodies,
             spans,
-            count,
             events,
             trace,
             vs,
@@ -342,7 +328,6 @@ pub fn moved(
             index,
             bodies,
             spans,
-            count,
             events,
             trace,
             vs,
@@ -361,7 +346,6 @@ pub fn moved(
         index,
         bodies,
         spans,
-        count,
         events,
         trace,
         vs,
@@ -379,7 +363,6 @@ pub fn moved(
             index,
             bodies,
             spans,
-            count,
             events,
             trace,
             vs,
@@ -395,7 +378,6 @@ pub fn moved(
         index,
         bodies,
         spans,
-        count,
         events,
         trace,
         vs,
@@ -413,7 +395,6 @@ fn over(
     index: &[u16; 81920],
     bodies: &[u32],
     spans: &[u32; 65],
-    count: u32,
     events: &[u32],
     trace: &[u16; 2593],
     vs: &[u32; 64],
@@ -421,8 +402,8 @@ fn over(
     set: u32,
 ) -> bool
     requires { ⌜ ((S : Schema) × OverAble S (siteOf n (now types) (now objects) (now links) (now index) (now bodies) (at .0)) (now spans) (at .1) (now vs) (at .2))
-        × (Traces n (now types) (now objects) (now links) count (now events) (now trace)) × (set < 4) ⌝ }
-    ensures { λ r. ⌜ ((c : Change) → Traced c n (now (types .entry)) (now (objects .entry)) (now (links .entry)) count (now (events .entry)) (now (trace .entry))
+        × (Traces n (now types) (now objects) (now links) (now events) (now trace)) × (set < 4) ⌝ }
+    ensures { λ r. ⌜ ((c : Change) → Traced c n (now (types .entry)) (now (objects .entry)) (now (links .entry)) (now (events .entry)) (now (trace .entry))
         → r ≡ movesOver c
         (siteOf n (now (types .entry)) (now (objects .entry)) (now (links .entry)) (now (index .entry)) (now (bodies .entry)) (at .0))
         (at .1 - 1) (now (vs .entry)) (at .2)
@@ -453,7 +434,6 @@ fn over(
             index,
             bodies,
             spans,
-            count,
             events,
             trace,
             &inner,

@@ -79,7 +79,14 @@ fn said_read(outcome: Outcome, all: &mut Words) -> Said {
             Said(number, line)
         }
         Outcome::Done(n) => {
-            let used = [n.types, n.relationships, n.rules, n.objects, n.links, n.events];
+            let used = [
+                n.types,
+                n.relationships,
+                n.rules,
+                n.objects,
+                n.links,
+                n.events,
+            ];
             copy::give6(all, USED, &used);
             Said(0, 0)
         }

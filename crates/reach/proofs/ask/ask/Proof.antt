@@ -16,18 +16,18 @@ use Rattle.reach.proofs.ask.ask.Statement.{statement}
 use Rattle.reach.proofs.ask.ask.Tie as tie
 
 abbrev Inv-loop : tie.InvT-loop
-Inv-loop n types objects links count events trace row question x head word₀ word =
-    Walk (placeRow (n .objects) objects events) (2 * count) row
+Inv-loop n types objects links events trace row question x head word₀ word =
+    Walk (placeRow (n .objects) objects events) (2 * n .events) row
     (λ p. answersAt (typesOf (n .types) types) (questionOf question x) (eventRow events (p / 2)) (p % 2) (metWord trace (p / 2)) (eqb (thereWord trace (p / 2)) 1)) word
 
 abbrev μ-loop : tie.MeasureT-loop
-μ-loop n types objects links count events trace row question x head word₀ word = leftOf word
+μ-loop n types objects links events trace row question x head word₀ word = leftOf word
 
 -- the places of the code
 abbrev begin : tie.At-loop Inv-loop μ-loop → tie.Start Inv-loop μ-loop
 begin c = c .before .before .before .before .before .before .before
 
-abbrev traced : (s : tie.Start Inv-loop μ-loop) → let a = s .args in Traced (s .pre .0 .0) (a .n) (now (a .types)) (now (a .objects)) (now (a .links)) (a .count) (now (a .events)) (now (a .trace))
+abbrev traced : (s : tie.Start Inv-loop μ-loop) → let a = s .args in Traced (s .pre .0 .0) (a .n) (now (a .types)) (now (a .objects)) (now (a .links)) (now (a .events)) (now (a .trace))
 traced s = s .pre .0 .1
 
 abbrev key : tie.Start Inv-loop μ-loop → ℕ → ℕ
@@ -41,7 +41,7 @@ silent s p =
 abbrev question : tie.Start Inv-loop μ-loop → Question
 question s = questionOf (s .args .question) (s .args .x)
 
-few : (s : tie.Start Inv-loop μ-loop) → 2 * s .args .count ≤ 512
+few : (s : tie.Start Inv-loop μ-loop) → 2 * s .args .n .events ≤ 512
 few s = omega (arith, traced s .seen .few)
 
 row-low : (s : tie.Start Inv-loop μ-loop) → s .args .row < 1024
@@ -56,7 +56,7 @@ place-is c = let h = c .loop-test .taken in omega arith
 place-low : (c : Turn) → c .before .loop .word - 1 < 512
 place-low c =
     let s = begin (c .before) in
-    let at = here (key s) (2 * s .args .count) (s .args .row) (silent s) (c .before .loop .inv) (c .before .loop .word - 1) (place-is c) in
+    let at = here (key s) (2 * s .args .n .events) (s .args .row) (silent s) (c .before .loop .inv) (c .before .loop .word - 1) (place-is c) in
     omega (arith, at .within, few s)
 
 add-head : tie.Need-add-head Inv-loop μ-loop
@@ -89,7 +89,7 @@ returns : tie.Need-returns Inv-loop μ-loop
 returns c =
     let turn = c .before .before in
     let s = begin (turn .before) in
-    let at = here (key s) (2 * s .args .count) (s .args .row) (silent s) (turn .before .loop .inv) (turn .before .loop .word - 1) (place-is turn) in
+    let at = here (key s) (2 * s .args .n .events) (s .args .row) (silent s) (turn .before .loop .inv) (turn .before .loop .word - 1) (place-is turn) in
     λ k follows. found follows (s .pre .1) (question s) (turn .before .loop .word - 1) (at .within) (at .leads) (sym (c .before .answered .ensures) ∙ c .if1 .taken)
 
 add-next : tie.Need-add-next Inv-loop μ-loop
@@ -113,8 +113,8 @@ loop-less c =
     let turn = test .before .before in
     let s = begin (turn .before) in
     let place = turn .before .loop .word - 1 in
-    let at = here (key s) (2 * s .args .count) (s .args .row) (silent s) (turn .before .loop .inv) place (place-is turn) in
-    less-left (key s) (2 * s .args .count) (s .args .row) (silent s) (turn .before .loop .inv) place (place-is turn) (sym (test .before .answered .ensures) ∙ test .if1 .left) (c .wide2 .ensures ∙ traced s .chained .next-is place (omega arith) (at .within)) (few s)
+    let at = here (key s) (2 * s .args .n .events) (s .args .row) (silent s) (turn .before .loop .inv) place (place-is turn) in
+    less-left (key s) (2 * s .args .n .events) (s .args .row) (silent s) (turn .before .loop .inv) place (place-is turn) (sym (test .before .answered .ensures) ∙ test .if1 .left) (c .wide2 .ensures ∙ traced s .chained .next-is place (omega arith) (at .within)) (few s)
 
 loop-again : tie.Need-loop-again Inv-loop μ-loop
 loop-again c =
@@ -122,13 +122,13 @@ loop-again c =
     let turn = test .before .before in
     let s = begin (turn .before) in
     let place = turn .before .loop .word - 1 in
-    let at = here (key s) (2 * s .args .count) (s .args .row) (silent s) (turn .before .loop .inv) place (place-is turn) in
-    goes-on (key s) (2 * s .args .count) (s .args .row) (silent s) (turn .before .loop .inv) place (place-is turn) (sym (test .before .answered .ensures) ∙ test .if1 .left) (c .wide2 .ensures ∙ traced s .chained .next-is place (omega arith) (at .within))
+    let at = here (key s) (2 * s .args .n .events) (s .args .row) (silent s) (turn .before .loop .inv) place (place-is turn) in
+    goes-on (key s) (2 * s .args .n .events) (s .args .row) (silent s) (turn .before .loop .inv) place (place-is turn) (sym (test .before .answered .ensures) ∙ test .if1 .left) (c .wide2 .ensures ∙ traced s .chained .next-is place (omega arith) (at .within))
 
 returns-2 : tie.Need-returns-2 Inv-loop μ-loop
 returns-2 c =
     let s = begin (c .before) in
-    λ k follows. not-found follows (s .pre .1) (question s) (all-passed (key s) (2 * s .args .count) (s .args .row) (silent s) (c .before .loop .inv) (c .loop-test .left))
+    λ k follows. not-found follows (s .pre .1) (question s) (all-passed (key s) (2 * s .args .n .events) (s .args .row) (silent s) (c .before .loop .inv) (c .loop-test .left))
 
 pub ask-spec : {M : Type 1} → statement M
 ask-spec =

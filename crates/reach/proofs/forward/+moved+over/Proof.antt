@@ -52,10 +52,10 @@ use Rattle.reach.proofs.forward.+moved+over.Tie.{close}
 -- ---- measures, what each is given at the measure t, and what a call of it asks below t
 
 abbrev μ-moved : Measures 9 moved-kinds.ps ℕ
-μ-moved κs a = a .1 .1 .1 .1 .1 .1 .1 .1 .1 .1 .1 .0 .1 + a .1 .1 .1 .1 .1 .1 .1 .1 .1 .1 .1 .0 .1 + 1
+μ-moved κs a = a .1 .1 .1 .1 .1 .1 .1 .1 .1 .1 .0 .1 + a .1 .1 .1 .1 .1 .1 .1 .1 .1 .1 .0 .1 + 1
 
 abbrev μ-over : Measures 9 over-kinds.ps ℕ
-μ-over κs a = a .1 .1 .1 .1 .1 .1 .1 .1 .1 .1 .1 .0 .1 + a .1 .1 .1 .1 .1 .1 .1 .1 .1 .1 .1 .0 .1
+μ-over κs a = a .1 .1 .1 .1 .1 .1 .1 .1 .1 .1 .0 .1 + a .1 .1 .1 .1 .1 .1 .1 .1 .1 .1 .0 .1
 
 abbrev moved-at : ℕ → In 9 moved-kinds.ps
 moved-at t = and 9 moved-kinds.ps (is 9 moved-kinds.ps μ-moved t) moved.Pre
@@ -97,14 +97,14 @@ abbrev atMember : Change → Site → ℕ → List ℕ → ℕ → ℕ → ℕ �
 atMember c w e vars depth dirs m = movedBy c (formAt w e) (bind (idsOf w depth vars) m) dirs
 
 abbrev over-Inv-loop : over-lts.InvT-loop
-over-Inv-loop n types objects links index bodies spans count events trace vs dirs rule row depth from of inner₀ new word₀ inner word =
+over-Inv-loop n types objects links index bodies spans events trace vs dirs rule row depth from of inner₀ new word₀ inner word =
     let w = siteOf n types objects links index bodies rule in
     (Stands w (getD spans row 0) vs word)
-    × ((c : Change) → Traced c n types objects links count events trace → Left w (getD spans row 0) vs depth (atMember c w row vs depth dirs) word)
+    × ((c : Change) → Traced c n types objects links events trace → Left w (getD spans row 0) vs depth (atMember c w row vs depth dirs) word)
     × ((object : ℕ) → set inner depth object ≡ set vs depth object)
 
 abbrev over-μ-loop : over-lts.MeasureT-loop
-over-μ-loop n types objects links index bodies spans count events trace vs dirs rule row depth from of inner₀ new word₀ inner word =
+over-μ-loop n types objects links index bodies spans events trace vs dirs rule row depth from of inner₀ new word₀ inner word =
     length (leftAt (siteOf n types objects links index bodies rule) (getD spans row 0) vs depth word)
 
 module _ (t : ℕ) where
@@ -457,11 +457,11 @@ module _ (t : ℕ) where
   over-cast-from : over-lts.Need-cast-from (over-calls t) (over-at t) over.Post over-Inv-loop over-μ-loop
   over-cast-from c = let h = orow (known-begin c) in omega arith
 
-  over-mul-t27 : over-lts.Need-mul-t27 (over-calls t) (over-at t) over.Post over-Inv-loop over-μ-loop
-  over-mul-t27 c = let h = orow (known-begin c) in omega arith
+  over-mul-t26 : over-lts.Need-mul-t26 (over-calls t) (over-at t) over.Post over-Inv-loop over-μ-loop
+  over-mul-t26 c = let h = orow (known-begin c) in omega arith
 
-  over-element-copy-out-t30 : over-lts.Need-element-copy-out-t30 (over-calls t) (over-at t) over.Post over-Inv-loop over-μ-loop
-  over-element-copy-out-t30 c = let h = orow (known-begin c) in omega arith
+  over-element-copy-out-t29 : over-lts.Need-element-copy-out-t29 (over-calls t) (over-at t) over.Post over-Inv-loop over-μ-loop
+  over-element-copy-out-t29 c = let h = orow (known-begin c) in omega arith
 
   over-cast-new : over-lts.Need-cast-new (over-calls t) (over-at t) over.Post over-Inv-loop over-μ-loop
   over-cast-new c = let h = oable (known-begin (c .before .before)) .deep in omega arith
@@ -537,7 +537,7 @@ pub +moved+over-spec : {M : Type 1} → statement M
     (moved-element-copy-out-if7 t) (moved-pass-requires-2 t) (moved-moved-requires-2 t) (moved-returns-6 t) (moved-shape-requires-3 t)
     (moved-moved-requires-3 t) (moved-returns-7 t) (moved-over-requires t) (moved-returns-8 t))
     (λ t. over-lts.spec (over-calls t) (over-at t) over.Post over-Inv-loop over-μ-loop
-    (over-sub-row t) (over-cast-from t) (over-mul-t27 t) (over-element-copy-out-t30 t) (over-cast-new t) (over-begin-requires t)
+    (over-sub-row t) (over-cast-from t) (over-mul-t26 t) (over-element-copy-out-t29 t) (over-cast-new t) (over-begin-requires t)
     (over-loop-holds t) (over-next-requires t) (over-enum-known-step t) (over-enum-told t) (over-returns t) (over-mul-inner t)
     (over-array-write-inner t) (over-add-deeper t) (over-moved-requires t) (over-returns-2 t) (over-loop-less t) (over-loop-again t)
     )

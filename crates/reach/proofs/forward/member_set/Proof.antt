@@ -18,13 +18,13 @@ use Rattle.reach.proofs.forward.member_set.Statement.{statement}
 use Rattle.reach.proofs.forward.member_set.Tie as tie
 
 abbrev Inv-loop : tie.InvT-loop
-Inv-loop n types objects links index bodies spans count events trace vs of cell word₀ word =
+Inv-loop n types objects links index bodies spans events trace vs of cell word₀ word =
     let w = siteOf n types objects links index bodies (of .0) in
     (Stands w (of .1) vs word)
-    × ((c : Change) → Traced c n types objects links count events trace → Left w (of .1) vs (of .2) (λ m. cellMoves c m cell) word)
+    × ((c : Change) → Traced c n types objects links events trace → Left w (of .1) vs (of .2) (λ m. cellMoves c m cell) word)
 
 abbrev μ-loop : tie.MeasureT-loop
-μ-loop n types objects links index bodies spans count events trace vs of cell word₀ word =
+μ-loop n types objects links index bodies spans events trace vs of cell word₀ word =
     length (leftAt (siteOf n types objects links index bodies (of .0)) (of .1) vs (of .2) word)
 
 -- the places of the code
