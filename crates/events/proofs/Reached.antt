@@ -1,5 +1,5 @@
 -- The events of a batch one after the other: what is left of the batch before each event, and the copy that they work on.
-use Prim.Native.Nat.{ℕ, zero, suc, _+_, _*_, _-_, _≤_, _<_, min, zero-le}
+use Prim.Native.Nat.{ℕ, suc, _+_, _*_, _-_, _≤_, _<_, min, zero-le}
 use mathlib.Core.Path.{_≡_, refl, sym, ap, subst, _∙_}
 use mathlib.Core.List.{List, [], _∷_, _++_, map, append-assoc, append-nil}
 use mathlib.Core.Option.{Option, none, some, Option·map}
@@ -13,7 +13,7 @@ use Rattle.meaning.specs.Limits.{maxObjects, maxLinks, maxEvents}
 use Rattle.meaning.specs.Lists.{firstOf}
 use Rattle.meaning.specs.Schema.{Schema}
 use Rattle.meaning.specs.Register.{Register}
-use Rattle.meaning.specs.Events.{Event, insert, delete, set, join, part, special, general, Lent, Refusal, apply, after, checks, eventRefusal, refusalFrom, batchRefusal}
+use Rattle.meaning.specs.Events.{Event, insert, delete, set, join, part, special, general, Lent, apply, after, checks, eventRefusal, refusalFrom, batchRefusal}
 use Rattle.meaning.specs.Reach.{stepsOf}
 use Rattle.meaning.proofs.Registers.{RegisterFits}
 use Rattle.rows.specs.Rows.{rowsFrom, readRows, rowsLent, copied}

@@ -1,6 +1,5 @@
 -- `block_end` meets its contract: it ends within the text, at its place or past it.
 use Prim.Native.Nat.{_-_, _≤_}
-use native.Mathlib.Omega.{arith}
 use lib.ListN.{length}
 use borrow.Author.Needs.{needs}
 use Rattle.test_events.proofs.block_end.Statement.{statement}

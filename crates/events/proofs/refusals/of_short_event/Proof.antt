@@ -6,7 +6,7 @@ use Rattle.meaning.specs.Schema.{Schema, Relationship}
 use Rattle.meaning.specs.Register.{Link, Register}
 use Rattle.meaning.specs.Events.{Lent}
 use Rattle.rows.specs.Rows.{readRows}
-use Rattle.tables.specs.Columns.{linkRow, relationshipsOf, typesOf, schemaOf, registerOf}
+use Rattle.tables.specs.Columns.{linkRow, relationshipsOf, schemaOf, registerOf}
 use Rattle.events.proofs.Fields.{as-event, refused, third-unused, kind-unknown, second-unused, kind-insert, kind-delete, kind-special, kind-general}
 use borrow.Author.Needs.{needs}
 use Rattle.events.proofs.refusals.of_short_event.Statement.{statement}

@@ -21,8 +21,6 @@ use Rattle.events.proofs.Allowed.{some-event}
 use Rattle.events.proofs.Reached.{Reached, reached-none, reached-refused, reached-more, reached-end, fit-words}
 use Rattle.events.proofs.runs.run_on.Statement.{statement}
 use Rattle.events.proofs.runs.run_on.Tie as tie
-use Rattle.events.proofs.runs.run_on.Reads as reads
-use Rattle.events.proofs.runs.run_on.Lts as lts
 
 refused-clear : {n k : ℕ} → Refused n k ≡ Clear → ⊥
 refused-clear e = let z : _≡_ {A = ℕ} 0 1 = cc in omega arith
