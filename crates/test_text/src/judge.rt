@@ -1,5 +1,6 @@
 // What is said of a text or of tables. Before a text is read, every word of the tables is a mark.
 use crate::lent;
+use crate::lent::Bytes;
 use crate::lent::Said;
 use crate::lent::Words;
 use crate::lent::of;
@@ -106,7 +107,7 @@ fn unlike(text: &[u8], out: &[u8]) -> u32 {
 }
 
 // What the writer says of tables that were read.
-fn later(text: &[u8], out: &[u8], w: Said) -> Answer {
+fn later(text: &[u8], out: &Bytes, w: Said) -> Answer {
     if w.0 != 0 {
         return Answer {
             number: 0,
@@ -133,21 +134,27 @@ fn count(all: &mut Words, at: u32, more: u32) {
     lent::set(all, at, n);
 }
 
+// Writes the tables into as many bytes as there are.
+fn write_whole(all: &Words, out: &mut Bytes) -> Said {
+    lent::write(all, out)
+}
+
 // What is said of a text that was read: words are wrong that are not 0 past the used rows.
-fn read_well(text: &[u8], all: &mut Words, out: &mut [u8]) -> Answer {
+fn read_well(text: &[u8], all: &mut Words) -> Answer {
+    let mut out = [0u8; 65538];
     let wrong = all_past(all);
     count(&mut *all, lent::WRONG, wrong);
-    let w = lent::write(all, &mut *out);
-    later(text, out, w)
+    let w = write_whole(all, &mut out);
+    later(text, &out, w)
 }
 
 // What is said of a text; a case more. Words are wrong that a refusal changed.
-pub fn ask(text: &[u8], all: &mut Words, out: &mut [u8]) -> Answer {
+fn ask(text: &[u8], all: &mut Words) -> Answer {
     count(&mut *all, lent::CASES, 1);
     mark(&mut *all);
     let read = lent::read(text, &mut *all);
     if read.0 == 0 {
-        return read_well(text, all, out);
+        return read_well(text, all);
     }
     let wrong = unmarked(all);
     count(all, lent::WRONG, wrong);
@@ -160,7 +167,7 @@ pub fn ask(text: &[u8], all: &mut Words, out: &mut [u8]) -> Answer {
 }
 
 // An answer in short: the refusal and its line; or `ok`, and the writer's refusal if there is one.
-pub fn show(a: Answer) {
+fn show(a: Answer) {
     if a.number != 0 {
         say::pair(a.number, a.line);
         return;
@@ -183,8 +190,8 @@ fn say_rows(all: &Words) {
 }
 
 // An answer; by `counted`, with the rows of each section and the words that were wrong so far.
-pub fn asked(line: &[u8], text: &[u8], all: &mut Words, out: &mut [u8]) {
-    show(ask(text, &mut *all, out));
+pub fn asked(line: &[u8], text: &[u8], all: &mut Words) {
+    show(ask(text, &mut *all));
     if byte(line, 0) == 97 {
         say::words(b"\n");
         return;
@@ -196,14 +203,6 @@ pub fn asked(line: &[u8], text: &[u8], all: &mut Words, out: &mut [u8]) {
 // Reads the text into the tables.
 pub fn get(text: &[u8], all: &mut Words) {
     lent::read(text, all);
-}
-
-fn blank(out: &mut [u8]) {
-    let mut i: usize = 0;
-    while i < out.len() {
-        out[i] = BEFORE;
-        i += 1;
-    }
 }
 
 // How many bytes from a place on are not as they were.
@@ -220,7 +219,7 @@ fn changed_from(out: &[u8], from: usize) -> u32 {
 }
 
 // What the writer said, and what stands in the bytes after it.
-fn show_written(w: Said, text: &[u8], out: &[u8]) {
+fn show_written(w: Said, text: &[u8], out: &Bytes) {
     if w.0 != 0 {
         say::pair(w.0, w.1);
         say::named(b", bytes changed", changed_from(out, 0));
@@ -233,23 +232,22 @@ fn show_written(w: Said, text: &[u8], out: &[u8]) {
 }
 
 // Writes the tables into so many bytes.
-fn write_some(all: &Words, bytes: u32, out: &mut [u8]) -> Said {
-    blank(&mut *out);
+fn write_part(all: &Words, bytes: u32, out: &mut [u8]) -> Said {
     let from = 0;
     let to = sheet::lesser(bytes, out.len());
     lent::write(all, &mut out[from..to])
 }
 
-// The same, and says what is written; a case more.
-pub fn write(line: &[u8], text: &[u8], all: &mut Words, out: &mut [u8]) {
-    count(&mut *all, lent::CASES, 1);
-    let w = write_some(all, line::number(line, 1), &mut *out);
-    lent::set(all, lent::WRITTEN, w.1);
-    show_written(w, text, out);
+fn write_some(all: &Words, bytes: u32, out: &mut Bytes) -> Said {
+    write_part(all, bytes, out)
 }
 
-fn differing(a: &Words, b: &Words) -> u32 {
-    sheet::differing(tables_of(a), tables_of(b))
+// The same, and says what is written; a case more.
+pub fn write(line: &[u8], text: &[u8], all: &mut Words) {
+    let mut out = [BEFORE; 65538];
+    let w = write_some(all, line::number(line, 1), &mut out);
+    count(all, lent::CASES, 1);
+    show_written(w, text, &out);
 }
 
 // The words of the tables.
@@ -257,9 +255,13 @@ fn tables_of(all: &Words) -> &[u32] {
     sheet::first(all, sheet::LENGTH)
 }
 
+fn differing(a: &Words, b: &Words) -> u32 {
+    sheet::differing(tables_of(a), tables_of(b))
+}
+
 // Reads a text into other tables, all rows lent, and compares them with the tables that are there.
-fn compare(text: &[u8], all: &Words) {
-    let mut again = [7u32; 31953];
+pub fn compare(text: &[u8], all: &Words) {
+    let mut again = [7u32; 31952];
     lent::lend_all(&mut again);
     lent::read(text, &mut again);
     say::words(b"counts");
@@ -268,12 +270,16 @@ fn compare(text: &[u8], all: &Words) {
     say::named(b"words differing", differing(&again, all));
 }
 
-// What was written is the text from now on: read again, and compared with the tables that were written; a case more.
-pub fn verify(text: &mut [u8], all: &mut Words, out: &[u8]) {
+// Takes so many bytes for a text.
+fn adopt(text: &mut [u8], out: &Bytes, n: u32) {
+    lexical::write_bytes(text, 0, line::first(out, size(n)));
+}
+
+// What is written of the tables is the text from now on; a case more.
+pub fn rewrite(text: &mut [u8], all: &mut Words) {
+    let mut out = [0u8; 65538];
+    let w = write_whole(all, &mut out);
     count(&mut *all, lent::CASES, 1);
-    let length = of(all, lent::WRITTEN);
-    lent::set(&mut *all, lent::LENGTH, length);
-    let written = line::first(out, size(length));
-    lexical::write_bytes(text, 0, written);
-    compare(written, all);
+    lent::set(all, lent::LENGTH, w.1);
+    adopt(text, &out, w.1);
 }

@@ -12,8 +12,8 @@ use writer::Written;
 ghost use Prim.Native.Nat.{_≤_};
 
 // The words of the tables. After them: how many words of each of the seven tables are lent; how many rows of each of the six sections are
-// used; how long the text is, and what was written last; how many words were wrong so far, and how many cases there were.
-pub type Words = [u32; 31953];
+// used; how long the text is; how many words were wrong so far, and how many cases there were.
+pub type Words = [u32; 31952];
 
 pub const LENT: u32 = 31936;
 
@@ -21,11 +21,9 @@ pub const USED: u32 = 31943;
 
 pub const LENGTH: u32 = 31949;
 
-pub const WRITTEN: u32 = 31950;
+pub const WRONG: u32 = 31950;
 
-pub const WRONG: u32 = 31951;
-
-pub const CASES: u32 = 31952;
+pub const CASES: u32 = 31951;
 
 pub fn of(all: &Words, at: u32) -> u32 {
     get(all, sheet::size(at))
@@ -34,6 +32,9 @@ pub fn of(all: &Words, at: u32) -> u32 {
 pub fn set(all: &mut Words, at: u32, value: u32) {
     put(all, sheet::size(at), value);
 }
+
+// A text, or what is written: one byte more than any text here has.
+pub type Bytes = [u8; 65538];
 
 // A refusal's number and place; or 0, and how many bytes were written.
 pub struct Said(pub u32, pub u32);

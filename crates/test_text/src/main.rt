@@ -11,10 +11,8 @@ use cases::line;
 use cases::line::byte;
 use cases::say;
 use cases::sheet;
+use lent::Bytes;
 use lent::Words;
-
-// A text, and what is written: one byte more than any text here has.
-type Bytes = [u8; 65538];
 
 // A heading, or a case's name; of a case all rows are lent.
 fn title(line: &[u8], all: &mut Words) {
@@ -39,22 +37,24 @@ fn now<'a>(text: &'a [u8], all: &Words) -> &'a [u8] {
 }
 
 // A line that says what is lent or used, or that asks about the text or the tables.
-fn order(line: &[u8], text: &[u8], all: &mut Words, out: &mut [u8]) {
+fn order(line: &[u8], text: &[u8], all: &mut Words) {
     match byte(line, 0) {
-        97 | 99 => judge::asked(line, text, all, out),
+        97 | 99 => judge::asked(line, text, all),
         103 => judge::get(text, all),
-        119 => judge::write(line, text, all, out),
+        118 => judge::compare(text, all),
+        119 => judge::write(line, text, all),
         _ => lent::settle(line, all),
     }
 }
 
-// A line that makes the text another; any other leaves it.
-fn one_line(line: &[u8], text: &mut Bytes, all: &mut Words, out: &mut Bytes) {
+// A line that makes the text another; then what it asks.
+fn one_line(line: &[u8], text: &mut Bytes, all: &mut Words) {
     match byte(line, 0) {
-        37 | 42 | 43 | 45 | 64 | 124 => build::grow(line, text, all),
-        118 => judge::verify(text, all, out),
-        _ => order(line, now(text, all), all, out),
+        37 | 42 | 43 | 45 | 64 | 124 => build::grow(line, &mut *text, &mut *all),
+        118 => judge::rewrite(&mut *text, &mut *all),
+        _ => {}
     }
+    order(line, now(text, all), all);
 }
 
 // What a line does besides to the text: a title, or a table's words.
@@ -71,13 +71,12 @@ fn prepare(line: &[u8], all: &mut Words) {
 
 fn all_lines(input: &[u8]) {
     let mut text = [0u8; 65538];
-    let mut out = [0u8; 65538];
-    let mut all = [0u32; 31953];
+    let mut all = [0u32; 31952];
     let mut at: usize = 0;
     while at < input.len() {
         let line = line::at(input, at);
         prepare(line, &mut all);
-        one_line(line, &mut text, &mut all, &mut out);
+        one_line(line, &mut text, &mut all);
         at = line::next(input, at);
     }
     say::named(b"words wrong", lent::of(&all, lent::WRONG));

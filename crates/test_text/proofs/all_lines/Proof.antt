@@ -6,10 +6,10 @@ use Rattle.test_text.proofs.all_lines.Statement.{statement}
 use Rattle.test_text.proofs.all_lines.Tie as tie
 
 abbrev Inv-loop : tie.InvT-loop
-Inv-loop input text₀ out₀ all₀ at₀ t7 t8 text out all at = Unit {0}
+Inv-loop input text₀ all₀ at₀ t6 t7 text all at = Unit {0}
 
 abbrev μ-loop : tie.MeasureT-loop
-μ-loop input text₀ out₀ all₀ at₀ t7 t8 text out all at = length input - at
+μ-loop input text₀ all₀ at₀ t6 t7 text all at = length input - at
 
 loop-holds : tie.Need-loop-holds Inv-loop μ-loop
 loop-holds c = tt
