@@ -68,12 +68,12 @@ pub fn shape(code: u32, column: u32) -> u32
     SHAPES[row][at]
 }
 
-// A word of a row of a rule's body. A rule has 64 rows of four words.
+// A word of a row of a rule's body, 0 past the table's end. A rule has 64 rows of four words.
 pub fn field(bodies: &[u32], rule: u32, row: u32, column: u32) -> u32
-    requires { ⌜ (row < 64) × (column < 4) ⌝ }
     ensures { λ r. ⌜ r ≡ wordAt (now (bodies .entry)) 4 (rule * maxForms + row) column ⌝ }
 {
-    rows::word(bodies, 256, rule, row * 4 + column)
+    let at = ((rule as usize) * 64 + (row as usize)) * 4 + (column as usize);
+    if at < bodies.len() { bodies[at] } else { 0 }
 }
 
 // Whether a part of some sort serves where one is wanted; NONE wants nothing.

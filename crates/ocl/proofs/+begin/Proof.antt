@@ -51,12 +51,10 @@ module _ (t : ℕ) where
   begin-sub-row c = positive (ready (c .before .before .before .before))
 
   begin-field-requires : begin-lts.Need-field-requires (calls t) (begin-at t) begin.Post
-  begin-field-requires c κs = (inside (c .before .before .before .before), omega arith)
+  begin-field-requires c κs = tt
 
   begin-field-requires-2 : begin-lts.Need-field-requires-2 (calls t) (begin-at t) begin.Post
-  begin-field-requires-2 c κs =
-      let start = c .before .before .before .before .before .before in
-      (inside start, omega arith)
+  begin-field-requires-2 c κs = tt
 
   begin-variable-requires : begin-lts.Need-variable-requires (calls t) (begin-at t) begin.Post
   begin-variable-requires c κs =
@@ -67,10 +65,7 @@ module _ (t : ℕ) where
       omega arith
 
   begin-field-requires-3 : begin-lts.Need-field-requires-3 (calls t) (begin-at t) begin.Post
-  begin-field-requires-3 c κs =
-      let earlier = c .before .before .before .before .before .before .before in
-      let start = earlier .before in
-      (inside start, omega arith)
+  begin-field-requires-3 c κs = tt
 
   begin-first-slot-requires : begin-lts.Need-first-slot-requires (calls t) (begin-at t) begin.Post
   begin-first-slot-requires c κs =

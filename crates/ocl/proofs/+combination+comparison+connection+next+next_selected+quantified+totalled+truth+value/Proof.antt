@@ -437,7 +437,7 @@ module _ (t : ℕ) where
   totalled-sub-row c = positive (c .before .before .before .before .pre .1 .0)
 
   totalled-field-requires : totalled-lts.Need-field-requires (totalled-calls t) (totalled-at t) totalled.Post totalled-Inv-loop totalled-μ-loop
-  totalled-field-requires c κs = (inside (c .before .before .before .before .pre .1 .0), omega arith)
+  totalled-field-requires c κs = tt
 
   totalled-begin-requires : totalled-lts.Need-begin-requires (totalled-calls t) (totalled-at t) totalled.Post totalled-Inv-loop totalled-μ-loop
   totalled-begin-requires c κs =
@@ -496,7 +496,7 @@ module _ (t : ℕ) where
   truth-sub-row c = positive (c .before .before .before .before .pre .1)
 
   truth-field-requires : truth-lts.Need-field-requires (truth-calls t) (truth-at t) truth.Post
-  truth-field-requires c κs = (inside (c .before .before .before .before .pre .1), omega arith)
+  truth-field-requires c κs = tt
 
   truth-comparison-requires : truth-lts.Need-comparison-requires (truth-calls t) (truth-at t) truth.Post
   truth-comparison-requires c κs =
@@ -536,10 +536,7 @@ module _ (t : ℕ) where
   truth-returns-4 c = c .quantified .ensures
 
   truth-field-requires-2 : truth-lts.Need-field-requires-2 (truth-calls t) (truth-at t) truth.Post
-  truth-field-requires-2 c κs =
-      let earlier = c .before .before .before .before .before .before .before in
-      let start = earlier .before .before in
-      (inside (start .pre .1), omega arith)
+  truth-field-requires-2 c κs = tt
 
   truth-variable-requires : truth-lts.Need-variable-requires (truth-calls t) (truth-at t) truth.Post
   truth-variable-requires c κs =
@@ -555,10 +552,7 @@ module _ (t : ℕ) where
   truth-type-of-requires c κs = tt
 
   truth-field-requires-3 : truth-lts.Need-field-requires-3 (truth-calls t) (truth-at t) truth.Post
-  truth-field-requires-3 c κs =
-      let earlier = c .before .before .before .before .before .before .before in
-      let start = earlier .before .before .before .before .before in
-      (inside (start .pre .1), omega arith)
+  truth-field-requires-3 c κs = tt
 
   truth-under-requires : truth-lts.Need-under-requires (truth-calls t) (truth-at t) truth.Post
   truth-under-requires c κs = tt
@@ -577,10 +571,10 @@ module _ (t : ℕ) where
   value-sub-row c = positive (c .before .before .before .before .pre .1)
 
   value-field-requires : value-lts.Need-field-requires (value-calls t) (value-at t) value.Post
-  value-field-requires c κs = (inside (c .before .before .before .before .pre .1), omega arith)
+  value-field-requires c κs = tt
 
   value-field-requires-2 : value-lts.Need-field-requires-2 (value-calls t) (value-at t) value.Post
-  value-field-requires-2 c κs = (inside (c .before .before .before .before .before .pre .1), omega arith)
+  value-field-requires-2 c κs = tt
 
   value-from-word-requires : value-lts.Need-from-word-requires (value-calls t) (value-at t) value.Post
   value-from-word-requires c κs = search needs
@@ -602,10 +596,7 @@ module _ (t : ℕ) where
       omega arith
 
   value-field-requires-3 : value-lts.Need-field-requires-3 (value-calls t) (value-at t) value.Post
-  value-field-requires-3 c κs =
-      let earlier = c .before .before .before .before .before .before .before in
-      let start = earlier .before .before in
-      (inside (start .pre .1), omega arith)
+  value-field-requires-3 c κs = tt
 
   value-cell-value-requires : value-lts.Need-cell-value-requires (value-calls t) (value-at t) value.Post
   value-cell-value-requires c κs = tt
@@ -644,7 +635,7 @@ module _ (t : ℕ) where
   next-sub-row c = positive (c .before .before .before .before .pre .1 .0)
 
   next-field-requires : next-lts.Need-field-requires (next-calls t) (next-at t) next.Post
-  next-field-requires c κs = (inside (c .before .before .before .before .pre .1 .0), omega arith)
+  next-field-requires c κs = tt
 
   next-next-far-requires : next-lts.Need-next-far-requires (next-calls t) (next-at t) next.Post
   next-next-far-requires c κs =
@@ -657,9 +648,7 @@ module _ (t : ℕ) where
       role-stepped (start .pre .1 .0) (sym (c .before .before .field .ensures) ∙ c .before .if1 .taken) (start .pre .1 .1) (c .next-far .ensures)
 
   next-field-requires-2 : next-lts.Need-field-requires-2 (next-calls t) (next-at t) next.Post
-  next-field-requires-2 c κs =
-      let start = c .before .before .before .before .before .before .before in
-      (inside (start .pre .1 .0), omega arith)
+  next-field-requires-2 c κs = tt
 
   next-next-instance-requires : next-lts.Need-next-instance-requires (next-calls t) (next-at t) next.Post
   next-next-instance-requires c κs = tt

@@ -229,16 +229,16 @@ module _ (t : ℕ) where
   sub-row c = positive (c .before .before .before .before)
 
   field-requires : typed-lts.Need-field-requires (calls t) (typed-at t) typed.Post
-  field-requires c κs = (inside (c .before .before .before .before), omega arith)
+  field-requires c κs = tt
 
   field-requires-2 : typed-lts.Need-field-requires-2 (calls t) (typed-at t) typed.Post
-  field-requires-2 c κs = (inside (of-coded c), omega arith)
+  field-requires-2 c κs = tt
 
   shape-requires : typed-lts.Need-shape-requires (calls t) (typed-at t) typed.Post
   shape-requires c κs = (low (c .before), omega arith)
 
   field-requires-3 : typed-lts.Need-field-requires-3 (calls t) (typed-at t) typed.Post
-  field-requires-3 c κs = (inside (of-shaped (c .before)), omega arith)
+  field-requires-3 c κs = tt
 
   leaf-requires : typed-lts.Need-leaf-requires (calls t) (typed-at t) typed.Post
   leaf-requires c κs = let s = of-shaped (c .before .before .before) in let h = positive s in (s .pre .1 .2, omega (arith, s .pre .1 .3))

@@ -261,16 +261,16 @@ module _ (t : ℕ) where
   sub-row c = positive (c .before .before .before .before .before)
 
   field-requires : lts.Need-field-requires (calls t) (form-at t) mark-form.Post
-  field-requires c κs = (inside (c .before .before .before .before .before), omega arith)
+  field-requires c κs = tt
 
   field-requires-2 : lts.Need-field-requires-2 (calls t) (form-at t) mark-form.Post
-  field-requires-2 c κs = (inside (field-start c), omega arith)
+  field-requires-2 c κs = tt
 
   shape-requires : lts.Need-shape-requires (calls t) (form-at t) mark-form.Post
   shape-requires c κs = (low (c .before), omega arith)
 
   field-requires-3 : lts.Need-field-requires-3 (calls t) (form-at t) mark-form.Post
-  field-requires-3 c κs = (inside (shape-start (c .before)), omega arith)
+  field-requires-3 c κs = tt
 
   put-leaf-requires : lts.Need-put-leaf-requires (calls t) (form-at t) mark-form.Post
   put-leaf-requires c κs =

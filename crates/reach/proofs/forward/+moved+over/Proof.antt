@@ -251,16 +251,16 @@ module _ (t : ℕ) where
   moved-sub-row c = positive (able (asked-start (c .before)))
 
   moved-field-requires : moved-lts.Need-field-requires (moved-calls t) (moved-at t) moved.Post
-  moved-field-requires c κs = (inside (asked-start (c .before)), omega arith)
+  moved-field-requires c κs = tt
 
   moved-field-requires-2 : moved-lts.Need-field-requires-2 (moved-calls t) (moved-at t) moved.Post
-  moved-field-requires-2 c κs = (inside (field-start c), omega arith)
+  moved-field-requires-2 c κs = tt
 
   moved-shape-requires : moved-lts.Need-shape-requires (moved-calls t) (moved-at t) moved.Post
   moved-shape-requires c κs = (low (c .before), omega arith)
 
   moved-field-requires-3 : moved-lts.Need-field-requires-3 (moved-calls t) (moved-at t) moved.Post
-  moved-field-requires-3 c κs = (inside (shape-start (c .before)), omega arith)
+  moved-field-requires-3 c κs = tt
 
   moved-leaf-requires : moved-lts.Need-leaf-requires (moved-calls t) (moved-at t) moved.Post
   moved-leaf-requires c κs =

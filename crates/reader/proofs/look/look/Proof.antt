@@ -69,7 +69,7 @@ refused-requires-2 : tie.Need-refused-requires-2 Inv-loop μ-loop
 refused-requires-2 c κs = search needs
 
 returns-2 : tie.Need-returns-2 Inv-loop μ-loop
-returns-2 c = look-bad (line-read (c .before .before .before)) (c .before .if2 .taken) (c .refused2 .ensures)
+returns-2 c = look-bad (line-read (c .before .before .before)) (omega (arith, c .before .if2 .taken)) (c .refused2 .ensures)
 
 array-read-is-full : tie.Need-array-read-is-full Inv-loop μ-loop
 array-read-is-full c = search needs

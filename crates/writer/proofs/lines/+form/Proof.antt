@@ -133,7 +133,7 @@ module _ (t : ℕ) where
   sub-row c = positive (c .before .before)
 
   field-requires : form-lts.Need-field-requires (calls t) (form-at t) form.Post
-  field-requires c κs = (inside (c .before .before), omega arith)
+  field-requires c κs = tt
 
   shape-requires : form-lts.Need-shape-requires (calls t) (form-at t) form.Post
   shape-requires c κs = (low c, omega arith)
