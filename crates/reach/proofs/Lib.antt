@@ -8,3 +8,4 @@ pub mod Members
 pub mod Answers
 pub mod Questions
 pub mod Asking
+pub mod Coverage

@@ -1,0 +1,41 @@
+-- Document 01, "Reach rules", read backward: the ids at which a variable of a form can stand when the form moves. It is what the code covers with sets of
+-- rows; a candidate more than needed does no harm, since each is tested by the forward rule.
+use Prim.Native.Nat.{ℕ, suc}
+use mathlib.Core.Bool.{Bool, false, _&&_, _||_}
+use lib.Dec.{eqb}
+use Rattle.meaning.specs.Lists.{any}
+use Rattle.meaning.specs.Register.{instances, farEnds}
+use Rattle.meaning.specs.Forms.{Sort, collection, Form, compare, negate, connect, quantify, kind, num, cell, size, sum, combine, role, all, select, Rule}
+use Rattle.meaning.specs.Reach.{Change, Direction, down, same, reversed, either, through, leftOf, rightOf, firstTruth, secondTruth, sourceOf, secondTerm, roleMoves, allMoves, cellMoves, kindMoves, broughtIn}
+
+-- With u for variable v, the collection below its selects has a member in the set. Over all objects of a type this does not depend on v and u.
+unfoldable pub leadsInto : Change → Form collection → (ℕ → Bool) → (v u : ℕ) → Bool
+leadsInto c (role w r) set v u = eqb v w && any set (farEnds (c .end) r u)
+leadsInto c (all t) set v u = any set (instances (c .schema .types) (c .end) t)
+leadsInto c (select k b) set v u = leadsInto c k set v u
+
+-- What is reached through the second part of a form over a collection: by a variable around it, or by the new variable n, whose members lead back.
+abbrev pub throughMembers : Change → Form collection → ℕ → (ℕ → ℕ → Bool) → (v u : ℕ) → Bool
+throughMembers c k n body v u = body v u || leadsInto c k (body n) v u
+
+-- u, as variable v of the n in scope, is reached from a movement of the form in a direction.
+unfoldable pub reached : {s : Sort} → Change → Form s → (n v u : ℕ) → Direction → Bool
+reached c (compare o a b) n v u d = through _||_ (leftOf o) (reached c a n v u) d || through _||_ (rightOf o) (reached c b n v u) d
+reached c (negate a) n v u d = through _||_ reversed (reached c a n v u) d
+reached c (connect o a b) n v u d = through _||_ (firstTruth o) (reached c a n v u) d || through _||_ (secondTruth o) (reached c b n v u) d
+reached c (quantify q k b) n v u d =
+    through _||_ (sourceOf q) (reached c k n v u) d || throughMembers c k n (λ w x. reached c b (suc n) w x d) v u
+reached c (kind w t) n v u d = eqb v w && kindMoves c u t d
+reached c (num z) n v u d = false
+reached c (cell w k) n v u d = eqb v w && cellMoves c u k
+reached c (size k) n v u d = through _||_ same (reached c k n v u) d
+reached c (sum k j) n v u d = through _||_ either (reached c k n v u) d || leadsInto c k (λ x. cellMoves c x j) v u
+reached c (combine o a b) n v u d = through _||_ same (reached c a n v u) d || through _||_ (secondTerm o) (reached c b n v u) d
+reached c (role w r) n v u d = eqb v w && roleMoves c r u d
+reached c (all t) n v u d = allMoves c t d
+reached c (select k b) n v u d =
+    through _||_ same (reached c k n v u) d || throughMembers c k n (λ w x. reached c b (suc n) w x d) v u
+
+-- an object at which the forward rule is asked: one that is reached from a fall of the body, or that was brought in
+unfoldable pub candidate : Change → Rule → ℕ → Bool
+candidate c r s = reached c (r .body) 1 0 s down || broughtIn c r s
