@@ -8,7 +8,7 @@ use mathlib.Core.Logic.{_⊎_, inl, inr, ⊎-elim}
 use native.Mathlib.Nat.{eq-or-lt-of-le, le-of-suc-le-suc}
 use native.Mathlib.Omega.{arith}
 use lib.Dec.{T, leb, eqb}
-use lib.ListN.{length, getElem?}
+use lib.ListN.{length, getD, getElem?}
 use borrow.Author.Tests.{ne-eqb, eqb-true, leb-true, leb-false}
 use Rattle.meaning.specs.Limits.{maxObjects}
 use Rattle.meaning.specs.Lists.{any, holds}
@@ -24,7 +24,7 @@ use Rattle.register.proofs.Hits.{hit-some}
 use Rattle.register.proofs.Rows.{guessed-place}
 use Rattle.ocl.specs.Site.{idIn}
 use Rattle.reach.specs.Questions.{Question, answers, asked, answersAt}
-use Rattle.reach.specs.Traces.{itself, namedAt, orPast, rowNamed, placeRow, thereWord, metWord, Traced}
+use Rattle.reach.specs.Traces.{itself, placeAnswers, namedAt, orPast, rowNamed, placeRow, thereWord, metWord, Traced}
 use Rattle.reach.proofs.Questions.{names, step-places}
 
 so-true : (b : Bool) → T b → b ≡ true
@@ -218,3 +218,27 @@ module _ (key : ℕ → ℕ) (places row : ℕ) (silent : ℕ → Bool) where
               let l = lead-some key (key place) places (suc place) (sym q ∙ next-is ∙ own-slot (lead key places (key place) (suc place))) in
               let m = here place e in
               omega (arith, held word (omega arith), held (suc p) (omega arith), l .from, l .within, m .within)
+
+-- ---- sets that hold the row of every place that answers hold every object of which the question is answered
+
+pub covers : {c : Change} {n : Counts} {types objects links events trace : List ℕ} (traced : Traced c n types objects links events trace) (q : Question) (marked : ℕ → Bool)
+    → ((p : ℕ) → p < 2 * n .events → getD trace p 0 < n .objects → placeAnswers (typesOf (n .types) types) q events trace p ≡ true → marked (getD trace p 0) ≡ true)
+    → (row : ℕ)
+    → row < n .objects
+    → asked c q (idIn objects row) ≡ true
+    → marked row ≡ true
+covers {c} {n} {types} {objects} {links} {events} {trace} traced q marked each row there answered = step (marked row) refl
+  where
+    step : (b : Bool) → marked row ≡ b → marked row ≡ true
+    step true e = e
+    step false e = absurd (subst T (sym answered ∙ sym (not-found traced there q silent)) tt)
+      where
+        silent : (p : ℕ) → p < 2 * n .events → placeRow (n .objects) objects events p ≡ row → placeAnswers (typesOf (n .types) types) q events trace p ≡ false
+        silent p h k = at (placeAnswers (typesOf (n .types) types) q events trace p) refl
+          where
+            is : getD trace p 0 ≡ row
+            is = traced .row-is p h ∙ k
+
+            at : (b : Bool) → placeAnswers (typesOf (n .types) types) q events trace p ≡ b → placeAnswers (typesOf (n .types) types) q events trace p ≡ false
+            at true a = absurd (subst T (sym (each p h (subst (λ r. r < n .objects) (sym is) there) a) ∙ ap marked is ∙ e) tt)
+            at false a = a

@@ -9,3 +9,4 @@ pub mod Answers
 pub mod Questions
 pub mod Asking
 pub mod Coverage
+pub mod Sets

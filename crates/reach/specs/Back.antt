@@ -1,8 +1,11 @@
 -- Document 01, "Reach rules", read backward: the ids at which a variable of a form can stand when the form moves. It is what the code covers with sets of
 -- rows; a candidate more than needed does no harm, since each is tested by the forward rule.
 use Prim.Native.Nat.{ℕ, suc}
-use mathlib.Core.Bool.{Bool, false, _&&_, _||_}
+use mathlib.Core.Path.{_≡_}
+use mathlib.Core.Bool.{Bool, true, false, _&&_, _||_}
+use mathlib.Core.List.{List}
 use lib.Dec.{eqb}
+use lib.ListN.{length, getD}
 use Rattle.meaning.specs.Lists.{any}
 use Rattle.meaning.specs.Register.{instances, farEnds}
 use Rattle.meaning.specs.Forms.{Sort, collection, Form, compare, negate, connect, quantify, kind, num, cell, size, sum, combine, role, all, select, Rule}
@@ -39,3 +42,8 @@ reached c (select k b) n v u d =
 -- an object at which the forward rule is asked: one that is reached from a fall of the body, or that was brought in
 unfoldable pub candidate : Change → Rule → ℕ → Bool
 candidate c r s = reached c (r .body) 1 0 s down || broughtIn c r s
+
+-- marks that only grow
+pub record Grown (before after : List Bool) : Type 0 where
+  pub long : length after ≡ length before
+  pub kept : (i : ℕ) → getD before i false ≡ true → getD after i false ≡ true

@@ -8,11 +8,13 @@
 --   1568 to 2592    for each row, and 1024 for none, 1 + its first place; 0 where it has none
 use Prim.Native.Nat.{ℕ, zero, suc, _+_, _*_, _/_, _%_, _≤_, _<_}
 use mathlib.Core.Path.{_≡_}
+use mathlib.Core.Bool.{Bool}
 use mathlib.Core.List.{List, map}
 use mathlib.Core.Option.{Option, none, some}
 use lib.Dec.{eqb}
 use lib.ListN.{getD, getElem?}
 use Rattle.meaning.specs.Limits.{maxTypes, maxObjects, maxEvents}
+use Rattle.meaning.specs.Schema.{ObjectType}
 use Rattle.meaning.specs.Register.{isUnder, hasLink}
 use Rattle.meaning.specs.Events.{Event, insert, delete, set, join, part, special, general, linkOf}
 use Rattle.meaning.specs.Reach.{Step, Change, Direction, allMoves}
@@ -22,7 +24,7 @@ use Rattle.register.specs.Tables.{ObjectsAscend, objectPlace}
 use Rattle.register.specs.Chains.{Chained}
 use Rattle.events.specs.Runs.{objectOf}
 use Rattle.directions.specs.Sets.{has}
-use Rattle.reach.specs.Questions.{metUnder}
+use Rattle.reach.specs.Questions.{Question, metUnder, answersAt}
 
 -- the id that an event names at its first place (0) and at its second
 abbrev pub namedAt : Event → ℕ → Option ℕ
@@ -78,6 +80,10 @@ allSet trace t = getD trace (1536 + t) 0
 
 abbrev pub firstPlace : List ℕ → ℕ → ℕ
 firstPlace trace row = getD trace (1568 + row) 0
+
+-- the event of a place answers a question about the object that the place names, by what is kept
+abbrev pub placeAnswers : List ObjectType → Question → List ℕ → List ℕ → ℕ → Bool
+placeAnswers types q events trace p = answersAt types q (eventRow events (p / 2)) (p % 2) (metWord trace (p / 2)) (eqb (thereWord trace (p / 2)) 1)
 
 -- each place stands at its own number
 abbrev pub itself : ℕ → ℕ

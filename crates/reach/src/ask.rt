@@ -116,7 +116,7 @@ fn type_answers(
 }
 
 // Whether the event of a place answers a question about the object that it names there.
-fn answered(
+pub fn answered(
     type_count: u32,
     types: &[u32],
     events: &[u32],

@@ -1,0 +1,68 @@
+// Going back from the events: sets of rows, one for each variable, that cover every object at which a form may move.
+use crate::ask;
+use tables::Counts;
+ghost use mathlib.Core.Path.{_≡_};
+ghost use mathlib.Core.Bool.{Bool, true, false};
+ghost use Prim.Native.Nat.{ℕ, _+_, _*_, _≤_, _<_};
+ghost use lib.ListN.{length, getD};
+ghost use Rattle.meaning.specs.Reach.{Change};
+ghost use Rattle.tables.specs.Columns.{typesOf};
+ghost use Rattle.ocl.specs.Site.{idIn};
+ghost use Rattle.reach.specs.Questions.{asked, questionOf};
+ghost use Rattle.reach.specs.Traces.{placeAnswers, Traced, Traces};
+ghost use Rattle.reach.specs.Back.{Grown};
+
+// Puts the row that a place names into a variable's set, if the event of the place answers a question.
+fn put_answer(
+    n: Counts,
+    types: &[u32],
+    events: &[u32],
+    trace: &[u16; 2593],
+    place: u32,
+    question: u32,
+    x: u32,
+    v: u32,
+    sets: &mut [bool],
+)
+    requires { ⌜ (place < 512) × (question < 6) × (v < 64) × (n .objects ≤ 1024) × (length (now sets) ≡ 65536) ⌝ }
+    ensures { λ _. ⌜ (Grown (now (sets .entry)) (now (sets .exit)))
+        × (getD (now (trace .entry)) place 0 < n .objects → placeAnswers (typesOf (n .types) (now (types .entry))) (questionOf question x) (now (events .entry)) (now (trace .entry)) place ≡ true
+        → getD (now (sets .exit)) (v * 1024 + getD (now (trace .entry)) place 0) false ≡ true) ⌝ }
+{
+    let at = place as usize;
+    let row = rows::wide(trace[at]);
+    if n.objects <= row {
+        return;
+    }
+    if !ask::answered(n.types, types, events, trace, place, question, x) {
+        return;
+    }
+    let mark = (v * 1024 + row) as usize;
+    sets[mark] = true;
+}
+
+// Puts the rows of the objects for which some event answers a question into a variable's set.
+fn put_answers(
+    n: Counts,
+    types: &[u32],
+    objects: &[u32],
+    links: &[u32],
+    events: &[u32],
+    trace: &[u16; 2593],
+    question: u32,
+    x: u32,
+    v: u32,
+    sets: &mut [bool],
+)
+    requires { ⌜ (Traces n (now types) (now objects) (now links) (now events) (now trace)) × (question < 6) × (v < 64) × (length (now sets) ≡ 65536) ⌝ }
+    ensures { λ _. ⌜ (Grown (now (sets .entry)) (now (sets .exit)))
+        × ((c : Change) → Traced c n (now (types .entry)) (now (objects .entry)) (now (links .entry)) (now (events .entry)) (now (trace .entry))
+        → (row : ℕ) → row < n .objects → asked c (questionOf question x) (idIn (now (objects .entry)) row) ≡ true
+        → getD (now (sets .exit)) (v * 1024 + row) false ≡ true) ⌝ }
+{
+    let mut place: u32 = 0;
+    while place < 2 * n.events {
+        put_answer(n, types, events, trace, place, question, x, v, sets);
+        place += 1;
+    }
+}
