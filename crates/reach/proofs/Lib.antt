@@ -10,3 +10,4 @@ pub mod Questions
 pub mod Asking
 pub mod Coverage
 pub mod Sets
+pub mod Turned

@@ -1,12 +1,13 @@
 -- Document 01, "Reach rules", read backward: the ids at which a variable of a form can stand when the form moves. It is what the code covers with sets of
 -- rows; a candidate more than needed does no harm, since each is tested by the forward rule.
-use Prim.Native.Nat.{ℕ, suc}
+use Prim.Native.Nat.{ℕ, suc, _+_, _-_}
 use mathlib.Core.Path.{_≡_}
-use mathlib.Core.Bool.{Bool, true, false, _&&_, _||_}
+use mathlib.Core.Bool.{Bool, true, false, _&&_, _||_, cond}
 use mathlib.Core.List.{List}
 use lib.Dec.{eqb}
 use lib.ListN.{length, getD}
 use Rattle.meaning.specs.Lists.{any}
+use Rattle.meaning.specs.Schema.{forward}
 use Rattle.meaning.specs.Register.{instances, farEnds}
 use Rattle.meaning.specs.Forms.{Sort, collection, Form, compare, negate, connect, quantify, kind, num, cell, size, sum, combine, role, all, select, Rule}
 use Rattle.meaning.specs.Reach.{Change, Direction, down, same, reversed, either, through, leftOf, rightOf, firstTruth, secondTruth, sourceOf, secondTerm, roleMoves, allMoves, cellMoves, kindMoves, broughtIn}
@@ -47,3 +48,7 @@ candidate c r s = reached c (r .body) 1 0 s down || broughtIn c r s
 pub record Grown (before after : List Bool) : Type 0 where
   pub long : length after ≡ length before
   pub kept : (i : ℕ) → getD before i false ≡ true → getD after i false ≡ true
+
+-- "Role 2r goes from source to target of relationship r, role 2r + 1 back": the role turned round
+abbrev pub turned : ℕ → ℕ
+turned r = cond (forward r) (r + 1) (r - 1)
