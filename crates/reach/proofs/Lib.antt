@@ -11,3 +11,4 @@ pub mod Asking
 pub mod Coverage
 pub mod Sets
 pub mod Turned
+pub mod Fars
