@@ -19,11 +19,11 @@ use Rattle.ocl.specs.Walks.{leftIn, StandsIn, Went}
 use Rattle.ocl.specs.declared.Step.the-variants.{At, Done}
 use Rattle.ocl.proofs.Walks.{role-begun, role-walked, word-low}
 
-module _ (w : Site) (x : Indexed (w .counts .objects) (w .objects) (w .counts .links) (w .links) (w .index)) (r row : ℕ) (h : row < w .counts .objects) (up : Ascending _<_ (farEnds (registerAt w) r (idIn (w .objects) row))) where
+module _ (w : Site) (r row : ℕ) where
   abbrev vars : List ℕ
   vars = row ∷ []
 
-  abbrev left : ℕ → List ℕ
+  abbrev pub left : ℕ → List ℕ
   left word = leftIn w (role 0 r) (idsOf w 1 vars) word
 
   -- The walk may hold the word, and each far row is marked or still to come.
@@ -31,10 +31,17 @@ module _ (w : Site) (x : Indexed (w .counts .objects) (w .objects) (w .counts .l
     pub stands : StandsIn w (role 0 r) vars word
     pub rest : (y : ℕ) → y < w .counts .objects → idIn (w .objects) y ∈ farEnds (registerAt w) r (idIn (w .objects) row) → (idIn (w .objects) y ∈ left word) ⊎ (marked y ≡ true)
 
-  pub far-starts : (marked : ℕ → Bool) {word : ℕ} → word ≡ getD (w .index) (16384 + (r * 1024 + row)) 0 → FarWalk marked word
+module _ (w : Site) (x : Indexed (w .counts .objects) (w .objects) (w .counts .links) (w .links) (w .index)) (r row : ℕ) (h : row < w .counts .objects) (up : Ascending _<_ (farEnds (registerAt w) r (idIn (w .objects) row))) where
+  abbrev from : List ℕ
+  from = row ∷ []
+
+  abbrev to-come : ℕ → List ℕ
+  to-come = left w r row
+
+  pub far-starts : (marked : ℕ → Bool) {word : ℕ} → word ≡ getD (w .index) (16384 + (r * 1024 + row)) 0 → FarWalk w r row marked word
   unfolding meaning
   far-starts marked q =
-      let begun = role-begun w x 0 r vars 1 h refl up q in
+      let begun = role-begun w x 0 r from 1 h refl up q in
       record { stands = begun .stands; rest = λ y l m. inl (subst (λ k. idIn (w .objects) y ∈ k) (sym (begun .all-left)) m) }
 
   -- two rows of one id are one
@@ -42,30 +49,30 @@ module _ (w : Site) (x : Indexed (w .counts .objects) (w .objects) (w .counts .l
   same-row a b l m e =
       Option·some-injective a b (sym (own-place (w .counts .objects) (w .objects) (x .objects-ascend) a l) ∙ ap (objectPlace (w .counts .objects) (w .objects)) e ∙ own-place (w .counts .objects) (w .objects) (x .objects-ascend) b m)
 
-  module _ {marked : ℕ → Bool} {word : ℕ} (walk : FarWalk marked word) where
+  module _ {marked : ℕ → Bool} {word : ℕ} (walk : FarWalk w r row marked word) where
     pub far-low : word ≤ 8192
-    far-low = word-low w x 0 r vars 1 h refl up word (walk .stands)
+    far-low = word-low w x 0 r from 1 h refl up word (walk .stands)
 
     pub far-ends : word ≡ 0 → (y : ℕ) → y < w .counts .objects → idIn (w .objects) y ∈ farEnds (registerAt w) r (idIn (w .objects) row) → marked y ≡ true
     far-ends e y l m =
-        let done = role-walked w x 0 r vars 1 h refl up 0 (subst (StandsIn w (role 0 r) vars) e (walk .stands)) .done refl in
-        ⊎-elim (λ (k : idIn (w .objects) y ∈ left word). absurd (List·Memᴰ·not-nil (subst (λ z. idIn (w .objects) y ∈ z) (ap left e ∙ done) k))) (λ k. k) (walk .rest y l m)
+        let done = role-walked w x 0 r from 1 h refl up 0 (subst (StandsIn w (role 0 r) from) e (walk .stands)) .done refl in
+        ⊎-elim (λ (k : idIn (w .objects) y ∈ to-come word). absurd (List·Memᴰ·not-nil (subst (λ z. idIn (w .objects) y ∈ z) (ap to-come e ∙ done) k))) (λ k. k) (walk .rest y l m)
 
     module _ (slot : ℕ) (e : suc slot ≡ word) where
-      pub went : Went (w .objects) (w .counts .objects) left (StandsIn w (role 0 r) vars) (suc slot) (getD (w .index) slot 0) (getD (w .index) (8192 + slot) 0)
-      went = role-walked w x 0 r vars 1 h refl up (suc slot) (subst (StandsIn w (role 0 r) vars) (sym e) (walk .stands)) .went (getD (w .index) slot 0) (getD (w .index) (8192 + slot) 0) refl
+      pub went : Went (w .objects) (w .counts .objects) to-come (StandsIn w (role 0 r) from) (suc slot) (getD (w .index) slot 0) (getD (w .index) (8192 + slot) 0)
+      went = role-walked w x 0 r from 1 h refl up (suc slot) (subst (StandsIn w (role 0 r) from) (sym e) (walk .stands)) .went (getD (w .index) slot 0) (getD (w .index) (8192 + slot) 0) refl
 
-      pub far-goes-on : (after : ℕ → Bool) {far next : ℕ} → far ≡ getD (w .index) slot 0 → next ≡ getD (w .index) (8192 + slot) 0 → ((y : ℕ) → marked y ≡ true → after y ≡ true) → after far ≡ true → FarWalk after next
+      pub far-goes-on : (after : ℕ → Bool) {far next : ℕ} → far ≡ getD (w .index) slot 0 → next ≡ getD (w .index) (8192 + slot) 0 → ((y : ℕ) → marked y ≡ true → after y ≡ true) → after far ≡ true → FarWalk w r row after next
       far-goes-on after {far} {next} f q kept own =
           record {
-            stands = subst (StandsIn w (role 0 r) vars) (sym q) (went .stands);
+            stands = subst (StandsIn w (role 0 r) from) (sym q) (went .stands);
             rest = λ y l m.
                 ⊎-elim
-                (λ (k : idIn (w .objects) y ∈ left word).
+                (λ (k : idIn (w .objects) y ∈ to-come word).
                 ⊎-elim
                 (λ (z : idIn (w .objects) y ≡ idIn (w .objects) (getD (w .index) slot 0)). inr (ap after (same-row y (getD (w .index) slot 0) l (went .there) z ∙ sym f) ∙ own))
-                (λ (z : idIn (w .objects) y ∈ left (getD (w .index) (8192 + slot) 0)). inl (subst (λ n. idIn (w .objects) y ∈ left n) (sym q) z))
-                (List·Memᴰ·cases-cons (subst (λ t. idIn (w .objects) y ∈ t) (ap left (sym e) ∙ went .member) k)))
+                (λ (z : idIn (w .objects) y ∈ to-come (getD (w .index) (8192 + slot) 0)). inl (subst (λ n. idIn (w .objects) y ∈ to-come n) (sym q) z))
+                (List·Memᴰ·cases-cons (subst (λ t. idIn (w .objects) y ∈ t) (ap to-come (sym e) ∙ went .member) k)))
                 (λ k. inr (kept y k))
                 (walk .rest y l m);
           }

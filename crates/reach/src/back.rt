@@ -1,16 +1,33 @@
 // Going back from the events: sets of rows, one for each variable, that cover every object at which a form may move.
 use crate::ask;
+use register::slots;
 use tables::Counts;
 ghost use mathlib.Core.Path.{_≡_};
 ghost use mathlib.Core.Bool.{Bool, true, false};
 ghost use Prim.Native.Nat.{ℕ, _+_, _*_, _≤_, _<_};
 ghost use lib.ListN.{length, getD};
+ghost use Rattle.meaning.specs.Lists.{_∈_};
+ghost use Rattle.meaning.specs.Register.{farEnds};
 ghost use Rattle.meaning.specs.Reach.{Change};
-ghost use Rattle.tables.specs.Columns.{typesOf};
+ghost use Rattle.tables.specs.Columns.{typesOf, registerOf};
+ghost use Rattle.register.specs.Slots.{Indexed};
+ghost use Rattle.ocl.specs.Ready.{Steady};
 ghost use Rattle.ocl.specs.Site.{idIn};
 ghost use Rattle.reach.specs.Questions.{asked, questionOf};
 ghost use Rattle.reach.specs.Traces.{placeAnswers, Traced, Traces};
 ghost use Rattle.reach.specs.Back.{Grown};
+
+// Puts an object's row into a variable's set. What is past the objects is no row of one.
+fn mark(n: Counts, v: u32, row: u32, sets: &mut [bool])
+    requires { ⌜ (v < 64) × (n .objects ≤ 1024) × (length (now sets) ≡ 65536) ⌝ }
+    ensures { λ _. ⌜ (Grown (now (sets .entry)) (now (sets .exit))) × (row < n .objects → getD (now (sets .exit)) (v * 1024 + row) false ≡ true) ⌝ }
+{
+    if n.objects <= row {
+        return;
+    }
+    let at = (v * 1024 + row) as usize;
+    sets[at] = true;
+}
 
 // Puts the row that a place names into a variable's set, if the event of the place answers a question.
 fn put_answer(
@@ -64,5 +81,32 @@ fn put_answers(
     while place < 2 * n.events {
         put_answer(n, types, events, trace, place, question, x, v, sets);
         place += 1;
+    }
+}
+
+// Puts the rows at the far end of a role from an object's row into a variable's set.
+fn put_far(
+    n: Counts,
+    objects: &[u32],
+    links: &[u32],
+    index: &[u16; 81920],
+    role: u32,
+    row: u32,
+    v: u32,
+    sets: &mut [bool],
+)
+    requires { ⌜ (Indexed (n .objects) (now objects) (n .links) (now links) (now index))
+        × (Steady (registerOf (n .objects) (now objects) (n .links) (now links)))
+        × (role < 64) × (row < n .objects) × (v < 64) × (length (now sets) ≡ 65536) ⌝ }
+    ensures { λ _. ⌜ (Grown (now (sets .entry)) (now (sets .exit)))
+        × ((y : ℕ) → y < n .objects
+        → idIn (now (objects .entry)) y ∈ farEnds (registerOf (n .objects) (now (objects .entry)) (n .links) (now (links .entry))) role (idIn (now (objects .entry)) row)
+        → getD (now (sets .exit)) (v * 1024 + y) false ≡ true) ⌝ }
+{
+    let mut word = slots::first_slot(index, role, row);
+    while word != 0 {
+        let slot = word - 1;
+        mark(n, v, slots::far_row(index, slot), sets);
+        word = slots::next_slot(index, slot);
     }
 }
