@@ -12,3 +12,4 @@ pub mod Coverage
 pub mod Sets
 pub mod Turned
 pub mod Fars
+pub mod Bases

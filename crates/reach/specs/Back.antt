@@ -1,6 +1,6 @@
 -- Document 01, "Reach rules", read backward: the ids at which a variable of a form can stand when the form moves. It is what the code covers with sets of
 -- rows; a candidate more than needed does no harm, since each is tested by the forward rule.
-use Prim.Native.Nat.{ℕ, suc, _+_, _-_}
+use Prim.Native.Nat.{ℕ, suc, _+_, _-_, _<_}
 use mathlib.Core.Path.{_≡_}
 use mathlib.Core.Bool.{Bool, true, false, _&&_, _||_, cond}
 use mathlib.Core.List.{List}
@@ -10,6 +10,7 @@ use Rattle.meaning.specs.Lists.{any}
 use Rattle.meaning.specs.Schema.{forward}
 use Rattle.meaning.specs.Register.{instances, farEnds}
 use Rattle.meaning.specs.Forms.{Sort, collection, Form, compare, negate, connect, quantify, kind, num, cell, size, sum, combine, role, all, select, Rule}
+use Rattle.tables.specs.Bodies.{BodyRow, asCollection, ending}
 use Rattle.meaning.specs.Reach.{Change, Direction, down, same, reversed, either, through, leftOf, rightOf, firstTruth, secondTruth, sourceOf, secondTerm, roleMoves, allMoves, cellMoves, kindMoves, broughtIn}
 
 -- With u for variable v, the collection below its selects has a member in the set. Over all objects of a type this does not depend on v and u.
@@ -52,3 +53,15 @@ pub record Grown (before after : List Bool) : Type 0 where
 -- "Role 2r goes from source to target of relationship r, role 2r + 1 back": the role turned round
 abbrev pub turned : ℕ → ℕ
 turned r = cond (forward r) (r + 1) (r - 1)
+
+-- the collection below the selects of a collection
+unfoldable pub baseOf : Form collection → Form collection
+baseOf (role v r) = role v r
+baseOf (all t) = all t
+baseOf (select k b) = baseOf k
+
+-- the row of the collection below the selects of the one that ends before row e
+pub record BaseRow (rows : ℕ → BodyRow) (e row : ℕ) : Type 0 where
+  pub below : row < e
+  pub when-all : (rows row) .code ≡ 21 → baseOf (asCollection ((ending rows e) .form)) ≡ all ((rows row) .x)
+  pub when-role : ((rows row) .code ≡ 21 → ⊥) → baseOf (asCollection ((ending rows e) .form)) ≡ role ((rows row) .x) ((rows row) .y)

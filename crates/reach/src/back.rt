@@ -1,21 +1,30 @@
 // Going back from the events: sets of rows, one for each variable, that cover every object at which a form may move.
 use crate::ask;
+use book::body::field;
+use ocl::Place;
 use register::slots;
 use tables::Counts;
 ghost use mathlib.Core.Path.{_≡_};
 ghost use mathlib.Core.Bool.{Bool, true, false};
 ghost use Prim.Native.Nat.{ℕ, _+_, _*_, _≤_, _<_};
+ghost use lib.Dec.{T};
 ghost use lib.ListN.{length, getD};
 ghost use Rattle.meaning.specs.Lists.{_∈_};
 ghost use Rattle.meaning.specs.Register.{farEnds};
+ghost use Rattle.meaning.specs.Forms.{collection};
 ghost use Rattle.meaning.specs.Reach.{Change};
 ghost use Rattle.tables.specs.Columns.{typesOf, registerOf};
+ghost use Rattle.tables.specs.Bodies.{reads, ending};
+ghost use Rattle.book.specs.Marks.{bodyOf, Starts};
 ghost use Rattle.register.specs.Slots.{Indexed};
 ghost use Rattle.ocl.specs.Ready.{Steady};
 ghost use Rattle.ocl.specs.Site.{idIn};
 ghost use Rattle.reach.specs.Questions.{asked, questionOf};
 ghost use Rattle.reach.specs.Traces.{placeAnswers, Traced, Traces};
-ghost use Rattle.reach.specs.Back.{Grown};
+ghost use Rattle.reach.specs.Back.{Grown, BaseRow};
+
+// The code of a select's row.
+const SELECT: u32 = 22;
 
 // Puts an object's row into a variable's set. What is past the objects is no row of one.
 fn mark(n: Counts, v: u32, row: u32, sets: &mut [bool])
@@ -109,4 +118,18 @@ fn put_far(
         mark(n, v, slots::far_row(index, slot), sets);
         word = slots::next_slot(index, slot);
     }
+}
+
+// The row of the collection below the selects of a collection.
+fn base_row(bodies: &[u32], spans: &[u32; 65], of: Place) -> u32
+    requires { ⌜ (Starts (bodyOf (now bodies) (of .0)) (now spans) (of .1)) × T (reads collection (ending (bodyOf (now bodies) (of .0)) (of .1))) ⌝ }
+    ensures { λ r. ⌜ BaseRow (bodyOf (now (bodies .entry)) (of .0)) (of .1) r ⌝ }
+{
+    let rule = of.0;
+    let mut row = of.1 - 1;
+    while field(bodies, rule, row, 0) == SELECT {
+        let at = row as usize;
+        row = spans[at] - 1;
+    }
+    row
 }
