@@ -21,7 +21,7 @@ ghost use Rattle.ocl.specs.Ready.{Steady};
 ghost use Rattle.ocl.specs.Site.{idIn};
 ghost use Rattle.reach.specs.Questions.{asked, questionOf};
 ghost use Rattle.reach.specs.Traces.{placeAnswers, Traced, Traces};
-ghost use Rattle.reach.specs.Back.{Grown, BaseRow};
+ghost use Rattle.reach.specs.Back.{Grown, turned, BaseRow};
 
 // The code of a select's row.
 const SELECT: u32 = 22;
@@ -132,4 +132,39 @@ fn base_row(bodies: &[u32], spans: &[u32; 65], of: Place) -> u32
         row = spans[at] - 1;
     }
     row
+}
+
+// The role turned round.
+fn turned(role: u32) -> u32
+    requires { ⌜ role < 64 ⌝ }
+    ensures { λ r. ⌜ (r ≡ turned role) × (r < 64) ⌝ }
+{
+    if role % 2 == 0 { role + 1 } else { role - 1 }
+}
+
+// Puts the rows at the far end of a role from a row into a variable's set, if the row is in another one's set.
+fn put_row(
+    n: Counts,
+    objects: &[u32],
+    links: &[u32],
+    index: &[u16; 81920],
+    role: u32,
+    from: u32,
+    row: u32,
+    v: u32,
+    sets: &mut [bool],
+)
+    requires { ⌜ (Indexed (n .objects) (now objects) (n .links) (now links) (now index))
+        × (Steady (registerOf (n .objects) (now objects) (n .links) (now links)))
+        × (role < 64) × (row < n .objects) × (v < 64) × (length (now sets) ≡ 65536) × (from < 64) ⌝ }
+    ensures { λ _. ⌜ (Grown (now (sets .entry)) (now (sets .exit)))
+        × (getD (now (sets .entry)) (from * 1024 + row) false ≡ true → (y : ℕ) → y < n .objects
+        → idIn (now (objects .entry)) y ∈ farEnds (registerOf (n .objects) (now (objects .entry)) (n .links) (now (links .entry))) role (idIn (now (objects .entry)) row)
+        → getD (now (sets .exit)) (v * 1024 + y) false ≡ true) ⌝ }
+{
+    let at = (from * 1024 + row) as usize;
+    if !sets[at] {
+        return;
+    }
+    put_far(n, objects, links, index, role, row, v, sets);
 }
