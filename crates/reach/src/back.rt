@@ -168,3 +168,29 @@ fn put_row(
     }
     put_far(n, objects, links, index, role, row, v, sets);
 }
+
+// Puts the rows at the far end of a role from each row of a set into a variable's set.
+fn put_back(
+    n: Counts,
+    objects: &[u32],
+    links: &[u32],
+    index: &[u16; 81920],
+    role: u32,
+    from: u32,
+    v: u32,
+    sets: &mut [bool],
+)
+    requires { ⌜ (Indexed (n .objects) (now objects) (n .links) (now links) (now index))
+        × (Steady (registerOf (n .objects) (now objects) (n .links) (now links)))
+        × (role < 64) × (v < 64) × (length (now sets) ≡ 65536) × (from < 64) ⌝ }
+    ensures { λ _. ⌜ (Grown (now (sets .entry)) (now (sets .exit)))
+        × ((x : ℕ) → x < n .objects → getD (now (sets .entry)) (from * 1024 + x) false ≡ true → (y : ℕ) → y < n .objects
+        → idIn (now (objects .entry)) y ∈ farEnds (registerOf (n .objects) (now (objects .entry)) (n .links) (now (links .entry))) role (idIn (now (objects .entry)) x)
+        → getD (now (sets .exit)) (v * 1024 + y) false ≡ true) ⌝ }
+{
+    let mut row: u32 = 0;
+    while row < n.objects {
+        put_row(n, objects, links, index, role, from, row, v, sets);
+        row += 1;
+    }
+}
