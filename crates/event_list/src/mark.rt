@@ -62,7 +62,7 @@ pub fn put(listed: bool, kind: u32, number: u32, cell: u32, marks: &mut [bool])
 }
 
 // Whether both hold.
-fn both(a: bool, b: bool) -> bool
+pub fn both(a: bool, b: bool) -> bool
     ensures { λ r. ⌜ r ≡ (a && b) ⌝ }
 {
     if a { b } else { false }
