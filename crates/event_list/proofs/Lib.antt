@@ -2,6 +2,8 @@
 --   Marks      marks added to marks
 --   Nodes      what a form lists, by its row and its parts
 --   Unlinked   when a form is quiet, by its row and its parts
+--   Rules      what a rule lists
 pub mod Marks
 pub mod Nodes
 pub mod Unlinked
+pub mod Rules

@@ -2,3 +2,4 @@
 mod body;
 mod mark;
 mod quiet;
+mod rule;
