@@ -10,8 +10,9 @@ use Rattle.meaning.specs.Lists.{any, before, sameList, putInOrder}
 use Rattle.meaning.specs.Schema.{Schema}
 use Rattle.meaning.specs.Forms.{Sort, truth, Form, Rule}
 use Rattle.meaning.specs.Reach.{Direction, up, down, quiet}
-use Rattle.meaning.specs.EventList.{EventType, insertOf, deleteOf, setOf, joinOf, partOf, specialOf, generalOf, eventTypeWords, whereParent, allLists, kindLists, lists, contextLists, eventList}
+use Rattle.meaning.specs.EventList.{insertOf, specialOf, eventTypeWords, whereParent, allLists, kindLists, lists, contextLists, eventList}
 use Rattle.meaning.proofs.Order.{before-total}
+use Rattle.meaning.proofs.Touched.{three-words}
 use Rattle.tables.specs.Bodies.{Part, part, asTruth, sameSort, sortOf, readBody, wholeBody, ending, BodyRow}
 use Rattle.tables.specs.Columns.{ruleRow}
 use Rattle.tables.proofs.Readings.{is-truth}
@@ -47,16 +48,6 @@ module _ {A : Type 0} (key : A → List ℕ) (width : ℕ) (one-width : (x : A) 
   any-placed : (l : List A) → some (foldr (putInOrder key) [] l) ≡ some l
   any-placed [] = refl
   any-placed (x ∷ xs) = any-put x (foldr (putInOrder key) [] xs) ∙ ap (λ b. test (key x) || b) (any-placed xs)
-
-three-words : (e : EventType) → length (eventTypeWords e) ≡ 3
-unfolding eventTypeWords
-three-words (insertOf t) = refl
-three-words (deleteOf t) = refl
-three-words (setOf t k) = refl
-three-words (joinOf r) = refl
-three-words (partOf r) = refl
-three-words (specialOf t) = refl
-three-words (generalOf t) = refl
 
 -- ---- the parts of the list
 
