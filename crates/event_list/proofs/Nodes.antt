@@ -30,7 +30,7 @@ module _ (place : ℕ) where
   abbrev hit : EventType → Bool
   hit e = sameList (eventTypeWords e) (wordsAt place)
 
-  marked-append : (xs ys : List EventType) → marked (xs ++ ys) place ≡ (marked xs place || marked ys place)
+  pub marked-append : (xs ys : List EventType) → marked (xs ++ ys) place ≡ (marked xs place || marked ys place)
   marked-append [] ys = refl
   marked-append (x ∷ xs) ys = ap (λ b. hit x || b) (marked-append xs ys) ∙ sym (or-assoc (hit x) (marked xs place) (marked ys place))
 

@@ -62,7 +62,7 @@ pub fn put(listed: bool, kind: u32, number: u32, cell: u32, marks: &mut [bool])
 }
 
 // Whether both hold.
-fn both(a: bool, b: bool) -> bool
+pub fn both(a: bool, b: bool) -> bool
     ensures { λ r. ⌜ r ≡ (a && b) ⌝ }
 {
     if a { b } else { false }
@@ -88,7 +88,14 @@ fn put_type(
 }
 
 // Marks what moves all objects of a type or, of one object, only its kind.
-fn put_members(type_count: u32, types: &[u32], whole: bool, t: u32, set: u32, marks: &mut [bool])
+pub fn put_members(
+    type_count: u32,
+    types: &[u32],
+    whole: bool,
+    t: u32,
+    set: u32,
+    marks: &mut [bool],
+)
     requires { ⌜ length (now marks) ≡ places ⌝ }
     ensures { λ _. ⌜ ((rs : List Relationship) → Added (now (marks .entry)) (now (marks .exit))
         (markedBy set (typeLists (record { types = typesOf «type_count» (now (types .entry)); relationships = rs }) whole t))) ⌝ }
