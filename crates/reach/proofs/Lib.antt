@@ -1,6 +1,8 @@
 -- Laws of the reach rules as the code asks them.
 --   Nodes       whether a form moves, by its row and its parts
 --   Abilities   the parts of a form are able where the form is
+--   Placing     the places of a batch in the trace that is made
+--   Naming      the ids that an event names, by its words
 pub mod Abilities
 pub mod Nodes
 pub mod Leaves
@@ -8,3 +10,5 @@ pub mod Members
 pub mod Answers
 pub mod Questions
 pub mod Asking
+pub mod Placing
+pub mod Naming

@@ -1,0 +1,22 @@
+-- How the trace of a batch is made: its places from the last to the first, each at the head of the chain of its row.
+use Prim.Native.Nat.{ℕ, suc, _+_, _*_, _≤_, _<_}
+use mathlib.Core.Path.{_≡_}
+use mathlib.Core.List.{List}
+use lib.ListN.{getD, set}
+use Rattle.register.specs.Chains.{Chained}
+use Rattle.reach.specs.Traces.{placeRow, nextPlace, firstPlace, itself}
+
+-- the table with a place, that names the row, at the head of the row's chain; what was the head is next
+abbrev pub placed : List ℕ → ℕ → ℕ → List ℕ
+placed trace p row = set (set (set trace p row) (512 + p) (firstPlace trace row)) (1568 + row) (suc p)
+
+-- both places of event i, the second before the first
+abbrev pub placedEvent : ℕ → List ℕ → List ℕ → ℕ → List ℕ → List ℕ
+placedEvent m objects events i trace =
+    placed (placed trace (2 * i + 1) (placeRow m objects events (2 * i + 1))) (2 * i) (placeRow m objects events (2 * i))
+
+-- The places of a batch from i on have their rows and chains; the columns between are those of another table.
+pub record Placed (m : ℕ) (objects events : List ℕ) (places : ℕ) (before trace : List ℕ) (i : ℕ) : Type 0 where
+  pub row-is : (p : ℕ) → i ≤ p → p < places → getD trace p 0 ≡ placeRow m objects events p
+  pub chained : Chained itself (placeRow m objects events) places (nextPlace trace) (firstPlace trace) i
+  pub kept : (k : ℕ) → 1024 ≤ k → k < 1568 → getD trace k 0 ≡ getD before k 0
