@@ -3,6 +3,7 @@
 --   Abilities   the parts of a form are able where the form is
 --   Placing     the places of a batch in the trace that is made
 --   Naming      the ids that an event names, by its words
+--   Keeping     what is kept of each event
 pub mod Abilities
 pub mod Nodes
 pub mod Leaves
@@ -12,3 +13,4 @@ pub mod Questions
 pub mod Asking
 pub mod Placing
 pub mod Naming
+pub mod Keeping

@@ -2,9 +2,14 @@
 use Prim.Native.Nat.{ℕ, suc, _+_, _*_, _≤_, _<_}
 use mathlib.Core.Path.{_≡_}
 use mathlib.Core.List.{List}
+use lib.Dec.{eqb}
 use lib.ListN.{getD, set}
+use Rattle.meaning.specs.Register.{Object, hasLink}
+use Rattle.meaning.specs.Events.{join, linkOf}
+use Rattle.tables.specs.Columns.{eventRow}
+use Rattle.register.specs.Tables.{linksWith}
 use Rattle.register.specs.Chains.{Chained}
-use Rattle.reach.specs.Traces.{placeRow, nextPlace, firstPlace, itself}
+use Rattle.reach.specs.Traces.{placeRow, nextPlace, firstPlace, thereWord, metWord, itself}
 
 -- the table with a place, that names the row, at the head of the row's chain; what was the head is next
 abbrev pub placed : List ℕ → ℕ → ℕ → List ℕ
@@ -20,3 +25,16 @@ pub record Placed (m : ℕ) (objects events : List ℕ) (places : ℕ) (before t
   pub row-is : (p : ℕ) → i ≤ p → p < places → getD trace p 0 ≡ placeRow m objects events p
   pub chained : Chained itself (placeRow m objects events) places (nextPlace trace) (firstPlace trace) i
   pub kept : (k : ℕ) → 1024 ≤ k → k < 1568 → getD trace k 0 ≡ getD before k 0
+
+-- ---- what is kept of each event
+
+-- the table with, of event i, whether the link that it joins is there at the end, and the type that it met
+abbrev pub keptEvent : List ℕ → ℕ → ℕ → ℕ → List ℕ
+keptEvent trace i there met = set (set trace (1024 + i) there) (1280 + i) met
+
+-- that is kept of the events below i; the other columns are those of another table
+pub record Kept (m : ℕ) (links events met : List ℕ) (before trace : List ℕ) (i : ℕ) : Type 0 where
+  pub there-is : (j : ℕ) → j < i → (os : List Object) (r a b : ℕ) → eventRow events j ≡ join r a b → eqb (thereWord trace j) 1 ≡ hasLink (linksWith os m links) (linkOf r a b)
+  pub met-is : (j : ℕ) → j < i → metWord trace j ≡ getD met j 0
+  pub below : (k : ℕ) → k < 1024 → getD trace k 0 ≡ getD before k 0
+  pub above : (k : ℕ) → 1536 ≤ k → getD trace k 0 ≡ getD before k 0
