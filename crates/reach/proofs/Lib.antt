@@ -4,6 +4,7 @@
 --   Placing     the places of a batch in the trace that is made
 --   Naming      the ids that an event names, by its words
 --   Keeping     what is kept of each event
+--   Coming      the types that an event's object comes into or goes out of, by its words
 pub mod Abilities
 pub mod Nodes
 pub mod Leaves
@@ -14,3 +15,4 @@ pub mod Asking
 pub mod Placing
 pub mod Naming
 pub mod Keeping
+pub mod Coming

@@ -3,3 +3,4 @@ pub mod ask;
 pub mod forward;
 mod keep;
 mod places;
+mod types;
