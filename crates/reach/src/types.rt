@@ -5,7 +5,7 @@ ghost use mathlib.Core.Bool.{Bool, _&&_};
 ghost use mathlib.Core.List.{List};
 ghost use Prim.Native.Nat.{ℕ};
 ghost use Rattle.meaning.specs.Register.{Link, isUnder};
-ghost use Rattle.tables.specs.Columns.{typesOf, eventOf};
+ghost use Rattle.tables.specs.Columns.{typesOf, eventOf, eventRow};
 ghost use Rattle.register.specs.Tables.{ObjectsAscend, objectsWith};
 ghost use Rattle.reach.specs.Questions.{metUnder};
 ghost use Rattle.reach.specs.Making.{comesInto, goesFrom, deleteWords};
@@ -105,4 +105,39 @@ fn goes(type_count: u32, types: &[u32], kind: u32, y: u32, z: u32, met: u32, t: 
         return false;
     }
     !schema::under(type_count, types, y, t)
+}
+
+// Whether an event brings an object that is under t at the end into t.
+fn gains(
+    type_count: u32,
+    types: &[u32],
+    object_count: u32,
+    objects: &[u32],
+    events: &[u32],
+    i: u32,
+    met: u32,
+    t: u32,
+) -> bool
+    requires { ⌜ ObjectsAscend «object_count» (now objects) ⌝ }
+    ensures { λ r. ⌜ ((ls : List Link) → r ≡ comesInto (typesOf «type_count» (now (types .entry))) (eventRow (now (events .entry)) i) met t
+        (λ x. isUnder (typesOf «type_count» (now (types .entry))) (objectsWith «object_count» (now (objects .entry)) ls) x t)) ⌝ }
+{
+    let kind = rows::word(events, 4, i, 0);
+    let x = rows::word(events, 4, i, 1);
+    let y = rows::word(events, 4, i, 2);
+    let z = rows::word(events, 4, i, 3);
+    if comes(type_count, types, kind, y, z, met, t) {
+        return is_under(type_count, types, object_count, objects, x, t);
+    }
+    false
+}
+
+// Whether an event takes an object out of t.
+fn loses(type_count: u32, types: &[u32], events: &[u32], i: u32, met: u32, t: u32) -> bool
+    ensures { λ r. ⌜ r ≡ goesFrom (typesOf «type_count» (now (types .entry))) (eventRow (now (events .entry)) i) met t ⌝ }
+{
+    let kind = rows::word(events, 4, i, 0);
+    let y = rows::word(events, 4, i, 2);
+    let z = rows::word(events, 4, i, 3);
+    goes(type_count, types, kind, y, z, met, t)
 }
