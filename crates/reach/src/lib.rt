@@ -2,3 +2,6 @@
 pub mod ask;
 mod back;
 pub mod forward;
+mod keep;
+mod places;
+mod types;
