@@ -131,30 +131,44 @@ fn read(text: &str, refused: u32) -> usize {
     bytes
 }
 
-const ENTRIES: [&str; 3] = ["checker_check", "checker_full_check", "checker_read"];
+// A batch of 256 sets on the park's objects, run on a copy of its tables.
+fn run(p: &Park) -> usize {
+    let t = tables(p);
+    let cells = |row: usize| t.types[t.objects[row * 10 + 1] as usize * 2 + 1];
+    let rows: Vec<usize> = (0..t.objects.len() / 10).filter(|&row| cells(row) > 0).take(256).collect();
+    let events: Vec<u32> = rows.iter().flat_map(|&row| [2, t.objects[row * 10], 0, 1]).collect();
+    let mut scratch = (vec![0; t.objects.len()], vec![0; t.links.len()]);
+    let used = ((t.objects.len() / 10) as u32, (t.links.len() / 3) as u32);
+    let mut answer = [2; 3];
+    let bytes = depth(|| answer = library::run(&t, used, &events, &mut scratch));
+    assert_eq!(answer[0], 0);
+    bytes
+}
 
-fn line(name: &str, cells: [String; 3]) {
+const ENTRIES: [&str; 4] = ["checker_check", "checker_full_check", "checker_run", "checker_read"];
+
+fn line(name: &str, cells: [String; 4]) {
     println!("{name:38}{}", cells.map(|c| format!("{c:>20}")).concat());
 }
 
 fn measure() {
     let largest = park::park(1024, 4096, 7);
     let mut lines = vec![
-        ("a park of 1,024 objects".to_string(), [check(&largest), full_check(&largest), 0]),
-        ("a text of 64 KiB".to_string(), [0, 0, read(&spelling::text(&spelling::park_of(65_536)), 0)]),
+        ("a park of 1,024 objects".to_string(), [check(&largest), full_check(&largest), run(&largest), 0]),
+        ("a text of 64 KiB".to_string(), [0, 0, 0, read(&spelling::text(&spelling::park_of(65_536)), 0)]),
     ];
     for (name, body) in deep_bodies() {
         let p = pair_with(body);
-        lines.push((format!("64 forms: {name}"), [check(&p), full_check(&p), read(&spelling::text(&p), 0)]));
+        lines.push((format!("64 forms: {name}"), [check(&p), full_check(&p), run(&p), read(&spelling::text(&p), 0)]));
     }
     for opening in [" (not", " (forall", " ("] {
-        lines.push((format!("64 KiB of \"{opening}\""), [0, 0, read(&brackets(opening), 1)]));
+        lines.push((format!("64 KiB of \"{opening}\""), [0, 0, 0, read(&brackets(opening), 1)]));
     }
     line("bytes of stack", ENTRIES.map(|e| e.to_string()));
     for (name, bytes) in &lines {
         line(name, bytes.map(|n| if n == 0 { "-".to_string() } else { n.to_string() }));
     }
-    line("most", [0, 1, 2].map(|e| lines.iter().map(|l| l.1[e]).max().unwrap().to_string()));
+    line("most", [0, 1, 2, 3].map(|e| lines.iter().map(|l| l.1[e]).max().unwrap().to_string()));
 }
 
 fn main() {
