@@ -14,10 +14,10 @@ use Rattle.meaning.specs.Reach.{Change, cellMoves}
 use Rattle.tables.specs.Bodies.{Part, asCollection, ending, firstPart, secondPart}
 use Rattle.directions.specs.Sets.{someOf}
 use Rattle.book.specs.Marks.{firstSort, secondSort}
-use Rattle.event_list.proofs.Nodes.{passTo}
+use Rattle.event_marks.proofs.Nodes.{passTo}
 use Rattle.ocl.specs.Site.{Site, typesAt, registerAt, rowsAt, formAt, codeAt, idsOf}
 use Rattle.ocl.specs.Values.{membersOf}
-use Rattle.reach.specs.Traces.{Traced}
+use Rattle.trace.specs.Traces.{Traced}
 use Rattle.reach.specs.Moves.{movedBy, leafMoves, movesAt, movesOver}
 use Rattle.reach.specs.Able.{Able}
 use Rattle.reach.proofs.Abilities.{whole, last-sound, op, sorts}

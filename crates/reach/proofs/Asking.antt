@@ -23,9 +23,9 @@ use Rattle.register.proofs.Chains.{Lead, lead-some, lead-none}
 use Rattle.register.proofs.Hits.{hit-some}
 use Rattle.register.proofs.Rows.{guessed-place}
 use Rattle.ocl.specs.Site.{idIn}
-use Rattle.reach.specs.Questions.{Question, answers, asked, answersAt}
-use Rattle.reach.specs.Traces.{itself, placeAnswers, namedAt, orPast, rowNamed, placeRow, thereWord, metWord, Traced}
-use Rattle.reach.proofs.Questions.{names, step-places}
+use Rattle.trace.specs.Questions.{Question, answers, asked, answersAt}
+use Rattle.trace.specs.Traces.{itself, placeAnswers, namedAt, orPast, rowNamed, placeRow, thereWord, metWord, Traced}
+use Rattle.trace.proofs.Questions.{names, step-places}
 
 so-true : (b : Bool) → T b → b ≡ true
 so-true true t = refl

@@ -21,7 +21,7 @@ use Rattle.directions.proofs.Sets.{through-some, some-or, some-same}
 use Rattle.directions.proofs.Passes.{first-passed, second-passed}
 use Rattle.book.specs.Marks.{firstSort, secondSort}
 use Rattle.book.proofs.Types.{operatorHere, partsHere}
-use Rattle.event_list.proofs.Nodes.{passTo}
+use Rattle.event_marks.proofs.Nodes.{passTo}
 use Rattle.reach.specs.Moves.{partMoves, movedBy, leafMoves}
 
 -- ---- a set of directions, at members

@@ -1,5 +1,6 @@
 // What the leaves of the reach rules ask of the events that name an object: a chain of places for each row.
 use tables::Counts;
+use trace::types::was_under;
 ghost use mathlib.Core.Path.{_≡_};
 ghost use mathlib.Core.Bool.{Bool, _&&_, not};
 ghost use Prim.Native.Nat.{ℕ, _/_, _%_, _≤_, _<_};
@@ -7,8 +8,8 @@ ghost use lib.Dec.{eqb};
 ghost use Rattle.meaning.specs.Reach.{Change};
 ghost use Rattle.tables.specs.Columns.{typesOf, eventOf, eventRow};
 ghost use Rattle.ocl.specs.Site.{idIn};
-ghost use Rattle.reach.specs.Questions.{asked, questionOf, metUnder, answersAt};
-ghost use Rattle.reach.specs.Traces.{thereWord, metWord, Traced, Traces};
+ghost use Rattle.trace.specs.Questions.{asked, questionOf, answersAt};
+ghost use Rattle.trace.specs.Traces.{thereWord, metWord, Traced, Traces};
 
 // The questions, by what they are about: a cell; a role; a type.
 pub const CELL_SET: u32 = 0;
@@ -35,17 +36,6 @@ const PART: u32 = 4;
 const SPECIAL: u32 = 5;
 
 const GENERAL: u32 = 6;
-
-// Whether the object of a type was under another; 32 is no type.
-fn met_under(type_count: u32, types: &[u32], met: u32, t: u32) -> bool
-    ensures { λ r. ⌜ r ≡ metUnder (typesOf «type_count» (now (types .entry))) met t ⌝ }
-{
-    if met < meaning::MAX_TYPES {
-        schema::under(type_count, types, met, t)
-    } else {
-        false
-    }
-}
 
 // Whether an event that names its object at a place answers a question about a link.
 fn link_answers(
@@ -108,7 +98,7 @@ fn type_answers(
     if question == INSERTED {
         return of_kind(kind, INSERT, z, is);
     }
-    let was = met_under(type_count, types, met, t);
+    let was = was_under(type_count, types, met, t);
     if question == SPECIALISED {
         return of_kind(kind, SPECIAL, z, unless(is, was));
     }

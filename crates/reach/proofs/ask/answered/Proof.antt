@@ -7,9 +7,9 @@ use lib.Dec.{eqb}
 use denote.Ref.{now}
 use Rattle.meaning.specs.Schema.{ObjectType}
 use Rattle.tables.specs.Columns.{typesOf, eventOf, eventRow}
-use Rattle.reach.specs.Questions.{questionOf, answersAt}
-use Rattle.reach.specs.Traces.{thereWord, metWord}
-use Rattle.reach.proofs.Questions.{set-answer, join-answer, part-answer}
+use Rattle.trace.specs.Questions.{questionOf, answersAt}
+use Rattle.trace.specs.Traces.{thereWord, metWord}
+use Rattle.trace.proofs.Questions.{set-answer, join-answer, part-answer}
 use borrow.Author.Needs.{needs}
 use Rattle.reach.proofs.ask.answered.Statement.{statement}
 use Rattle.reach.proofs.ask.answered.Tie as tie

@@ -9,8 +9,8 @@ use denote.Ref.{now}
 use borrow.Author.Needs.{needs}
 use Rattle.meaning.specs.Reach.{Change}
 use Rattle.tables.specs.Columns.{typesOf, eventRow}
-use Rattle.reach.specs.Questions.{Question, questionOf, answersAt}
-use Rattle.reach.specs.Traces.{placeRow, thereWord, metWord, Traced}
+use Rattle.trace.specs.Questions.{Question, questionOf, answersAt}
+use Rattle.trace.specs.Traces.{placeRow, thereWord, metWord, Traced}
 use Rattle.reach.proofs.Asking.{leftOf, Walk, here, all-passed, goes-on, less-left, found, not-found}
 use Rattle.reach.proofs.ask.ask.Statement.{statement}
 use Rattle.reach.proofs.ask.ask.Tie as tie

@@ -7,8 +7,8 @@ use lib.Dec.{eqb}
 use denote.Ref.{now}
 use Rattle.meaning.specs.Schema.{ObjectType}
 use Rattle.tables.specs.Columns.{typesOf, eventOf}
-use Rattle.reach.specs.Questions.{questionOf, answersAt}
-use Rattle.reach.proofs.Questions.{insert-answer, special-answer, general-answer}
+use Rattle.trace.specs.Questions.{questionOf, answersAt}
+use Rattle.trace.proofs.Questions.{insert-answer, special-answer, general-answer}
 use borrow.Author.Needs.{needs}
 use Rattle.reach.proofs.ask.type_answers.Statement.{statement}
 use Rattle.reach.proofs.ask.type_answers.Tie as tie
@@ -33,8 +33,8 @@ returns c =
     ∙ insert-answer (types s) (a .kind) x (a .to) (a .z) j (a .met) there (a .t)
     ∙ ap (λ q. answersAt (types s) (questionOf q (a .t)) (eventOf (a .kind) x (a .to) (a .z)) j (a .met) there) (sym (c .before .if1 .taken))
 
-met-under-requires : tie.Need-met-under-requires
-met-under-requires c κs = search needs
+was-under-requires : tie.Need-was-under-requires
+was-under-requires c κs = search needs
 
 unless-requires : tie.Need-unless-requires
 unless-requires c κs = search needs
@@ -50,7 +50,7 @@ returns-2 c =
     let a = s .args in
     λ x j there.
     c .of-kind2 .ensures
-    ∙ ap (λ b. eqb 5 (a .kind) && (eqb (a .z) 0 && b)) (c .before .unless .ensures ∙ ap₂ (λ p q. p && not q) (look .under .ensures) (met .met-under .ensures))
+    ∙ ap (λ b. eqb 5 (a .kind) && (eqb (a .z) 0 && b)) (c .before .unless .ensures ∙ ap₂ (λ p q. p && not q) (look .under .ensures) (met .was-under .ensures))
     ∙ special-answer (types s) (a .kind) x (a .to) (a .z) j (a .met) there (a .t)
     ∙ ap (λ q. answersAt (types s) (questionOf q (a .t)) (eventOf (a .kind) x (a .to) (a .z)) j (a .met) there) (sym (c .before .before .if2 .taken))
 
@@ -69,7 +69,7 @@ returns-3 c =
     let last : a .question ≡ 5 = let first = met .before .if1 .left in let second = c .before .before .if2 .left in omega arith in
     λ x j there.
     c .of-kind3 .ensures
-    ∙ ap (λ b. eqb 6 (a .kind) && (eqb (a .z) 0 && b)) (c .before .unless2 .ensures ∙ ap₂ (λ p q. p && not q) (met .met-under .ensures) (look .under .ensures))
+    ∙ ap (λ b. eqb 6 (a .kind) && (eqb (a .z) 0 && b)) (c .before .unless2 .ensures ∙ ap₂ (λ p q. p && not q) (met .was-under .ensures) (look .under .ensures))
     ∙ general-answer (types s) (a .kind) x (a .to) (a .z) j (a .met) there (a .t)
     ∙ ap (λ q. answersAt (types s) (questionOf q (a .t)) (eventOf (a .kind) x (a .to) (a .z)) j (a .met) there) (sym (last))
 
@@ -80,7 +80,7 @@ type-answers-spec =
     under-requires
     of-kind-requires
     returns
-    met-under-requires
+    was-under-requires
     unless-requires
     of-kind-requires-2
     returns-2

@@ -21,13 +21,13 @@ use Rattle.tables.specs.Bodies.{reads, ending}
 use Rattle.book.specs.Marks.{firstSort, secondSort}
 use Rattle.book.proofs.Types.{code-here, sums-here}
 use Rattle.directions.proofs.Passes.{pass-small}
-use Rattle.event_list.proofs.Nodes.{passTo}
+use Rattle.event_marks.proofs.Nodes.{passTo}
 use Rattle.ocl.specs.Site.{Site, siteOf, rowsAt, formAt, codeAt, idIn, idsOf}
 use Rattle.ocl.specs.Values.{membersOf}
 use Rattle.ocl.specs.Walks.{leftAt, Stands}
 use Rattle.ocl.proofs.Steps.{fewer-left}
 use Rattle.ocl.proofs.Variables.{one-more}
-use Rattle.reach.specs.Traces.{Traced, Traces}
+use Rattle.trace.specs.Traces.{Traced, Traces}
 use Rattle.reach.specs.Moves.{movedBy, movesAt, movesOver}
 use Rattle.reach.specs.Able.{Able, LeafAble, OverAble}
 use Rattle.reach.proofs.Abilities.{positive, whole, last-sound, op, sorts, coded, ready, leaf-able, deep, one-able, first-low, first-able, plain-able, over-able}

@@ -1,0 +1,460 @@
+-- `event_marks::body::mark_form` meets its contract, by the laws of Nodes: what the code marks in turn is what the form lists.
+-- The measure is where the form ends: each part ends before its form's row.
+use Prim.Native.Nat.{ℕ, suc, _-_, _+_, _≤_, _<_}
+use mathlib.Core.Path.{_≡_, sym, ap, ap₂, subst, _∙_}
+use mathlib.Core.Bool.{Bool, _||_}
+use mathlib.Core.List.{List}
+use mathlib.Core.Option.{some}
+use native.Mathlib.Omega.{arith}
+use lib.Dec.{T}
+use lib.ListN.{length, getD, take, set, length-set}
+use borrow.Author.Needs.{needs}
+use borrow.Author.Tests.{eq-eqb, ne-eqb}
+use borrow.Fn.Kinds.{In}
+use borrow.Fn.PlainCycle.{Measures, is, falls, and}
+use Rattle.meaning.specs.Schema.{Schema}
+use Rattle.meaning.specs.Forms.{Sort, collection, bind}
+use Rattle.tables.specs.Codes.{Operator, operatorOf}
+use Rattle.tables.specs.Bodies.{BodyRow, Part, reads, ending, firstPart, secondPart}
+use Rattle.tables.proofs.Readings.{ending-start, sound-pos}
+use Rattle.directions.proofs.Passes.{pass-small}
+use Rattle.book.specs.Marks.{bodyOf, firstSort, secondSort, Starts}
+use Rattle.book.specs.Types.{memberOf}
+use Rattle.book.proofs.Kept.{starts-less}
+use Rattle.book.proofs.Types.{lent, operatorHere, partsHere, coded-here, code-here, second-here, first-here, binds-here, sums-here, bind-take}
+use Rattle.event_marks.specs.Marks.{places, Added}
+use Rattle.event_marks.specs.Lists.{markedBy, partMarks, leafLists, sumMarks}
+use Rattle.event_marks.proofs.Marks.{added-as, added-then}
+use Rattle.event_marks.proofs.Nodes.{passTo, inner, leaf-here, one-here, two-here}
+use Rattle.event_marks.proofs.body.mark_form.Reads as mark-form
+use Rattle.event_marks.proofs.body.mark_form.Kinds as mark-form-kinds
+use Rattle.event_marks.proofs.body.+mark_form.Lts-mark_form as lts
+use Rattle.book.proofs.body.field.Reads as field-reads
+use Rattle.book.proofs.body.shape.Reads as shape-reads
+use Rattle.book.proofs.typing.member_type.Reads as member-type-reads
+use Rattle.directions.proofs.pass.Reads as pass-reads
+use Rattle.event_marks.proofs.mark.put_leaf.Reads as put-leaf-reads
+use Rattle.event_marks.proofs.body.mark_sum.Reads as mark-sum-reads
+use Rattle.event_marks.proofs.body.+mark_form.{statement}
+use Rattle.event_marks.proofs.body.+mark_form.Tie.{close}
+
+abbrev μ-form : Measures 6 mark-form-kinds.ps ℕ
+μ-form κs a = a .1 .1 .1 .1 .1 .0 .end
+
+-- what `mark_form` is given at the measure t, and what a call of it asks below t
+abbrev form-at : ℕ → In 6 mark-form-kinds.ps
+form-at t = and 6 mark-form-kinds.ps (is 6 mark-form-kinds.ps μ-form t) mark-form.Pre
+
+abbrev form-below : ℕ → In 6 mark-form-kinds.ps
+form-below t = and 6 mark-form-kinds.ps (falls 6 mark-form-kinds.ps _<_ μ-form t) mark-form.Pre
+
+abbrev calls : ℕ → lts.Claims
+calls t = (
+  field-reads.Asked,
+  field-reads.Learnt,
+  shape-reads.Asked,
+  shape-reads.Learnt,
+  put-leaf-reads.Asked,
+  put-leaf-reads.Learnt,
+  pass-reads.Asked,
+  pass-reads.Learnt,
+  mark-sum-reads.Asked,
+  mark-sum-reads.Learnt,
+  form-below t,
+  mark-form.Post,
+  member-type-reads.Asked,
+  member-type-reads.Learnt,
+)
+
+module _ (t : ℕ) where
+  -- ---- places of the code
+
+  abbrev Start : Type 0
+  Start = lts.Start (calls t) (form-at t) mark-form.Post
+
+  abbrev Field : Type 0
+  Field = lts.After-field (calls t) (form-at t) mark-form.Post
+
+  abbrev Shape : Type 0
+  Shape = lts.After-shape (calls t) (form-at t) mark-form.Post
+
+  abbrev Parts : Type 0
+  Parts = lts.Else1 (calls t) (form-at t) mark-form.Post
+
+  abbrev Pass : Type 0
+  Pass = lts.After-pass (calls t) (form-at t) mark-form.Post
+
+  abbrev Shape2 : Type 0
+  Shape2 = lts.After-shape2 (calls t) (form-at t) mark-form.Post
+
+  abbrev One : Type 0
+  One = lts.Then2 (calls t) (form-at t) mark-form.Post
+
+  abbrev Two : Type 0
+  Two = lts.Else2 (calls t) (form-at t) mark-form.Post
+
+  abbrev Pass2 : Type 0
+  Pass2 = lts.After-pass2 (calls t) (form-at t) mark-form.Post
+
+  abbrev First : Type 0
+  First = lts.After-mark-form2 (calls t) (form-at t) mark-form.Post
+
+  abbrev Shape3 : Type 0
+  Shape3 = lts.After-shape3 (calls t) (form-at t) mark-form.Post
+
+  abbrev Binds : Type 0
+  Binds = lts.Else3 (calls t) (form-at t) mark-form.Post
+
+  abbrev field-start : Field → Start
+  field-start c = c .before .before .before .before .before .before
+
+  abbrev shape-start : Shape → Start
+  shape-start c = field-start (c .before .before)
+
+  abbrev parts-start : Parts → Start
+  parts-start c = shape-start (c .before)
+
+  abbrev shape2-start : Shape2 → Start
+  shape2-start c = parts-start (c .before .before)
+
+  abbrev one-start : One → Start
+  one-start c = shape2-start (c .before)
+
+  abbrev two-start : Two → Start
+  two-start c = shape2-start (c .before)
+
+  abbrev pass2-start : Pass2 → Start
+  pass2-start c = two-start (c .before .before)
+
+  abbrev first-two : First → Two
+  first-two c = c .before .before .before .before
+
+  abbrev shape3-first : Shape3 → First
+  shape3-first c = c .before .before .before
+
+  abbrev binds-first : Binds → First
+  binds-first c = shape3-first (c .before)
+
+  -- ---- the row, and what is read of it
+
+  abbrev rows : Start → ℕ → BodyRow
+  rows s = bodyOf (s .args .bodies .now) (s .args .at .rule)
+
+  abbrev row : Start → ℕ
+  row s = s .args .at .end - 1
+
+  abbrev schema : Start → Schema
+  schema s = lent (s .args .at .types) (s .args .types .now) (s .args .at .relationships) (s .args .relationships .now)
+
+  abbrev scope : Start → List ℕ
+  scope s = take (s .args .at .depth) (s .args .env .now)
+
+  -- what a part marks
+  abbrev marks : Start → ℕ → List ℕ → ℕ → ℕ → Bool
+  marks s e ts dirs place = partMarks (schema s) ((ending (rows s) e) .form) ts dirs place
+
+  positive : (s : Start) → 0 < s .args .at .end
+  positive s = sound-pos (rows s) (s .args .at .end) (s .pre .1 .1)
+
+  whole : (s : Start) → suc (row s) ≡ s .args .at .end
+  whole s = let h = positive s in omega arith
+
+  sound : (s : Start) → T ((ending (rows s) (suc (row s))) .sound)
+  sound s = subst (λ n. T ((ending (rows s) n) .sound)) (sym (whole s)) (s .pre .1 .1)
+
+  inside : (s : Start) → row s < 64
+  inside s = let h = positive s in let k = s .pre .1 .0 .few in omega arith
+
+  small : (s : Start) → s .args .set < 4
+  small s = s .pre .1 .5
+
+  abbrev op : Start → Operator
+  op s = operatorHere (rows s) (row s) (sound s)
+
+  abbrev sorts : Start → List Sort
+  sorts s = partsHere (rows s) (row s) (sound s)
+
+  low : (c : Field) → c .field .result < 23
+  low c = let s = field-start c in subst (λ k. k < 23) (sym (c .field .ensures)) (code-here (rows s) (row s) (sound s))
+
+  coded : (c : Field) → operatorOf (c .field .result) ≡ some (op (field-start c))
+  coded c = let s = field-start c in ap operatorOf (c .field .ensures) ∙ coded-here (rows s) (row s) (sound s)
+
+  second : (c : Shape) → c .shape .result ≡ secondSort (sorts (shape-start c))
+  second c = c .shape .ensures (op (shape-start c)) (coded (c .before .before))
+
+  second-some : (c : Parts) → secondSort (sorts (parts-start c)) ≡ 3 → ⊥
+  second-some c q = c .if1 .left (second (c .before) ∙ q)
+
+  to-second : (c : Pass) → c .pass .result ≡ passTo (parts-start (c .before) .args .set) (op (parts-start (c .before))) 1
+  to-second c = c .pass .ensures (op (parts-start (c .before))) (coded (c .before .before .before .before))
+
+  second-set : (c : Pass) → c .pass .result < 4
+  second-set c = let s = parts-start (c .before) in subst (λ k. k < 4) (sym (to-second c)) (pass-small (op s) _)
+
+  first : (c : Shape2) → c .shape2 .result ≡ firstSort (sorts (shape2-start c))
+  first c = c .shape2 .ensures (op (shape2-start c)) (coded (c .before .before .before .before .before))
+
+  first-some : (c : Two) → firstSort (sorts (two-start c)) ≡ 3 → ⊥
+  first-some c q = c .if2 .left (first (c .before) ∙ q)
+
+  to-first : (c : Pass2) → c .pass2 .result ≡ passTo (pass2-start c .args .set) (op (pass2-start c)) 0
+  to-first c = c .pass2 .ensures (op (pass2-start c)) (coded (c .before .before .before .before .before .before .before .before))
+
+  -- an answer of the form that ends with the row is one of the form at the place
+  at-end : (s : Start) (f : ℕ → Bool) → ((place : ℕ) → f place ≡ marks s (suc (row s)) (scope s) (s .args .set) place) → (place : ℕ) → place < places → f place ≡ marks s (s .args .at .end) (scope s) (s .args .set) place
+  at-end s f p place h = p place ∙ ap (λ n. marks s n (scope s) (s .args .set) place) (whole s)
+
+  -- ---- the second part, which ends before the row
+
+  second-sound : (c : Parts) → T ((ending (rows (parts-start c)) (row (parts-start c))) .sound)
+  second-sound c = let s = parts-start c in second-here (rows s) (row s) (sound s) (second-some c)
+
+  -- what a call asks, with one more variable or none
+  second-asks : (c : Parts) (env : List ℕ) (depth : ℕ) (dirs size : ℕ)
+      → let s = parts-start c in
+      length env ≡ 64
+      → depth + row s ≤ 65
+      → size ≡ places
+      → dirs < 4
+      → (row s < t)
+      × ((Starts (rows s) (s .args .starts .now) (row s)) × T ((ending (rows s) (row s)) .sound) × (length env ≡ 64) × (depth + row s ≤ 65) × (size ≡ places) × (dirs < 4))
+  second-asks c env depth dirs size l h m d =
+      let s = parts-start c in
+      let k = positive s in
+      let e = s .pre .0 in
+      (omega arith, (starts-less (s .pre .1 .0) (row s) (omega arith), second-sound c, l, h, m, d))
+
+  -- ---- the first part, which ends before the start of the second
+
+  middle-is : (s : Start) → getD (s .args .starts .now) (row s) 0 ≡ (ending (rows s) (row s)) .start
+  middle-is s = s .pre .1 .0 .right (row s) (omega arith)
+
+  middle-low : (s : Start) → getD (s .args .starts .now) (row s) 0 ≤ row s
+  middle-low s = subst (λ n. n ≤ row s) (sym (middle-is s)) (ending-start (rows s) (row s))
+
+  -- where a variable is bound there is room for it
+  room : (c : Parts) → parts-start c .args .at .depth < 64
+  room c = let s = parts-start c in let h = s .pre .1 .3 in let k = sound-pos (rows s) (row s) (second-sound c) in omega arith
+
+  -- what is marked of the first part
+  first-marked : (c : First) (place : ℕ) → let s = two-start (first-two c) in
+      marks s (getD (s .args .starts .now) (row s) 0) (scope s) (c .before .before .pass2 .result) place
+      ≡ partMarks (schema s) ((firstPart (rows s) (row s)) .form) (scope s) (passTo (s .args .set) (op s) 0) place
+  first-marked c place = let s = two-start (first-two c) in ap₂ (λ n dirs. marks s n (scope s) dirs place) (middle-is s) (to-first (c .before .before))
+
+  binds : (c : Shape3) → c .shape3 .result ≡ firstSort (sorts (two-start (first-two (shape3-first c))))
+  binds c =
+      let two = first-two (shape3-first c) in
+      c .shape3 .ensures (op (two-start two)) (coded (two .before .before .before .before .before .before))
+
+  -- the variables' types in the second part
+  plain : (s : Start) → (firstSort (sorts s) ≡ 2 → ⊥) → inner (schema s) (scope s) (firstSort (sorts s)) ((firstPart (rows s) (row s)) .form) ≡ scope s
+  plain s n = rw (ne-eqb (firstSort (sorts s)) 2 n)
+
+  binding : (s : Start) → firstSort (sorts s) ≡ 2 → inner (schema s) (scope s) (firstSort (sorts s)) ((firstPart (rows s) (row s)) .form) ≡ bind (scope s) (memberOf (schema s .relationships) ((firstPart (rows s) (row s)) .form))
+  binding s e = rw (eq-eqb (firstSort (sorts s)) 2 e)
+
+  -- ---- the needs, in the order of the code
+
+  sub-row : lts.Need-sub-row (calls t) (form-at t) mark-form.Post
+  sub-row c = positive (c .before .before .before .before .before)
+
+  field-requires : lts.Need-field-requires (calls t) (form-at t) mark-form.Post
+  field-requires c κs = tt
+
+  field-requires-2 : lts.Need-field-requires-2 (calls t) (form-at t) mark-form.Post
+  field-requires-2 c κs = tt
+
+  shape-requires : lts.Need-shape-requires (calls t) (form-at t) mark-form.Post
+  shape-requires c κs = (low (c .before), omega arith)
+
+  field-requires-3 : lts.Need-field-requires-3 (calls t) (form-at t) mark-form.Post
+  field-requires-3 c κs = tt
+
+  put-leaf-requires : lts.Need-put-leaf-requires (calls t) (form-at t) mark-form.Post
+  put-leaf-requires c κs =
+      let s = shape-start (c .before .before .before) in
+      let h = positive s in
+      let k = s .pre .1 .3 in
+      (s .pre .1 .4, s .pre .1 .2, omega arith, small s)
+
+  same-length : lts.Need-same-length (calls t) (form-at t) mark-form.Post
+  same-length c = search needs
+
+  returns : lts.Need-returns (calls t) (form-at t) mark-form.Post
+  returns c =
+      let leaf = c .before .before in
+      let shape = leaf .before .before .before .before in
+      let s = shape-start shape in
+      let code = shape .before .before .field .ensures in
+      let x = shape .before .field2 .ensures in
+      let y = leaf .before .before .field3 .ensures in
+      added-as (leaf .put-leaf .ensures (schema s .relationships))
+      (at-end s _
+      (λ place.
+      (λ j. markedBy (s .args .set) (leafLists (schema s) (scope s) (code j) (x j) (y j)) place)
+      ∙ leaf-here (rows s) (row s) (sound s) (schema s) (scope s) (s .args .set) (small s) place (sym (second shape) ∙ leaf .before .before .before .if1 .taken)))
+
+  pass-requires : lts.Need-pass-requires (calls t) (form-at t) mark-form.Post
+  pass-requires c κs = (low (c .before .before .before), omega arith, small (parts-start c))
+
+  shape-requires-2 : lts.Need-shape-requires-2 (calls t) (form-at t) mark-form.Post
+  shape-requires-2 c κs = (low (c .before .before .before .before), omega arith)
+
+  mark-sum-requires : lts.Need-mark-sum-requires (calls t) (form-at t) mark-form.Post
+  mark-sum-requires c κs =
+      let one = c .before in
+      let s = one-start one in
+      (starts-less (s .pre .1 .0) (row s) (omega arith), λ q. sums-here (rows s) (row s) (sound s) (sym (one .before .before .before .before .before .before .field .ensures) ∙ q), s .pre .1 .4, small s)
+
+  mark-form-requires : lts.Need-mark-form-requires (calls t) (form-at t) mark-form.Post
+  mark-form-requires c κs =
+      let sum = c .before .before .before in
+      let one = sum .before .before in
+      let s = one-start one in
+      let h = s .pre .1 .3 in
+      second-asks (one .before .before .before) (s .args .env .now) (s .args .at .depth) _ _ (s .pre .1 .2) (omega arith) (sum .mark-sum .ensures .long ∙ s .pre .1 .4) (second-set (one .before .before))
+
+  same-length-2 : lts.Need-same-length-2 (calls t) (form-at t) mark-form.Post
+  same-length-2 c = search needs
+
+  returns-2 : lts.Need-returns-2 (calls t) (form-at t) mark-form.Post
+  returns-2 c =
+      let form = c .before .before in
+      let sum = form .before .before .before .before in
+      let one = sum .before .before in
+      let pass = one .before .before in
+      let s = one-start one in
+      let code = pass .before .before .before .before .field .ensures in
+      let x = pass .before .before .before .field2 .ensures in
+      added-as (added-then (sum .mark-sum .ensures) (form .mark-form .ensures))
+      (at-end s _
+      (λ place.
+      (λ j. sumMarks (schema s .relationships) (s .args .set) place (code j) (x j) ((secondPart (rows s) (row s)) .form) || marks s (row s) (scope s) (to-second pass j) place)
+      ∙ one-here (rows s) (row s) (sound s) (schema s) (scope s) (s .args .set) (small s) place (second-some (pass .before)) (sym (first (one .before)) ∙ one .if2 .taken)))
+
+  cast-index : lts.Need-cast-index (calls t) (form-at t) mark-form.Post
+  cast-index c = let h = inside (two-start c) in omega arith
+
+  mul-first : lts.Need-mul-first (calls t) (form-at t) mark-form.Post
+  mul-first c = let h = inside (two-start c) in omega arith
+
+  element-copy-out-first : lts.Need-element-copy-out-first (calls t) (form-at t) mark-form.Post
+  element-copy-out-first c = let h = inside (two-start c) in omega arith
+
+  pass-requires-2 : lts.Need-pass-requires-2 (calls t) (form-at t) mark-form.Post
+  pass-requires-2 c κs = let pass = c .before .before .before in (low (pass .before .before .before .before), omega arith, small (parts-start (pass .before)))
+
+  mark-form-requires-2 : lts.Need-mark-form-requires-2 (calls t) (form-at t) mark-form.Post
+  mark-form-requires-2 c κs =
+      let two = c .before .before .before in
+      let s = two-start two in
+      let below = middle-low s in
+      let k = positive s in
+      let h = s .pre .1 .3 in
+      let m = s .pre .0 in (
+        omega arith,
+        (
+          starts-less (s .pre .1 .0) (getD (s .args .starts .now) (row s) 0) (omega arith),
+          subst (λ n. T ((ending (rows s) n) .sound)) (sym (middle-is s)) (first-here (rows s) (row s) (sound s) (first-some two)),
+          s .pre .1 .2,
+          omega arith,
+          s .pre .1 .4,
+          subst (λ k. k < 4) (sym (to-first (c .before))) (pass-small (op s) _),
+        ),
+      )
+
+  shape-requires-3 : lts.Need-shape-requires-3 (calls t) (form-at t) mark-form.Post
+  shape-requires-3 c κs = (low (first-two (c .before .before) .before .before .before .before .before .before), omega arith)
+
+  mark-form-requires-3 : lts.Need-mark-form-requires-3 (calls t) (form-at t) mark-form.Post
+  mark-form-requires-3 c κs =
+      let form = shape3-first (c .before .before) in
+      let two = first-two form in
+      let s = two-start two in
+      let h = s .pre .1 .3 in
+      second-asks (two .before .before .before) (s .args .env .now) (s .args .at .depth) _ _ (s .pre .1 .2) (omega arith) (form .mark-form2 .ensures .long ∙ s .pre .1 .4) (second-set (two .before .before))
+
+  same-length-3 : lts.Need-same-length-3 (calls t) (form-at t) mark-form.Post
+  same-length-3 c = search needs
+
+  returns-3 : lts.Need-returns-3 (calls t) (form-at t) mark-form.Post
+  returns-3 c =
+      let form = c .before .before in
+      let shape = form .before .before .before in
+      let one = shape3-first shape in
+      let two = first-two one in
+      let s = two-start two in
+      added-as (added-then (one .mark-form2 .ensures) (form .mark-form3 .ensures))
+      (at-end s _
+      (λ place.
+      ap₂ _||_ (first-marked one place) (ap (λ dirs. marks s (row s) (scope s) dirs place) (to-second (two .before .before)))
+      ∙ ap (λ ts. partMarks (schema s) ((firstPart (rows s) (row s)) .form) (scope s) (passTo (s .args .set) (op s) 0) place || marks s (row s) ts (passTo (s .args .set) (op s) 1) place) (sym (plain s (λ q. form .before .before .if3 .taken (binds shape ∙ q))))
+      ∙ two-here (rows s) (row s) (sound s) (schema s) (scope s) (s .args .set) (small s) place (second-some (two .before .before .before)) (first-some two)))
+
+  cast-new : lts.Need-cast-new (calls t) (form-at t) mark-form.Post
+  cast-new c = let h = room (first-two (binds-first (c .before .before)) .before .before .before) in omega arith
+
+  member-type-requires : lts.Need-member-type-requires (calls t) (form-at t) mark-form.Post
+  member-type-requires c κs =
+      let inside-binds = c .before .before in
+      let s = two-start (first-two (binds-first inside-binds)) in
+      let below = middle-low s in (
+        starts-less (s .pre .1 .0) (getD (s .args .starts .now) (row s) 0) (omega arith),
+        subst (λ n. T (reads collection (ending (rows s) n))) (sym (middle-is s)) (binds-here (rows s) (row s) (sound s) (sym (binds (inside-binds .before)) ∙ inside-binds .if3 .left)),
+      )
+
+  mul-inner : lts.Need-mul-inner (calls t) (form-at t) mark-form.Post
+  mul-inner c = let h = room (first-two (binds-first (c .before .before .before)) .before .before .before) in omega arith
+
+  array-write-inner : lts.Need-array-write-inner (calls t) (form-at t) mark-form.Post
+  array-write-inner c = let h = room (first-two (binds-first (c .before .before .before)) .before .before .before) in omega arith
+
+  add-second : lts.Need-add-second (calls t) (form-at t) mark-form.Post
+  add-second c = let h = room (first-two (binds-first (c .before .before .before .before)) .before .before .before) in omega arith
+
+  mark-form-requires-4 : lts.Need-mark-form-requires-4 (calls t) (form-at t) mark-form.Post
+  mark-form-requires-4 c κs =
+      let member = c .before .before .before in
+      let form = binds-first (member .before .before .before) in
+      let two = first-two form in
+      let s = two-start two in
+      let h = s .pre .1 .3 in
+      let k = positive s in
+      let m = member .member-type .result in
+      second-asks (two .before .before .before) (set (s .args .env .now) (s .args .at .depth) m) (s .args .at .depth + 1) _ _ (length-set (s .args .env .now) (s .args .at .depth) m ∙ s .pre .1 .2) (omega arith) (form .mark-form2 .ensures .long ∙ s .pre .1 .4) (second-set (two .before .before))
+
+  same-length-4 : lts.Need-same-length-4 (calls t) (form-at t) mark-form.Post
+  same-length-4 c = search needs
+
+  returns-4 : lts.Need-returns-4 (calls t) (form-at t) mark-form.Post
+  returns-4 c =
+      let form = c .before .before in
+      let member = form .before .before .before .before in
+      let bound = member .before .before .before in
+      let one = binds-first bound in
+      let two = first-two one in
+      let s = two-start two in
+      let l = s .pre .1 .2 in
+      let k = room (two .before .before .before) in
+      let m = member .member-type .result in
+      let a = (firstPart (rows s) (row s)) .form in
+      let member-is : m ≡ memberOf (schema s .relationships) a =
+      member .member-type .ensures ∙ ap (λ n. memberOf (schema s .relationships) ((ending (rows s) n) .form)) (middle-is s) in
+      let scope-is : take (s .args .at .depth + 1) (set (s .args .env .now) (s .args .at .depth) m) ≡ inner (schema s) (scope s) (firstSort (sorts s)) a =
+      bind-take (s .args .env .now) (s .args .at .depth) m (omega arith) ∙ ap (bind (scope s)) member-is ∙ sym (binding s (sym (binds (bound .before)) ∙ bound .if3 .left)) in
+      added-as (added-then (one .mark-form2 .ensures) (form .mark-form4 .ensures))
+      (at-end s _
+      (λ place.
+      ap₂ _||_ (first-marked one place) (ap₂ (λ ts dirs. marks s (row s) ts dirs place) scope-is (to-second (two .before .before)))
+      ∙ two-here (rows s) (row s) (sound s) (schema s) (scope s) (s .args .set) (small s) place (second-some (two .before .before .before)) (first-some two)))
+
+pub +mark-form-spec : {M : Type 1} → statement M
++mark-form-spec =
+    close μ-form λ t.
+    lts.spec (calls t) (form-at t) mark-form.Post (sub-row t) (field-requires t) (field-requires-2 t) (shape-requires t) (field-requires-3 t) (put-leaf-requires t)
+    (same-length t) (returns t) (pass-requires t) (shape-requires-2 t) (mark-sum-requires t) (mark-form-requires t)
+    (same-length-2 t) (returns-2 t) (cast-index t) (mul-first t) (element-copy-out-first t) (pass-requires-2 t) (mark-form-requires-2 t)
+    (shape-requires-3 t) (mark-form-requires-3 t) (same-length-3 t) (returns-3 t) (cast-new t) (member-type-requires t)
+    (mul-inner t) (array-write-inner t) (add-second t) (mark-form-requires-4 t) (same-length-4 t) (returns-4 t)

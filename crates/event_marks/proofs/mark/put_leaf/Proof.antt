@@ -1,0 +1,107 @@
+-- `event_marks::mark::put_leaf` meets its contract.
+use mathlib.Core.Path.{ap}
+use mathlib.Core.Bool.{true, false}
+use mathlib.Core.List.{List, [], _∷_}
+use native.Mathlib.Omega.{arith}
+use lib.ListN.{take}
+use denote.Ref.{now}
+use borrow.Author.Tests.{eq-eqb, ne-eqb}
+use Rattle.meaning.specs.Schema.{Relationship, Schema}
+use Rattle.meaning.specs.Reach.{Direction}
+use Rattle.meaning.specs.EventList.{EventType, setOf, roleLists}
+use Rattle.tables.specs.Columns.{typesOf}
+use Rattle.event_marks.specs.Lists.{typeLists, leafLists}
+use Rattle.event_marks.proofs.Marks.{none-listed, added-none, added-as, added-lists}
+use borrow.Author.Needs.{needs}
+use Rattle.event_marks.proofs.mark.put_leaf.Statement.{statement}
+use Rattle.event_marks.proofs.mark.put_leaf.Tie as tie
+
+abbrev schemaHere : tie.Start → List Relationship → Schema
+schemaHere s rs = record { types = typesOf (s .args .type-count) (now (s .args .types)); relationships = rs }
+
+abbrev leafHere : tie.Start → List Relationship → Direction → List EventType
+leafHere s rs = leafLists (schemaHere s rs) (take (s .args .depth) (now (s .args .env))) (s .args .code) (s .args .x) (s .args .y)
+
+put-members-requires : tie.Need-put-members-requires
+put-members-requires c κs = search needs
+
+same-length : tie.Need-same-length
+same-length c = search needs
+
+returns : tie.Need-returns
+unfolding leafLists
+returns c =
+    let start = c .before .before .before .before .before .before .before in
+    let a = start .args in
+    λ rs. added-lists (a .set) (typeLists (schemaHere start rs) false (a .y)) (leafHere start rs) (c .before .before .put-members .ensures rs) (λ d. rw (eq-eqb (a .code) 13 (omega arith)))
+
+put-members-requires-2 : tie.Need-put-members-requires-2
+put-members-requires-2 c κs = search needs
+
+same-length-2 : tie.Need-same-length-2
+same-length-2 c = search needs
+
+returns-2 : tie.Need-returns-2
+unfolding leafLists
+returns-2 c =
+    let start = c .before .before .before .before .before .before .before .before in
+    let a = start .args in
+    λ rs. added-lists (a .set) (typeLists (schemaHere start rs) true (a .x)) (leafHere start rs) (c .before .before .put-members2 .ensures rs) (λ d. rw (ne-eqb (a .code) 13 (omega arith), eq-eqb (a .code) 21 (omega arith)))
+
+put-role-requires : tie.Need-put-role-requires
+put-role-requires c κs = search needs
+
+same-length-3 : tie.Need-same-length-3
+same-length-3 c = search needs
+
+returns-3 : tie.Need-returns-3
+unfolding leafLists
+returns-3 c =
+    let start = c .before .before .before .before .before .before .before .before .before in
+    let a = start .args in
+    λ rs. added-lists (a .set) (roleLists (a .y)) (leafHere start rs) (c .before .before .put-role .ensures) (λ d. rw (ne-eqb (a .code) 13 (omega arith), ne-eqb (a .code) 21 (omega arith), eq-eqb (a .code) 20 (omega arith)))
+
+variable-type-requires : tie.Need-variable-type-requires
+variable-type-requires c κs = search needs
+
+put-cell-requires : tie.Need-put-cell-requires
+put-cell-requires c κs = search needs
+
+same-length-4 : tie.Need-same-length-4
+same-length-4 c = search needs
+
+returns-4 : tie.Need-returns-4
+unfolding leafLists
+returns-4 c =
+    let bound = c .before .before .before .before .variable-type in
+    let start = c .before .before .before .before .before .before .before .before .before .before .before in
+    let a = start .args in
+    λ rs.
+    added-lists (a .set) (λ d. setOf (bound .result) (a .y) ∷ []) (leafHere start rs) (c .before .before .put-cell .ensures)
+    (λ d. rw (ne-eqb (a .code) 13 (omega arith), ne-eqb (a .code) 21 (omega arith), ne-eqb (a .code) 20 (omega arith), eq-eqb (a .code) 15 (omega arith)) (ap (λ t. setOf t (a .y) ∷ []) (bound .ensures)))
+
+returns-5 : tie.Need-returns-5
+unfolding leafLists
+returns-5 c =
+    let start = c .before .before .before .before .before .before in
+    let a = start .args in
+    λ rs. added-lists (a .set) (λ d. []) (leafHere start rs) (added-as (added-none _) (λ place h. none-listed (a .set))) (λ d. rw (ne-eqb (a .code) 13 (omega arith), ne-eqb (a .code) 21 (omega arith), ne-eqb (a .code) 20 (omega arith), ne-eqb (a .code) 15 (omega arith)))
+
+pub put-leaf-spec : {M : Type 1} → statement M
+put-leaf-spec =
+    tie.close
+    (tie.spec
+    put-members-requires
+    same-length
+    returns
+    put-members-requires-2
+    same-length-2
+    returns-2
+    put-role-requires
+    same-length-3
+    returns-3
+    variable-type-requires
+    put-cell-requires
+    same-length-4
+    returns-4
+    returns-5)

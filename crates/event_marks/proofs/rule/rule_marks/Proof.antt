@@ -1,0 +1,104 @@
+-- `event_marks::rule::rule_marks` meets its contract, by the laws of Rules.
+use Prim.Native.Nat.{ℕ, _+_, _≤_, _<_}
+use mathlib.Core.Path.{_≡_, refl, sym, ap, subst, _∙_}
+use mathlib.Core.List.{List}
+use native.Mathlib.Omega.{arith}
+use lib.Dec.{T}
+use borrow.Author.Needs.{needs}
+use Rattle.meaning.specs.Schema.{Schema}
+use Rattle.tables.specs.Bodies.{BodyRow, wholeBody, readBody, ending}
+use Rattle.tables.specs.Columns.{ruleRow}
+use Rattle.tables.proofs.Forms.{WholeBody, whole-body}
+use Rattle.book.specs.Marks.{bodyOf}
+use Rattle.book.proofs.Types.{lent}
+use Rattle.event_marks.proofs.Marks.{added-as, added-then}
+use Rattle.event_marks.proofs.Rules.{rule-marked}
+use Rattle.event_marks.proofs.rule.rule_marks.Statement.{statement}
+use Rattle.event_marks.proofs.rule.rule_marks.Tie as tie
+
+-- ---- places of the code
+
+abbrev size-start : tie.After-word2 → tie.Start
+size-start c = c .before .before .before .before .before .before .before
+
+abbrev form-scan : tie.After-mark-form → tie.After-scan
+form-scan c = c .before .before .before .before .before
+
+abbrev quiet-form : tie.After-quiet → tie.After-mark-form
+quiet-form c = c .before .before .before .before
+
+-- ---- the rule
+
+abbrev rows : tie.Start → ℕ → BodyRow
+rows s = bodyOf (s .args .bodies .now) (s .args .rule)
+
+abbrev schema : tie.Start → Schema
+schema s = lent (s .args .type-count) (s .args .types .now) (s .args .relationship-count) (s .args .relationships .now)
+
+whole : (c : tie.After-word2) → T (wholeBody (rows (size-start c)) (c .word2 .result))
+whole c = let s = size-start c in subst (λ n. T (wholeBody (rows s) n)) (sym (c .word2 .ensures)) (s .pre .0)
+
+body-is : (c : tie.After-word2) → WholeBody (rows (size-start c)) (c .word2 .result)
+body-is c = whole-body (rows (size-start c)) (c .word2 .result) (whole c)
+
+rule-is : (c : tie.After-word2) → let s = size-start c in
+    ruleRow (s .args .rules .now) (s .args .bodies .now) (s .args .rule) ≡ record { context = c .before .word .result; body = readBody (rows s) (c .word2 .result) }
+unfolding ruleRow
+rule-is c = λ j. record { context = sym (c .before .word .ensures) j; body = readBody (rows (size-start c)) (sym (c .word2 .ensures) j) }
+
+-- ---- the needs, in the order of the code
+
+word-requires : tie.Need-word-requires
+word-requires c κs = search needs
+
+word-requires-2 : tie.Need-word-requires-2
+word-requires-2 c κs = search needs
+
+scan-requires : tie.Need-scan-requires
+scan-requires c κs = body-is c .few
+
+array-write-env : tie.Need-array-write-env
+array-write-env c = search needs
+
+mark-form-requires : tie.Need-mark-form-requires
+mark-form-requires c κs =
+    let scanned = c .before .before .before .before in
+    let w = body-is (scanned .before) in
+    let few = w .few in
+    (scanned .scan .ensures .0, w .sound, refl, omega arith, size-start (scanned .before) .pre .1, omega arith)
+
+quiet-requires : tie.Need-quiet-requires
+quiet-requires c κs = let scanned = form-scan (c .before .before .before) in (scanned .scan .ensures .0, body-is (scanned .before) .sound)
+
+put-members-requires : tie.Need-put-members-requires
+put-members-requires c κs =
+    let form = quiet-form (c .before) in
+    form .mark-form .ensures .long ∙ size-start (form-scan form .before) .pre .1
+
+same-length : tie.Need-same-length
+same-length c = search needs
+
+returns : tie.Need-returns
+returns c =
+    let listed = c .before .before in
+    let still = listed .before .before in
+    let form = quiet-form still in
+    let size = form-scan form .before in
+    let s = size-start size in
+    added-as (added-then (form .mark-form .ensures) (listed .put-members .ensures (schema s .relationships)))
+    (λ place h.
+    rule-marked (schema s) (s .args .rules .now) (s .args .bodies .now) (s .args .rule) (size .before .word .result) (size .word2 .result) (still .quiet .result) (whole size) (rule-is size) (still .quiet .ensures) place)
+
+pub rule-marks-spec : {M : Type 1} → statement M
+rule-marks-spec =
+    tie.close
+    (tie.spec
+    word-requires
+    word-requires-2
+    scan-requires
+    array-write-env
+    mark-form-requires
+    quiet-requires
+    put-members-requires
+    same-length
+    returns)

@@ -1,0 +1,135 @@
+// What the forms of a rule's body list.
+use crate::mark;
+use book::body::COLLECTION;
+use book::body::FIRST;
+use book::body::NONE;
+use book::body::SECOND;
+use book::body::field;
+use book::body::shape;
+use book::typing::Place;
+use book::typing::member_type;
+ghost use mathlib.Core.Path.{_≡_};
+ghost use mathlib.Core.List.{List};
+ghost use Prim.Native.Nat.{_+_, _≤_, _<_};
+ghost use lib.Dec.{T};
+ghost use lib.ListN.{length, take};
+ghost use Rattle.meaning.specs.Forms.{collection};
+ghost use Rattle.tables.specs.Bodies.{reads, ending};
+ghost use Rattle.tables.specs.Columns.{relationshipsOf, schemaOf};
+ghost use Rattle.book.specs.Marks.{bodyOf, Starts};
+ghost use Rattle.event_marks.specs.Marks.{places, Added};
+ghost use Rattle.event_marks.specs.Lists.{partMarks, sumMarks};
+
+const SUM: u32 = 17;
+
+// Marks what a sum lists besides its collection: the sets of its members' cell. What is no sum lists nothing besides.
+fn mark_sum(
+    relationships: &[u32],
+    bodies: &[u32],
+    starts: &[u32; 65],
+    at: Place,
+    code: u32,
+    x: u32,
+    set: u32,
+    marks: &mut [bool],
+)
+    requires { ⌜ (Starts (bodyOf (now bodies) (at .rule)) (now starts) (at .end))
+        × (code ≡ 17 → T (reads collection (ending (bodyOf (now bodies) (at .rule)) (at .end))))
+        × (length (now marks) ≡ places) × (set < 4) ⌝ }
+    ensures { λ _. ⌜ Added (now (marks .entry)) (now (marks .exit)) (λ place.
+        sumMarks (relationshipsOf (at .relationships) (now (relationships .entry))) set place code x
+        ((ending (bodyOf (now (bodies .entry)) (at .rule)) (at .end)) .form)) ⌝ }
+{
+    if code != SUM {
+        return;
+    }
+    let member = member_type(relationships, bodies, starts, at);
+    mark::put_cell(member, x, set, marks);
+}
+
+// Marks what moves a form in a direction of the set, by the types of its variables.
+pub fn mark_form(
+    types: &[u32],
+    relationships: &[u32],
+    bodies: &[u32],
+    starts: &[u32; 65],
+    env: &[u32; 64],
+    at: Place,
+    set: u32,
+    marks: &mut [bool],
+)
+    requires { ⌜ (Starts (bodyOf (now bodies) (at .rule)) (now starts) (at .end))
+        × T ((ending (bodyOf (now bodies) (at .rule)) (at .end)) .sound)
+        × (length (now env) ≡ 64) × (at .depth + at .end ≤ 65)
+        × (length (now marks) ≡ places) × (set < 4) ⌝ }
+    ensures { λ _. ⌜ Added (now (marks .entry)) (now (marks .exit)) (λ place.
+        partMarks (schemaOf (at .types) (now (types .entry)) (at .relationships) (now (relationships .entry)))
+        ((ending (bodyOf (now (bodies .entry)) (at .rule)) (at .end)) .form) (take (at .depth) (now (env .entry))) set place) ⌝ }
+{
+    let row = at.end - 1;
+    let code = field(bodies, at.rule, row, 0);
+    let x = field(bodies, at.rule, row, 1);
+    if shape(code, SECOND) == NONE {
+        let y = field(bodies, at.rule, row, 2);
+        mark::put_leaf(at.types, types, env, at.depth, code, x, y, set, marks);
+        return;
+    }
+    let mut second = at;
+    second.end = row;
+    let to_second = directions::pass(code, directions::SECOND, set);
+    if shape(code, FIRST) == NONE {
+        mark_sum(relationships, bodies, starts, second, code, x, set, marks);
+        mark_form(
+            types,
+            relationships,
+            bodies,
+            starts,
+            env,
+            second,
+            to_second,
+            marks,
+        );
+        return;
+    }
+    let index = row as usize;
+    let mut first = at;
+    first.end = starts[index];
+    let to_first = directions::pass(code, directions::FIRST, set);
+    mark_form(
+        types,
+        relationships,
+        bodies,
+        starts,
+        env,
+        first,
+        to_first,
+        marks,
+    );
+    if shape(code, FIRST) != COLLECTION {
+        mark_form(
+            types,
+            relationships,
+            bodies,
+            starts,
+            env,
+            second,
+            to_second,
+            marks,
+        );
+        return;
+    }
+    let mut inner = *env;
+    let new = at.depth as usize;
+    inner[new] = member_type(relationships, bodies, starts, first);
+    second.depth = at.depth + 1;
+    mark_form(
+        types,
+        relationships,
+        bodies,
+        starts,
+        &inner,
+        second,
+        to_second,
+        marks,
+    );
+}

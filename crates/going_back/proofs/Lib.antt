@@ -1,0 +1,11 @@
+-- Laws of going back.
+--   Coverage    the rules read backward lose nothing
+--   Sets        marks of rows that only grow
+--   Turned      a role turned round leads back
+--   Fars        a walk along a role that marks each far row
+--   Bases       the collection below selects
+pub mod Coverage
+pub mod Sets
+pub mod Turned
+pub mod Fars
+pub mod Bases

@@ -1,0 +1,3 @@
+-- Going back.
+--   Back   the reach rules read backward
+pub mod Back

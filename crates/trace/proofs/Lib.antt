@@ -1,0 +1,11 @@
+-- Laws of the trace and of how it is made.
+--   Questions   questions at the places of an event, and by the words of its row
+--   Placing     the places of a batch in the trace that is made
+--   Naming      the ids that an event names, by its words
+--   Keeping     what is kept of each event
+--   Coming      the types that an event's object comes into or goes out of, by its words
+pub mod Questions
+pub mod Placing
+pub mod Naming
+pub mod Keeping
+pub mod Coming
