@@ -22,10 +22,10 @@ use Rattle.tables.specs.Columns.{objectRow, linkRow, registerOf, noEvent}
 use Rattle.schema.proofs.Rows.{length-rows}
 use Rattle.register.specs.Tables.{objectPlace, linkPlace}
 use Rattle.register.proofs.Rows.{place-there}
-use Rattle.events.specs.Effects.{CanInsert, CanChange, CanJoin, CanPart, Can, Applied}
+use Rattle.event_effects.specs.Effects.{CanInsert, CanChange, CanJoin, CanPart, Can, Applied}
 use Rattle.events.specs.Steps.{Ready}
-use Rattle.events.proofs.Fields.{no-event-refused}
-use Rattle.events.proofs.Tests.{test-found, link-present, link-absent}
+use Rattle.event_refusals.proofs.Fields.{no-event-refused}
+use Rattle.event_refusals.proofs.Tests.{test-found, link-present, link-absent}
 
 -- no check of the list is met
 abbrev Unmet : List Check → Type 0

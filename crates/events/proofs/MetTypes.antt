@@ -26,7 +26,7 @@ use Rattle.tables.specs.Columns.{objectRow, noEvent, eventOf}
 use Rattle.register.specs.Tables.{objectsWith, objectPlace}
 use Rattle.register.proofs.Searches.{object-row}
 use Rattle.events.specs.Runs.{objectOf, noType, typeOf, typeIn, metType, metBy, RunLeft}
-use Rattle.events.proofs.Fields.{kind-unknown, kind-set, kind-join, kind-part, is-insert, is-delete, is-special, is-general}
+use Rattle.event_refusals.proofs.Fields.{kind-unknown, kind-set, kind-join, kind-part, is-insert, is-delete, is-special, is-general}
 
 module _ (n : ℕ) (objects : List ℕ) (ls : List Link) (id : ℕ) where
   typed : (o : Option ℕ) → objectPlace n objects id ≡ o → typeIn (objectsWith n objects ls) id ≡ typeOf (Option·map (objectRow objects) o)

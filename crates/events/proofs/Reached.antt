@@ -22,11 +22,11 @@ use Rattle.rows.proofs.Listed.{rows-same}
 use Rattle.tables.specs.Columns.{objectRow, linkRow, registerOf}
 use Rattle.schema.proofs.Rows.{length-rows}
 use Rattle.register.proofs.Changes.{ByWords}
-use Rattle.events.specs.Effects.{Applied}
+use Rattle.event_effects.specs.Effects.{Applied}
 use Rattle.events.specs.Steps.{Ready}
 use Rattle.events.specs.declared.Ran.{Ran}
 use Rattle.events.specs.Runs.{metType, metBy, lentBy, Fit, CanRun, RunLeft, RunDone}
-use Rattle.events.proofs.Applied.{object-by-words, link-by-words}
+use Rattle.event_effects.proofs.Applied.{object-by-words, link-by-words}
 use Rattle.events.proofs.Allowed.{ready-after}
 
 -- ---- copied rows

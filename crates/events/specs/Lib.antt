@@ -1,7 +1,5 @@
 -- Events on the register's tables.
---   Effects   what an event does to a table, and when it can
 --   Steps     one event on tables that fit their schema
 --   Runs      the events of a batch one after the other, and the type that each one's object had
-pub mod Effects
 pub mod Steps
 pub mod Runs

@@ -11,7 +11,7 @@ use Rattle.tables.specs.Columns.{registerOf}
 use Rattle.tables.specs.Refusals.{foundOf}
 use Rattle.tables.specs.declared.Found.{Found}
 use Rattle.tables.specs.declared.Found.the-variants.{Nothing}
-use Rattle.events.specs.Effects.{Applied}
+use Rattle.event_effects.specs.Effects.{Applied}
 
 -- tables that an event can meet: their register fits its schema, and the lent rows are there
 pub record Ready (S : Schema) (lent : Lent) (n : ℕ) (objects : List ℕ) (m : ℕ) (links : List ℕ) : Type 0 where

@@ -1,22 +1,15 @@
-// Document 01's events on the register's tables: the refusals of one event, its effect, both as one step, and the run of a batch.
-mod effects;
-mod refusals;
+// Document 01's events on the register's tables: a refusal or an effect as one step, and the run of a batch.
 mod runs;
 
-pub use effects::effect;
-pub use refusals::refusal;
 pub use runs::run;
+use event_effects::Held;
+use event_effects::row_effect;
+use event_refusals::refusal;
 use tables::Found;
 use tables::Verdict;
 ghost use Prim.Native.Nat.{ℕ};
 ghost use Rattle.tables.specs.Columns.{schemaOf, eventRow};
 ghost use Rattle.events.specs.Steps.{Ready, StepDone};
-
-// How many rows of the register's tables are used.
-pub struct Held {
-    pub objects: u32,
-    pub links: u32,
-}
 
 // The refusal that an event met, if it met one, and the used rows after it.
 pub struct Stepped {
@@ -76,7 +69,7 @@ pub fn step(
             held: held,
         },
         Found::Nothing => {
-            let after = effects::row_effect(
+            let after = row_effect(
                 type_count,
                 types,
                 held,

@@ -1,7 +1,7 @@
 // The events of a batch one after the other, on a copy of the register.
-use crate::Held;
 use crate::Ran;
 use crate::step;
+use event_effects::Held;
 use register::columns;
 use tables::Found;
 use tables::Verdict;

@@ -1,5 +1,5 @@
 // A lent batch: every refusal up to 13 in the table's order, else the events on a copy of the register.
-use events::Held;
+use event_effects::Held;
 use events::Ran;
 use tables::Counts;
 use tables::Verdict;

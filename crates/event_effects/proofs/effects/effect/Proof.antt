@@ -1,0 +1,210 @@
+-- `event_effects::effects::effect` meets its contract: each kind has its own effect, and a row that is no event is refused.
+use Prim.Native.Nat.{ℕ}
+use mathlib.Core.Path.{_≡_, subst}
+use mathlib.Core.List.{List}
+use denote.Ref.{now}
+use Rattle.meaning.specs.Schema.{Schema, Relationship}
+use Rattle.meaning.specs.Events.{Event}
+use Rattle.tables.specs.Columns.{typesOf, eventOf}
+use Rattle.event_effects.specs.Effects.{Can, Applied, ObjectsApplied, LinksApplied}
+use Rattle.event_effects.proofs.Applied.{objects-applied, links-applied, as-applied}
+use Rattle.event_refusals.proofs.Fields.{kind-unknown, kind-set, kind-join, kind-part, is-insert, is-delete, is-special, is-general}
+use borrow.Author.Needs.{needs}
+use Rattle.event_effects.proofs.effects.effect.Statement.{statement}
+use Rattle.event_effects.proofs.effects.effect.Tie as tie
+
+-- ---- before the kinds part
+
+module _ (c : tie.After-slice-known2) where
+  abbrev start : tie.Start
+  start = c .before .before .before
+
+  abbrev S : List Relationship → Schema
+  S rs = record { types = typesOf (start .args .type-count) (now (start .args .types)); relationships = rs }
+
+  abbrev event : Event
+  event = eventOf (start .args .kind) (start .args .x) (start .args .y) (start .args .z)
+
+  abbrev can : Event → Type 0
+  can =
+      Can (typesOf (start .args .type-count) (now (start .args .types))) (start .args .object-count) (now (start .args .objects)) (start .args .link-count)
+      (now (start .args .links))
+
+  -- what the event is allowed, once it is known which it is
+  allowed : {e : Event} → event ≡ e → can e
+  allowed q = subst can q (start .pre .0)
+
+  -- what it has done to one table, and so to both
+  abbrev Done : ℕ → List ℕ → ℕ → List ℕ → Type 0
+  Done n objects m links =
+      (rs : List Relationship)
+      → Applied (S rs) event (start .args .object-count) (now (start .args .objects)) (start .args .link-count) (now (start .args .links)) n objects m links
+
+  on-objects : {e : Event} → event ≡ e → {n : ℕ} {objects : List ℕ} → ((rs : List Relationship) → ObjectsApplied (S rs) e (start .args .object-count) (now (start .args .objects)) n objects)
+      → Done n objects (start .args .link-count) (now (start .args .links))
+  on-objects {e} q done rs =
+      as-applied q
+      (objects-applied (S rs) e (start .args .object-count) (now (start .args .objects)) (start .args .link-count) (now (start .args .links)) (done rs))
+
+  on-links : {e : Event} → event ≡ e → {m : ℕ} {links : List ℕ} → ((rs : List Relationship) → LinksApplied (S rs) e (start .args .link-count) (now (start .args .links)) m links)
+      → Done (start .args .object-count) (now (start .args .objects)) m links
+  on-links {e} q done rs =
+      as-applied q
+      (links-applied (S rs) e (start .args .object-count) (now (start .args .objects)) (start .args .link-count) (now (start .args .links)) (done rs))
+
+-- ---- needs
+
+put-object-requires : tie.Need-put-object-requires
+unfolding Can
+put-object-requires c κs =
+    let at = c .before in
+    let a = start (at .before) .args in
+    allowed (at .before) (is-insert (a .x) (a .y) (a .z) (start (at .before) .pre .1) (at .match .keys1))
+
+take-object-requires : tie.Need-take-object-requires
+unfolding Can
+take-object-requires c κs =
+    let at = c .before in
+    let a = start (at .before) .args in
+    allowed (at .before) (is-delete (a .x) (a .y) (a .z) (start (at .before) .pre .1) (at .match .keys2))
+
+put-cell-requires : tie.Need-put-cell-requires
+unfolding Can
+put-cell-requires c κs =
+    let at = c .before in
+    let a = start (at .before) .args in
+    allowed (at .before) (kind-set (a .x) (a .y) (a .z) (at .match .keys3))
+
+put-link-requires : tie.Need-put-link-requires
+unfolding Can
+put-link-requires c κs =
+    let at = c .before in
+    let a = start (at .before) .args in
+    allowed (at .before) (kind-join (a .x) (a .y) (a .z) (at .match .keys4))
+
+take-link-requires : tie.Need-take-link-requires
+unfolding Can
+take-link-requires c κs =
+    let at = c .before in
+    let a = start (at .before) .args in
+    allowed (at .before) (kind-part (a .x) (a .y) (a .z) (at .match .keys5))
+
+put-type-requires : tie.Need-put-type-requires
+unfolding Can
+put-type-requires c κs =
+    let at = c .before in
+    let a = start (at .before) .args in
+    allowed (at .before) (is-special (a .x) (a .y) (a .z) (start (at .before) .pre .1) (at .match .keys6))
+
+put-higher-type-requires : tie.Need-put-higher-type-requires
+unfolding Can
+put-higher-type-requires c κs =
+    let at = c .before in
+    let a = start (at .before) .args in
+    allowed (at .before) (is-general (a .x) (a .y) (a .z) (start (at .before) .pre .1) (at .match .keys7))
+
+same-length : tie.Need-same-length
+same-length c = search needs
+
+returns : tie.Need-returns
+returns c =
+    let done = c .before .before in
+    let at = done .before .before in
+    let a = start (at .before) .args in
+    on-objects (at .before) (is-insert (a .x) (a .y) (a .z) (start (at .before) .pre .1) (at .match .keys1)) (λ rs. done .put-object .ensures (S (at .before) rs))
+
+same-length-2 : tie.Need-same-length-2
+same-length-2 c = search needs
+
+returns-2 : tie.Need-returns-2
+returns-2 c =
+    let done = c .before .before in
+    let at = done .before .before in
+    let a = start (at .before) .args in
+    on-objects (at .before) (is-delete (a .x) (a .y) (a .z) (start (at .before) .pre .1) (at .match .keys2)) (λ rs. done .take-object .ensures (S (at .before) rs))
+
+same-length-3 : tie.Need-same-length-3
+same-length-3 c = search needs
+
+returns-3 : tie.Need-returns-3
+returns-3 c =
+    let done = c .before .before in
+    let at = done .before .before in
+    let a = start (at .before) .args in
+    on-objects (at .before) (kind-set (a .x) (a .y) (a .z) (at .match .keys3)) (λ rs. done .put-cell .ensures (S (at .before) rs))
+
+same-length-4 : tie.Need-same-length-4
+same-length-4 c = search needs
+
+returns-4 : tie.Need-returns-4
+returns-4 c =
+    let done = c .before .before in
+    let at = done .before .before in
+    let a = start (at .before) .args in
+    on-links (at .before) (kind-join (a .x) (a .y) (a .z) (at .match .keys4)) (λ rs. done .put-link .ensures (S (at .before) rs))
+
+same-length-5 : tie.Need-same-length-5
+same-length-5 c = search needs
+
+returns-5 : tie.Need-returns-5
+returns-5 c =
+    let done = c .before .before in
+    let at = done .before .before in
+    let a = start (at .before) .args in
+    on-links (at .before) (kind-part (a .x) (a .y) (a .z) (at .match .keys5)) (λ rs. done .take-link .ensures (S (at .before) rs))
+
+same-length-6 : tie.Need-same-length-6
+same-length-6 c = search needs
+
+returns-6 : tie.Need-returns-6
+returns-6 c =
+    let done = c .before .before in
+    let at = done .before .before in
+    let a = start (at .before) .args in
+    on-objects (at .before) (is-special (a .x) (a .y) (a .z) (start (at .before) .pre .1) (at .match .keys6)) (λ rs. done .put-type .ensures (S (at .before) rs))
+
+same-length-7 : tie.Need-same-length-7
+same-length-7 c = search needs
+
+returns-7 : tie.Need-returns-7
+returns-7 c =
+    let done = c .before .before in
+    let at = done .before .before in
+    let a = start (at .before) .args in
+    on-objects (at .before) (is-general (a .x) (a .y) (a .z) (start (at .before) .pre .1) (at .match .keys7)) (λ rs. done .put-higher-type .ensures rs)
+
+returns-8 : tie.Need-returns-8
+returns-8 c =
+    let a = start (c .before) .args in
+    let other = c .match .rest in
+    let early = other .0 .0 .0 in
+    absurd
+    (start (c .before) .pre .1
+    (kind-unknown (a .x) (a .y) (a .z) (a .kind) (early .0 .0 .0 .1) (early .0 .0 .1) (early .0 .1) (early .1) (other .0 .0 .1) (other .0 .1) (other .1)))
+
+pub effect-spec : {M : Type 1} → statement M
+effect-spec =
+    tie.close
+    (tie.spec
+    put-object-requires
+    take-object-requires
+    put-cell-requires
+    put-link-requires
+    take-link-requires
+    put-type-requires
+    put-higher-type-requires
+    same-length
+    returns
+    same-length-2
+    returns-2
+    same-length-3
+    returns-3
+    same-length-4
+    returns-4
+    same-length-5
+    returns-5
+    same-length-6
+    returns-6
+    same-length-7
+    returns-7
+    returns-8)

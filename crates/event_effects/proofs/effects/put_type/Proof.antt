@@ -1,0 +1,58 @@
+-- `event_effects::effects::put_type` meets its contract: one word of the row that the search finds is changed.
+use mathlib.Core.Path.{sym, subst, _∙_}
+use denote.Ref.{now}
+use Rattle.meaning.specs.Events.{special}
+use Rattle.schema.proofs.Founds.{found-none, found-some}
+use Rattle.event_effects.specs.Effects.{ObjectsApplied}
+use Rattle.event_effects.proofs.Applied.{type-put}
+use borrow.Author.Needs.{needs}
+use Rattle.event_effects.proofs.effects.put_type.Statement.{statement}
+use Rattle.event_effects.proofs.effects.put_type.Tie as tie
+
+object-row-requires : tie.Need-object-row-requires
+object-row-requires c κs = search needs
+
+enum-known-row : tie.Need-enum-known-row
+enum-known-row c = search needs
+
+put-word-requires : tie.Need-put-word-requires
+put-word-requires c κs = search needs
+
+enum-told : tie.Need-enum-told
+enum-told c = search needs
+
+same-length : tie.Need-same-length
+same-length c = search needs
+
+returns : tie.Need-returns
+returns c =
+    let written = c .before .before in
+    let matched = written .before .before .before in
+    let searched = matched .before .before in
+    let start = searched .before .before .before in
+    let x = start .args in
+    λ S.
+    subst (λ u. ObjectsApplied S (special (x .id) (x .t)) (x .count) (now (x .objects)) (x .count) u) (sym (written .put-word .ensures))
+    (type-put S (x .count) (now (x .objects)) (x .id) (start .pre) _ (found-some _ (sym (matched .row .given .1) ∙ searched .object-row .ensures)) (x .t))
+
+same-length-2 : tie.Need-same-length-2
+same-length-2 c = search needs
+
+returns-2 : tie.Need-returns-2
+returns-2 c =
+    let searched = c .before .before in
+    let start = searched .before .before .before in
+    absurd (start .pre .there (found-none _ (sym (c .enum-told .given .1) ∙ searched .object-row .ensures)))
+
+pub put-type-spec : {M : Type 1} → statement M
+put-type-spec =
+    tie.close
+    (tie.spec
+    object-row-requires
+    enum-known-row
+    put-word-requires
+    enum-told
+    same-length
+    returns
+    same-length-2
+    returns-2)

@@ -1,0 +1,179 @@
+// What an event that is not refused does to the table of objects or of links. Each answers how many rows are used after it.
+use crate::Held;
+use tables::Found;
+ghost use Prim.Native.Nat.{_≤_, _<_};
+ghost use Rattle.meaning.specs.Limits.{cellCount};
+ghost use Rattle.meaning.specs.Schema.{Schema, Relationship, cellsOf};
+ghost use Rattle.meaning.specs.Events.{insert, delete, set, join, part, special, general, linkOf};
+ghost use mathlib.Core.List.{List};
+ghost use Rattle.rows.specs.Rows.{signed};
+ghost use Rattle.tables.specs.Columns.{typesOf, noEvent, eventOf, eventRow};
+ghost use mathlib.Core.Path.{_≡_};
+ghost use Rattle.event_effects.specs.Effects.{Can, Applied, ObjectsApplied, LinksApplied, CanInsert, CanChange, CanJoin, CanPart};
+
+// Insert: a row in the place of the id, with cells 0.
+fn put_object(count: u32, objects: &mut [u32], id: u32, t: u32) -> u32
+    requires { ⌜ CanInsert count (now objects) id ⌝ }
+    ensures { λ r. ⌜ ((S : Schema) → ObjectsApplied S (insert id t) count (now (objects .entry)) r (now (objects .exit))) ⌝ }
+{
+    let key = [id];
+    let at = rows::place(&*objects, 10, count, 1, &key);
+    rows::open_gap(&mut *objects, 10, at, count);
+    let words = [id, t, 0, 0, 0, 0, 0, 0, 0, 0];
+    rows::write_row(&mut *objects, 10, at, &words);
+    count + 1
+}
+
+// Delete: the object's row taken out.
+fn take_object(count: u32, objects: &mut [u32], id: u32) -> u32
+    requires { ⌜ CanChange count (now objects) id ⌝ }
+    ensures { λ r. ⌜ ((S : Schema) → ObjectsApplied S (delete id) count (now (objects .entry)) r (now (objects .exit))) ⌝ }
+{
+    match register::object_row(count, &*objects, id) {
+        Found::At(row) => {
+            rows::close_gap(&mut *objects, 10, row, count);
+            count - 1
+        }
+        Found::Nothing => count,
+    }
+}
+
+// Set: a word in a cell of the object's row.
+fn put_cell(count: u32, objects: &mut [u32], id: u32, cell: u32, word: u32)
+    requires { ⌜ (CanChange count (now objects) id) × (cell < cellCount) ⌝ }
+    ensures { λ _. ⌜ ((S : Schema) → ObjectsApplied S (set id cell (signed word)) count (now (objects .entry)) count (now (objects .exit))) ⌝ }
+{
+    match register::object_row(count, &*objects, id) {
+        Found::At(row) => rows::put_word(&mut *objects, 10, row, 2 + cell, word),
+        Found::Nothing => {}
+    }
+}
+
+// Special: the type in the object's row.
+fn put_type(count: u32, objects: &mut [u32], id: u32, t: u32)
+    requires { ⌜ CanChange count (now objects) id ⌝ }
+    ensures { λ _. ⌜ ((S : Schema) → ObjectsApplied S (special id t) count (now (objects .entry)) count (now (objects .exit))) ⌝ }
+{
+    match register::object_row(count, &*objects, id) {
+        Found::At(row) => rows::put_word(&mut *objects, 10, row, 1, t),
+        Found::Nothing => {}
+    }
+}
+
+// General: the type in the object's row, and 0 in the cells that it lacks.
+fn put_higher_type(type_count: u32, types: &[u32], count: u32, objects: &mut [u32], id: u32, t: u32)
+    requires { ⌜ (CanChange count (now objects) id) × (cellsOf (typesOf «type_count» (now types)) t ≤ cellCount) ⌝ }
+    ensures { λ _. ⌜ ((rs : List Relationship) →
+        ObjectsApplied (record { types = typesOf «type_count» (now (types .entry)); relationships = rs })
+        (general id t) count (now (objects .entry)) count (now (objects .exit))) ⌝ }
+{
+    match register::object_row(count, &*objects, id) {
+        Found::At(row) => {
+            rows::put_word(&mut *objects, 10, row, 1, t);
+            let cells = schema::cells_of(type_count, types, t);
+            rows::clear_columns(&mut *objects, 10, row, 2 + cells);
+        }
+        Found::Nothing => {}
+    }
+}
+
+// Join: a row in the place of the link.
+fn put_link(count: u32, links: &mut [u32], relationship: u32, source: u32, target: u32) -> u32
+    requires { ⌜ CanJoin count (now links) (linkOf relationship source target) ⌝ }
+    ensures { λ r. ⌜ ((S : Schema) →
+        LinksApplied S (join relationship source target) count (now (links .entry)) r (now (links .exit))) ⌝ }
+{
+    let key = [relationship, source, target];
+    let at = rows::place(&*links, 3, count, 3, &key);
+    rows::open_gap(&mut *links, 3, at, count);
+    rows::write_row(&mut *links, 3, at, &key);
+    count + 1
+}
+
+// Part: the link's row taken out.
+fn take_link(count: u32, links: &mut [u32], relationship: u32, source: u32, target: u32) -> u32
+    requires { ⌜ CanPart count (now links) (linkOf relationship source target) ⌝ }
+    ensures { λ r. ⌜ ((S : Schema) →
+        LinksApplied S (part relationship source target) count (now (links .entry)) r (now (links .exit))) ⌝ }
+{
+    match register::link_row(count, &*links, relationship, source, target) {
+        Found::At(row) => {
+            rows::close_gap(&mut *links, 3, row, count);
+            count - 1
+        }
+        Found::Nothing => count,
+    }
+}
+
+// What an event of three fields does to the tables; it answers the used rows after it. The event is one that is not refused.
+pub fn effect(
+    type_count: u32,
+    types: &[u32],
+    object_count: u32,
+    objects: &mut [u32],
+    link_count: u32,
+    links: &mut [u32],
+    kind: u32,
+    x: u32,
+    y: u32,
+    z: u32,
+) -> Held
+    requires { ⌜ (Can (typesOf «type_count» (now types)) «object_count» (now objects) «link_count» (now links) (eventOf kind x y z))
+        × (eventOf kind x y z ≡ noEvent → ⊥) ⌝ }
+    ensures { λ r. ⌜ ((rs : List Relationship) →
+        Applied (record { types = typesOf «type_count» (now (types .entry)); relationships = rs }) (eventOf kind x y z)
+        «object_count» (now (objects .entry)) «link_count» (now (links .entry))
+        (r .objects) (now (objects .exit)) (r .links) (now (links .exit))) ⌝ }
+{
+    let mut n = object_count;
+    let mut m = link_count;
+    match kind {
+        0 => n = put_object(object_count, &mut *objects, x, y),
+        1 => n = take_object(object_count, &mut *objects, x),
+        2 => put_cell(object_count, &mut *objects, x, y, z),
+        3 => m = put_link(link_count, &mut *links, x, y, z),
+        4 => m = take_link(link_count, &mut *links, x, y, z),
+        5 => put_type(object_count, &mut *objects, x, y),
+        6 => put_higher_type(type_count, types, object_count, &mut *objects, x, y),
+        _ => {}
+    }
+    Held {
+        objects: n,
+        links: m,
+    }
+}
+
+// What the event in a row of the table of events does. It is one that is not refused.
+pub fn row_effect(
+    type_count: u32,
+    types: &[u32],
+    held: Held,
+    objects: &mut [u32],
+    links: &mut [u32],
+    events: &[u32],
+    row: u32,
+) -> Held
+    requires { ⌜ (Can (typesOf «type_count» (now types)) (held .objects) (now objects) (held .links) (now links) (eventRow (now events) row))
+        × (eventRow (now events) row ≡ noEvent → ⊥) ⌝ }
+    ensures { λ r. ⌜ ((rs : List Relationship) →
+        Applied (record { types = typesOf «type_count» (now (types .entry)); relationships = rs }) (eventRow (now (events .entry)) row)
+        (held .objects) (now (objects .entry)) (held .links) (now (links .entry))
+        (r .objects) (now (objects .exit)) (r .links) (now (links .exit))) ⌝ }
+{
+    let kind = rows::word(events, 4, row, 0);
+    let x = rows::word(events, 4, row, 1);
+    let y = rows::word(events, 4, row, 2);
+    let z = rows::word(events, 4, row, 3);
+    effect(
+        type_count,
+        types,
+        held.objects,
+        objects,
+        held.links,
+        links,
+        kind,
+        x,
+        y,
+        z,
+    )
+}
