@@ -16,8 +16,8 @@ use Rattle.text.specs.Names.{typeName, relationshipName, ruleName, objectName, 
 use Rattle.text.specs.Entries.{Entry, eventSection, entryIn, tableOf, bodiesOf}
 use Rattle.text.specs.Texts.{maxText, noRoom, Reading, taken, refused, entryThen, lineThen, afterLine, readFrom, reading, filled}
 use Rattle.reader.specs.declared.Outcome.the-variants.{Done, Refused}
-use Rattle.reader.specs.declared.look.Seen.{Seen}
-use Rattle.reader.specs.Looks.{Counted, refusalNumber, Shown}
+use Rattle.reading.specs.declared.look.Seen.{Seen}
+use Rattle.reading.specs.Looks.{Counted, refusalNumber, Shown}
 use Rattle.reader.specs.Reads.{unlessBroken, lentReading, readAnswer, sheetWith, sheetAfter}
 
 -- ---- a refusal has a number

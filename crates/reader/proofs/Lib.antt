@@ -1,10 +1,5 @@
--- That what the reader holds of a line is what the line says.
-pub mod Words
-pub mod Rows
-pub mod Flat
-pub mod Lines
-pub mod Room
-pub mod Looking
+-- That the reader leaves the tables of the lines that the text has.
+--   Filling   the tables while they are filled
+--   Answers   the reader's answer by what was looked at
 pub mod Filling
-pub mod Bodied
 pub mod Answers

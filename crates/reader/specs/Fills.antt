@@ -10,8 +10,8 @@ use Rattle.tables.specs.Layouts.{Sheet, Layout, bodyWords, typeTable, relations
 use Rattle.text.specs.Names.{ruleName}
 use Rattle.text.specs.Bodies.{Written, rowsOf}
 use Rattle.brackets.specs.Whole.{WholeBody, rowsPut}
-use Rattle.reader.specs.declared.line.Row.{Row}
-use Rattle.reader.specs.Rows.{bodyPlace}
+use Rattle.line_reader.specs.declared.line.Row.{Row}
+use Rattle.line_reader.specs.Rows.{bodyPlace}
 
 -- a table with a line's row in its place, where the line is of the table's section; `counts` has the rows of each section before it
 abbrev pub rowPut : Layout → Row → List ℕ → List ℕ → List ℕ

@@ -1,5 +1,5 @@
--- What the reader holds of a line, and what it keeps of the lines before it.
-pub mod Rows
-pub mod Looks
+-- What the reader answers and leaves.
+--   Reads   the answer, and the tables after it
+--   Fills   the tables while they are filled
 pub mod Reads
 pub mod Fills

@@ -1,9 +1,9 @@
 // The rows of a text that was found good, put into the tables.
-use crate::line::Row;
-use crate::line::body_place;
-use crate::line::read_line;
-use crate::look::more_cells;
-use crate::look::more_rows;
+use line_reader::line::Row;
+use line_reader::line::body_place;
+use line_reader::line::read_line;
+use reading::look::more_cells;
+use reading::look::more_rows;
 use tables::EVENT_WIDTH;
 use tables::LINK_WIDTH;
 use tables::OBJECT_WIDTH;
@@ -23,7 +23,7 @@ ghost use Rattle.text.specs.Bodies.{Written, rowsOf};
 ghost use Rattle.text.specs.Entries.{Entry};
 ghost use Rattle.text.specs.Texts.{maxText, taken, reading, filled};
 ghost use Rattle.brackets.specs.Whole.{WholeBody, rowsPut};
-ghost use Rattle.reader.specs.Rows.{bodyPlace};
+ghost use Rattle.line_reader.specs.Rows.{bodyPlace};
 ghost use Rattle.reader.specs.Reads.{lentReading, sheetWith, sheetAfter};
 ghost use Rattle.reader.specs.Fills.{LinePut};
 

@@ -1,7 +1,8 @@
 // Text to tables. The whole text is looked through before a row is written.
-use line::or;
-use look::lesser;
+use line_reader::line::or;
 use meaning::MAX_FORMS;
+use reading::look;
+use reading::look::lesser;
 use tables::BODY_WIDTH;
 use tables::Counts;
 use tables::EVENT_WIDTH;
@@ -18,8 +19,6 @@ ghost use Rattle.tables.specs.Refusals.{notWhole};
 ghost use Rattle.reader.specs.Reads.{lentReading, readAnswer, sheetAfter};
 
 mod fill;
-mod line;
-mod look;
 
 // What a read says: how many rows each table has, or a refusal's number and its line, 0 for the text's length and for the tables.
 pub enum Outcome {

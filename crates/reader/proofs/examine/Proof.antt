@@ -9,7 +9,7 @@ use Rattle.tables.specs.Layouts.{Sheet, sheetOf, layouts, linesLent}
 use Rattle.tables.specs.Refusals.{notWhole}
 use Rattle.text.specs.Entries.{Entry}
 use Rattle.text.specs.Texts.{taken, reading}
-use Rattle.reader.specs.Looks.{Shown}
+use Rattle.reading.specs.Looks.{Shown}
 use Rattle.reader.specs.Reads.{lentReading, readAnswer}
 use Rattle.reader.proofs.Answers.{too-long, refusal, is-taken, unless-broken, refused-so, done-so}
 use Rattle.reader.proofs.examine.Statement.{statement}

@@ -7,8 +7,8 @@ use native.Mathlib.Omega.{arith}
 use borrow.Author.Needs.{needs}
 use Rattle.tables.specs.Layouts.{Sheet, sheetOf}
 use Rattle.text.specs.Entries.{entryIn}
-use Rattle.reader.specs.Rows.{rowHeld}
-use Rattle.reader.proofs.Looking.{look-follows, line-short, end-within}
+use Rattle.line_reader.specs.Rows.{rowHeld}
+use Rattle.reading.proofs.Looking.{look-follows, line-short, end-within}
 use Rattle.reader.proofs.Filling.{Filling, fill-starts, fill-ends, fill-section, fill-count, fill-body, fill-body-room, fill-goes-on}
 use Rattle.reader.proofs.fill.put_lines.Statement.{statement}
 use Rattle.reader.proofs.fill.put_lines.Tie as tie
