@@ -10,7 +10,7 @@ use lib.ListN.{length, take, drop}
 use lib.Seq.{take-at}
 use Rattle.lexical.specs.Writing.{written}
 use Rattle.lexical.proofs.Writing.{fits-place, over-place, text-is}
-use Rattle.writer.specs.Put.{Put}
+use Rattle.line_writer.specs.Put.{Put}
 use Rattle.writer.specs.Answers.{Answered, textRefusal, bytesAfter}
 use Rattle.writer.specs.declared.Written.the-variants.{Done, Refused}
 

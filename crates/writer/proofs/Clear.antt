@@ -14,7 +14,7 @@ use Rattle.tables.specs.declared.Verdict.the-variants as Verdict
 use Rattle.text.specs.Sheets.{textOf}
 use Rattle.checks.specs.Given.{Given, EventsLent, EventsKnown}
 use Rattle.checks.proofs.Given.{clear-none, given-sheet}
-use Rattle.writer.specs.Lines.{sheetText}
+use Rattle.line_writer.specs.Lines.{sheetText}
 use Rattle.writer.specs.Answers.{writeAnswer, Answered, textRefusal, writerRefusal, bytesAfter, answerFor, bytesLeft}
 use Rattle.writer.specs.declared.Written.{Written}
 use Rattle.writer.specs.declared.Written.the-variants.{Refused}

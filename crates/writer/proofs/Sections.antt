@@ -7,7 +7,7 @@ use native.Mathlib.Omega.{arith}
 use Rattle.tables.specs.Layouts.{Sheet, sectionCount}
 use Rattle.tables.specs.declared.Counts.{Counts}
 use Rattle.checks.specs.Given.{Given, EventsLent, EventsKnown}
-use Rattle.writer.specs.Lines.{Fit, rowsIn, linesOf}
+use Rattle.line_writer.specs.Lines.{Fit, rowsIn, linesOf}
 
 pub lines-none : (line : ℕ → List ℕ) → linesOf line 0 ≡ []
 unfolding linesOf

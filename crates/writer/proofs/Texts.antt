@@ -18,8 +18,8 @@ use Rattle.text.specs.Texts.{spellFrom, spelled}
 use Rattle.text.specs.Sheets.{wordsAt, rowEntry, ruleEntry, entriesOf, textOf}
 use Rattle.text.proofs.Blocks.{count-append, table-append, count-block, table-other}
 use Rattle.checks.specs.Given.{Given, EventsLent, EventsKnown}
-use Rattle.writer.specs.Lines.{rowLine, typeLine, relationshipLine, ruleLine, cellsFor, objectLine, linkLine, eventLine, lineOf, rowsIn, linesOf, sectionText, sheetText}
-use Rattle.writer.proofs.Spellings.{few-fields}
+use Rattle.line_writer.specs.Lines.{rowLine, typeLine, relationshipLine, ruleLine, cellsFor, objectLine, linkLine, eventLine, lineOf, rowsIn, linesOf, sectionText, sheetText}
+use Rattle.line_writer.proofs.Spellings.{few-fields}
 
 -- ---- the text of entries after entries
 

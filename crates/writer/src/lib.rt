@@ -1,10 +1,8 @@
 // The writer: lent tables as their one text.
+use line_writer::lines;
 use tables::Counts;
 use tables::Found;
 use tables::Verdict;
-
-mod lines;
-mod pieces;
 
 ghost use mathlib.Core.Path.{_≡_};
 ghost use mathlib.Core.List.{List};
@@ -13,8 +11,8 @@ ghost use lib.ListN.{length};
 ghost use Rattle.tables.specs.Layouts.{sheetOf, sectionCount};
 ghost use Rattle.tables.specs.Refusals.{verdictOf, sheetRefusal};
 ghost use Rattle.checks.specs.Given.{Given, EventsLent, EventsKnown};
-ghost use Rattle.writer.specs.Put.{Put};
-ghost use Rattle.writer.specs.Lines.{Fit, lineOf, rowsIn, linesOf, sheetText};
+ghost use Rattle.line_writer.specs.Put.{Put};
+ghost use Rattle.line_writer.specs.Lines.{Fit, lineOf, rowsIn, linesOf, sheetText};
 ghost use Rattle.writer.specs.Answers.{Answered, textRefusal, answerFor, bytesLeft};
 
 // How many bytes were written, or a refusal's number and place.

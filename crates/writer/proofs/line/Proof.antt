@@ -2,8 +2,8 @@
 use Prim.Native.Nat.{ℕ}
 use mathlib.Core.Path.{_≡_, sym, ap}
 use Rattle.tables.specs.Layouts.{Sheet, sheetOf}
-use Rattle.writer.specs.Lines.{lineOf}
-use Rattle.writer.proofs.Puts.{put-as}
+use Rattle.line_writer.specs.Lines.{lineOf}
+use Rattle.line_writer.proofs.Puts.{put-as}
 use Rattle.writer.proofs.Sections.{last-section}
 use borrow.Author.Needs.{needs}
 use Rattle.writer.proofs.line.Statement.{statement}

@@ -1,6 +1,6 @@
 -- `writer::rows_in` meets its contract: the counts stand in the order of their sections.
 use mathlib.Core.Path.{refl}
-use Rattle.writer.specs.Lines.{rowsIn}
+use Rattle.line_writer.specs.Lines.{rowsIn}
 use borrow.Author.Needs.{needs}
 use Rattle.writer.proofs.rows_in.Statement.{statement}
 use Rattle.writer.proofs.rows_in.Tie as tie

@@ -3,9 +3,9 @@ use Prim.Native.Nat.{_-_, _≤_}
 use mathlib.Core.Path.{_≡_, sym, ap}
 use native.Mathlib.Omega.{arith}
 use Rattle.tables.specs.Layouts.{Sheet, sheetOf}
-use Rattle.writer.specs.Put.{Put}
-use Rattle.writer.specs.Lines.{lineOf, linesOf}
-use Rattle.writer.proofs.Puts.{put-nothing, put-then, put-as}
+use Rattle.line_writer.specs.Put.{Put}
+use Rattle.line_writer.specs.Lines.{lineOf, linesOf}
+use Rattle.line_writer.proofs.Puts.{put-nothing, put-then, put-as}
 use Rattle.writer.proofs.Sections.{lines-none, lines-more}
 use borrow.Author.Needs.{needs}
 use Rattle.writer.proofs.section_lines.Statement.{statement}

@@ -4,9 +4,9 @@ use mathlib.Core.Path.{_≡_, sym, ap, subst, _∙_}
 use mathlib.Core.List.{_++_}
 use native.Mathlib.Omega.{arith}
 use Rattle.tables.specs.Layouts.{Sheet, sheetOf}
-use Rattle.writer.specs.Put.{Put}
-use Rattle.writer.specs.Lines.{lineOf, linesOf, sectionText, sheetText}
-use Rattle.writer.proofs.Puts.{put-nothing, put-then, put-as, put-within}
+use Rattle.line_writer.specs.Put.{Put}
+use Rattle.line_writer.specs.Lines.{lineOf, linesOf, sectionText, sheetText}
+use Rattle.line_writer.proofs.Puts.{put-nothing, put-then, put-as, put-within}
 use Rattle.writer.proofs.Sections.{lines-none, lines-more, sound-fit}
 use borrow.Author.Needs.{needs}
 use Rattle.writer.proofs.text.Statement.{statement}
