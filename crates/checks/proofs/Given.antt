@@ -35,7 +35,7 @@ use Rattle.schema.proofs.Types.{type-known, cells-used}
 use Rattle.book.specs.Marks.{bodyOf}
 use Rattle.checks.specs.Given.{Given, EventsLent, EventsKnown}
 use Rattle.checks.proofs.Stages.{over, torn, others-decide}
-use Rattle.checks.proofs.Known.{kind-known}
+use Rattle.known_events.proofs.Known.{kind-known}
 
 pub clear-none : (o : Option Refusal) → Clear ≡ verdictOf o → o ≡ none
 clear-none none e = refl

@@ -26,8 +26,6 @@ ghost use Rattle.tables.specs.Columns.{bookOf, registerIn};
 ghost use Rattle.tables.specs.Refusals.{overfull, anyOverfull, anyLong, notWhole, lentRefusal, refusalOf, verdictOf};
 ghost use Rattle.checks.specs.Stages.{staged};
 
-pub mod events;
-
 // 2: whether more rows are used than the limit allows or the slice has.
 fn too_many(t: &[u32], width: u32, used: usize, limit: u32) -> bool
     ensures { λ r. ⌜ r ≡ overfull (now (t .entry)) width used limit ⌝ }

@@ -1,4 +1,8 @@
 // Refusals 7 to 13: the first that an event meets, in the table's order, on the register that it meets.
+use known_events::known_cell;
+use known_events::known_link;
+use known_events::known_type;
+use known_events::valid_id;
 use register::columns;
 use tables::Found;
 ghost use mathlib.Core.Path.{_≡_};
@@ -14,16 +18,6 @@ ghost use Rattle.tables.specs.Columns.{typesOf, relationshipsOf, schemaOf, regi
 ghost use Rattle.rows.specs.Rows.{signed};
 ghost use Rattle.tables.specs.Refusals.{foundOf};
 ghost use Rattle.register.specs.Tables.{objectsWith, linksWith, ObjectsAscend, LinksAscend};
-
-// Whether an id is one of 1 to 65,535.
-fn valid_id(id: u32) -> bool
-    ensures { λ r. ⌜ r ≡ validId id ⌝ }
-{
-    if id == 0 {
-        return false;
-    }
-    id <= meaning::MAX_ID
-}
 
 // Whether no row is left below the limit and the lent rows.
 fn full(limit: u32, lent: usize, used: u32) -> bool
@@ -227,39 +221,6 @@ fn type_needed(
         row += 1;
     }
     false
-}
-
-// 7: whether an id and a type are known.
-fn known_type(type_count: u32, id: u32, t: u32) -> bool
-    ensures { λ r. ⌜ ((types : List ℕ) → r ≡ (validId id && knownType (typesOf «type_count» types) t)) ⌝ }
-{
-    if valid_id(id) { t < type_count } else { false }
-}
-
-// 7: whether a relationship and two ids are known.
-fn known_link(relationship_count: u32, relationship: u32, source: u32, target: u32) -> bool
-    ensures { λ r. ⌜ ((relationships : List ℕ) →
-        r ≡ (knownRelationship (relationshipsOf «relationship_count» relationships) relationship && validId source && validId target)) ⌝ }
-{
-    if relationship >= relationship_count {
-        return false;
-    }
-    if valid_id(source) {
-        valid_id(target)
-    } else {
-        false
-    }
-}
-
-// 7: whether an id and a cell are known.
-fn known_cell(id: u32, cell: u32) -> bool
-    ensures { λ r. ⌜ ((word : ℕ) → r ≡ (validId id && ltb cell cellCount && fitsWord (signed word))) ⌝ }
-{
-    if valid_id(id) {
-        cell < meaning::CELLS
-    } else {
-        false
-    }
 }
 
 // Whether the objects of two ids are there.

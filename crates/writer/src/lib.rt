@@ -188,7 +188,7 @@ fn refused(
         false,
     ) {
         Verdict::Refused(number, place) => Verdict::Refused(number, place),
-        Verdict::Clear => match checks::events::first_unknown(n, events) {
+        Verdict::Clear => match known_events::first_unknown(n, events) {
             Found::At(place) => Verdict::Refused(7, place),
             Found::Nothing => Verdict::Clear,
         },

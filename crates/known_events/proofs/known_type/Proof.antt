@@ -1,8 +1,8 @@
--- `event_refusals::refusals::known_type` meets its contract.
+-- `known_events::known_type` meets its contract.
 use Rattle.schema.proofs.Types.{type-known}
 use borrow.Author.Needs.{needs}
-use Rattle.event_refusals.proofs.refusals.known_type.Statement.{statement}
-use Rattle.event_refusals.proofs.refusals.known_type.Tie as tie
+use Rattle.known_events.proofs.known_type.Statement.{statement}
+use Rattle.known_events.proofs.known_type.Tie as tie
 
 valid-id-requires : tie.Need-valid-id-requires
 valid-id-requires c κs = search needs

@@ -1,9 +1,9 @@
--- `event_refusals::refusals::known_link` meets its contract.
+-- `known_events::known_link` meets its contract.
 use borrow.Author.Tests.{lt-ltb, le-ltb}
 use Rattle.schema.proofs.Types.{relationship-known}
 use borrow.Author.Needs.{needs}
-use Rattle.event_refusals.proofs.refusals.known_link.Statement.{statement}
-use Rattle.event_refusals.proofs.refusals.known_link.Tie as tie
+use Rattle.known_events.proofs.known_link.Statement.{statement}
+use Rattle.known_events.proofs.known_link.Tie as tie
 
 returns : tie.Need-returns
 returns c = λ relationships. simp (relationship-known, le-ltb _ _ (c .if1 .taken))

@@ -1,4 +1,4 @@
--- `checks::events::first_unknown` meets its contract. The invariant: the events before `row` are passed.
+-- `known_events::first_unknown` meets its contract. The invariant: the events before `row` are passed.
 use Prim.Native.Nat.{ℕ, _-_}
 use mathlib.Core.Path.{sym, ap, _∙_}
 use mathlib.Core.Bool.{not}
@@ -9,8 +9,8 @@ use Rattle.tables.specs.Columns.{schemaOf, eventRow}
 use Rattle.schema.proofs.Scan.{Passed, passed-none, passed-more, passed-found, passed-all}
 use Rattle.tables.specs.Refusals.{eventFault}
 use borrow.Author.Needs.{needs}
-use Rattle.checks.proofs.events.first_unknown.Statement.{statement}
-use Rattle.checks.proofs.events.first_unknown.Tie as tie
+use Rattle.known_events.proofs.first_unknown.Statement.{statement}
+use Rattle.known_events.proofs.first_unknown.Tie as tie
 
 abbrev Inv-loop : tie.InvT-loop
 Inv-loop n events used row₀ row =

@@ -1,4 +1,4 @@
--- `event_refusals::refusals::known_cell` meets its contract: a signed word fits.
+-- `known_events::known_cell` meets its contract: a signed word fits.
 use Prim.Native.Nat.{_^_}
 use mathlib.Core.Bool.{and-true}
 use borrow.Author.Tests.{lt-ltb}
@@ -7,8 +7,8 @@ use Rattle.meaning.specs.Limits.{fitsWord}
 use Rattle.rows.specs.Rows.{signed}
 use Rattle.rows.proofs.Words.{signed-fits}
 use borrow.Author.Needs.{needs}
-use Rattle.event_refusals.proofs.refusals.known_cell.Statement.{statement}
-use Rattle.event_refusals.proofs.refusals.known_cell.Tie as tie
+use Rattle.known_events.proofs.known_cell.Statement.{statement}
+use Rattle.known_events.proofs.known_cell.Tie as tie
 
 valid-id-requires : tie.Need-valid-id-requires
 valid-id-requires c κs = search needs

@@ -1,9 +1,9 @@
--- `checks::events::alone` meets its contract.
+-- `known_events::alone` meets its contract.
 use mathlib.Core.Path.{sym, _∙_}
 use borrow.Author.Tests.{eq-eqb, ne-eqb}
 use borrow.Author.Needs.{needs}
-use Rattle.checks.proofs.events.alone.Statement.{statement}
-use Rattle.checks.proofs.events.alone.Tie as tie
+use Rattle.known_events.proofs.alone.Statement.{statement}
+use Rattle.known_events.proofs.alone.Tie as tie
 
 returns : tie.Need-returns
 returns c = sym (rw (ne-eqb (c .before .args .y) 0 (c .if1 .taken)))

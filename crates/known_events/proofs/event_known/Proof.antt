@@ -1,13 +1,13 @@
--- `checks::events::event_known` meets its contract, by the laws of Known.
+-- `known_events::event_known` meets its contract, by the laws of Known.
 use native.Mathlib.Omega.{arith}
 use mathlib.Core.Path.{_≡_, _∙_}
 use Rattle.meaning.specs.Schema.{Schema}
 use Rattle.meaning.specs.Events.{knownEvent}
 use Rattle.tables.specs.Columns.{eventOf, eventRow, schemaOf}
-use Rattle.checks.proofs.Known.{unknown-kind, known-delete, known-set, known-join, known-part, known-typed}
+use Rattle.known_events.proofs.Known.{unknown-kind, known-delete, known-set, known-join, known-part, known-typed}
 use borrow.Author.Needs.{needs}
-use Rattle.checks.proofs.events.event_known.Statement.{statement}
-use Rattle.checks.proofs.events.event_known.Tie as tie
+use Rattle.known_events.proofs.event_known.Statement.{statement}
+use Rattle.known_events.proofs.event_known.Tie as tie
 
 word-requires : tie.Need-word-requires
 word-requires c κs = search needs
@@ -48,32 +48,32 @@ returns-2 c = λ types relationships.
     let n = words .before .before .before .before .before .args .n in
     c .alone .ensures ∙ known-delete (n .types) types (n .relationships) relationships _ _ _ _ (c .before .if2 .taken) ∙ read words _
 
-with-cell-requires : tie.Need-with-cell-requires
-with-cell-requires c κs = search needs
+known-cell-requires : tie.Need-known-cell-requires
+known-cell-requires c κs = search needs
 
 returns-3 : tie.Need-returns-3
 returns-3 c = λ types relationships.
     let words = c .before .before .before .before in
     let n = words .before .before .before .before .before .args .n in
-    c .with-cell .ensures ∙ known-set (n .types) types (n .relationships) relationships _ _ _ _ (c .before .if3 .taken) ∙ read words _
+    c .known-cell .ensures (words .word4 .result) ∙ known-set (n .types) types (n .relationships) relationships _ _ _ _ (c .before .if3 .taken) ∙ read words _
 
-with-ends-requires : tie.Need-with-ends-requires
-with-ends-requires c κs = search needs
+known-link-requires : tie.Need-known-link-requires
+known-link-requires c κs = search needs
 
 returns-4 : tie.Need-returns-4
 returns-4 c = λ types relationships.
     let words = c .before .before .before .before .before in
     let n = words .before .before .before .before .before .args .n in
-    c .with-ends .ensures ∙ known-join (n .types) types (n .relationships) relationships _ _ _ _ (c .before .if4 .taken) ∙ read words _
+    c .known-link .ensures relationships ∙ known-join (n .types) types (n .relationships) relationships _ _ _ _ (c .before .if4 .taken) ∙ read words _
 
-with-ends-requires-2 : tie.Need-with-ends-requires-2
-with-ends-requires-2 c κs = search needs
+known-link-requires-2 : tie.Need-known-link-requires-2
+known-link-requires-2 c κs = search needs
 
 returns-5 : tie.Need-returns-5
 returns-5 c = λ types relationships.
     let words = c .before .before .before .before .before .before in
     let n = words .before .before .before .before .before .args .n in
-    c .with-ends2 .ensures ∙ known-part (n .types) types (n .relationships) relationships _ _ _ _ (c .before .if5 .taken) ∙ read words _
+    c .known-link2 .ensures relationships ∙ known-part (n .types) types (n .relationships) relationships _ _ _ _ (c .before .if5 .taken) ∙ read words _
 
 with-type-requires : tie.Need-with-type-requires
 with-type-requires c κs = search needs
@@ -82,7 +82,7 @@ returns-6 : tie.Need-returns-6
 returns-6 c = λ types relationships.
     let words = c .before .before .before .before .before .before in
     let n = words .before .before .before .before .before .args .n in
-    c .with-type .ensures
+    c .with-type .ensures types
     ∙ known-typed (n .types) types (n .relationships) relationships _ _ _ _ (omega arith)
     (c .before .before .before .before .if2 .left) (c .before .before .before .if3 .left) (c .before .before .if4 .left) (c .before .if5 .left)
     ∙ read words _
@@ -98,11 +98,11 @@ event-known-spec =
     returns
     alone-requires
     returns-2
-    with-cell-requires
+    known-cell-requires
     returns-3
-    with-ends-requires
+    known-link-requires
     returns-4
-    with-ends-requires-2
+    known-link-requires-2
     returns-5
     with-type-requires
     returns-6)

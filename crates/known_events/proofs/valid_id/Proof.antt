@@ -1,9 +1,9 @@
--- `event_refusals::refusals::valid_id` meets its contract.
+-- `known_events::valid_id` meets its contract.
 use borrow.Author.Tests.{le-leb, lt-leb}
 use native.Mathlib.Omega.{arith}
 use Rattle.meaning.specs.Limits.{validId}
-use Rattle.event_refusals.proofs.refusals.valid_id.Statement.{statement}
-use Rattle.event_refusals.proofs.refusals.valid_id.Tie as tie
+use Rattle.known_events.proofs.valid_id.Statement.{statement}
+use Rattle.known_events.proofs.valid_id.Tie as tie
 
 returns : tie.Need-returns
 unfolding validId
