@@ -11,8 +11,8 @@ use Rattle.reader.specs.declared.Outcome.the-variants as Outcomes
 use Rattle.tables.specs.Refusals.{verdictOf}
 use Rattle.tables.specs.declared.Counts.{Counts}
 use Rattle.tables.specs.declared.Verdict.the-variants.{Clear, Refused}
-use Rattle.full.specs.Answers.{answerOf}
-use Rattle.full.specs.declared.Answer.the-variants as Answers
+use Rattle.tables.specs.Answers.{answerOf}
+use Rattle.tables.specs.declared.Answer.the-variants as Answers
 use Rattle.exports.specs.Coded.{coded, answerWords, readWords}
 
 pub coded-clear : (o : Option Refusal) → Clear ≡ verdictOf o → coded o ≡ 0

@@ -1,7 +1,7 @@
 // What Rust and C programs link: the checker's entries over pointers and numbers.
 mod runs;
 
-use full::Answer;
+use tables::Answer;
 use reader::Outcome;
 use tables::Counts;
 use tables::Verdict;

@@ -13,10 +13,11 @@ use Rattle.tables.specs.Refusals.{verdictOf, tableRefusal, refusalOf, lentRefus
 use Rattle.tables.specs.declared.Counts.{Counts}
 use Rattle.tables.specs.declared.Verdict.the-variants.{Clear, Refused}
 use Rattle.checks.proofs.Given.{clear-none}
-use Rattle.full.specs.Answers.{answerOf, lentAnswer}
-use Rattle.full.specs.Search.{found}
-use Rattle.full.specs.declared.Answer.{Answer}
-use Rattle.full.specs.declared.Answer.the-variants as Answers
+use Rattle.full.specs.Answers.{lentAnswer}
+use Rattle.tables.specs.Answers.{answerOf}
+use Rattle.full_search.specs.Search.{found}
+use Rattle.tables.specs.declared.Answer.{Answer}
+use Rattle.tables.specs.declared.Answer.the-variants as Answers
 
 -- ---- an answer unless a refusal is met
 

@@ -21,9 +21,10 @@ use Rattle.tables.specs.declared.Counts.{Counts}
 use Rattle.tables.specs.declared.Verdict.{Verdict}
 use Rattle.tables.specs.declared.Verdict.the-variants.{Clear, Refused}
 use Rattle.schema.proofs.Rows.{length-rows}
-use Rattle.full.specs.Answers.{answerOf, lentRefusalFor, lentAnswerAt, lacking, verdictFor}
-use Rattle.full.specs.Search.{brokenIn}
-use Rattle.full.specs.declared.Answer.the-variants as Answers
+use Rattle.full.specs.Answers.{lentRefusalFor, lentAnswerAt, lacking, verdictFor}
+use Rattle.tables.specs.Answers.{answerOf}
+use Rattle.full_search.specs.Search.{brokenIn}
+use Rattle.tables.specs.declared.Answer.the-variants as Answers
 use Rattle.full.proofs.Answers.{refused-answer, clear-answer}
 
 -- 5 alone comes after a lacked rule

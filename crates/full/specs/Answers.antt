@@ -8,21 +8,13 @@ use Rattle.meaning.specs.Lists.{firstOf}
 use Rattle.meaning.specs.Events.{Refusal}
 use Rattle.meaning.specs.Reach.{pairOf}
 use Rattle.meaning.specs.Answers as Meaning
-use Rattle.meaning.specs.Answers.{accepted, brokenAt, refused, refusalFor, unlessRefused, firstBroken, fullCheck}
+use Rattle.meaning.specs.Answers.{refusalFor, unlessRefused, firstBroken, fullCheck}
 use Rattle.tables.specs.Layouts.{Sheet, bookTables}
 use Rattle.tables.specs.Columns.{bookOf, registerIn}
 use Rattle.tables.specs.Refusals.{tableRefusal}
 use Rattle.tables.specs.declared.Counts.{Counts}
 use Rattle.tables.specs.declared.Verdict.{Verdict}
 use Rattle.tables.specs.declared.Verdict.the-variants as Verdict
-use Rattle.full.specs.declared.Answer.{Answer}
-use Rattle.full.specs.declared.Answer.the-variants.{Accepted, Broken, Refused}
-
--- an answer, as the code gives it
-abbrev pub answerOf : Meaning.Answer → Answer
-answerOf accepted = Accepted
-answerOf (brokenAt rule id) = Broken rule id
-answerOf (refused number place) = Refused number place
 
 -- The full check of the book and the register that the tables hold, after refusals 2 and 6 of the tables themselves.
 unfoldable pub lentAnswer : Counts → Sheet → Meaning.Answer

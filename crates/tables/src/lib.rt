@@ -36,3 +36,10 @@ pub enum Verdict {
     Clear,
     Refused(u32, u32),
 }
+
+// What a check says: accepted, the first broken rule and object, or a refusal's number and place.
+pub enum Answer {
+    Accepted,
+    Broken(u32, u32),
+    Refused(u32, u32),
+}

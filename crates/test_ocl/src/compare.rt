@@ -8,7 +8,7 @@ use crate::tally::of;
 use crate::words::word;
 use crate::world;
 use cases::sheet;
-use full::Answer;
+use tables::Answer;
 use tables::Counts;
 
 type World = [u64; 264];

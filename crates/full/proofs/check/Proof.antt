@@ -4,7 +4,7 @@ use denote.Ref.{now}
 use borrow.Author.Needs.{needs}
 use mathlib.Core.List.{[]}
 use Rattle.tables.specs.Layouts.{sheetOf}
-use Rattle.full.proofs.Given.{register-fits, can-index, zeros}
+use Rattle.full_search.proofs.Given.{register-fits, can-index, zeros}
 use Rattle.checks.proofs.Given.{clear-none}
 use Rattle.full.proofs.Answers.{answer-refused, answer-found}
 use Rattle.full.proofs.check.Statement.{statement}

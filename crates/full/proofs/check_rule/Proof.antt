@@ -5,7 +5,7 @@ use borrow.Author.Needs.{needs}
 use mathlib.Core.List.{[]}
 use Rattle.tables.specs.Layouts.{sheetOf}
 use Rattle.full.specs.Answers.{verdictFor}
-use Rattle.full.proofs.Given.{register-fits, can-index, zeros}
+use Rattle.full_search.proofs.Given.{register-fits, can-index, zeros}
 use Rattle.checks.proofs.Given.{clear-none}
 use Rattle.full.proofs.Rules.{known-rule, clear-before, rule-refused, rule-broken, rule-accepted}
 use Rattle.full.proofs.check_rule.Statement.{statement}

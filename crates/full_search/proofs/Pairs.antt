@@ -26,10 +26,10 @@ use Rattle.ocl.specs.Values.{truthOf}
 use Rattle.ocl.specs.Walks.{instancesFrom}
 use Rattle.ocl.proofs.Objects.{under-in, from-start, one-row, none-left}
 use Rattle.ocl.proofs.Bodies.{body-is}
-use Rattle.full.specs.Answers.{answerOf}
-use Rattle.full.specs.Search.{found, brokenIn, brokenRow, Clear}
-use Rattle.full.specs.declared.Answer.the-variants.{Accepted, Broken}
-use Rattle.full.proofs.Given.{rule-there, typed}
+use Rattle.tables.specs.Answers.{answerOf}
+use Rattle.full_search.specs.Search.{found, brokenIn, brokenRow, Clear}
+use Rattle.tables.specs.declared.Answer.the-variants.{Accepted, Broken}
+use Rattle.full_search.proofs.Given.{rule-there, typed}
 
 -- the pairs of a rule from a row on, and those of the rules after it
 first-pair : (test : Pair → Bool) (rule x : ℕ) (u held : Bool) (rest : List ℕ) (more : List Pair) → (u ≡ true → test (pairOf rule x) ≡ not held) →

@@ -26,7 +26,7 @@ use Rattle.checks.proofs.Given.{given}
 use Rattle.ocl.specs.Site.{Site, siteOf, rowsAt}
 use Rattle.ocl.specs.Ready.{BodyReady}
 use Rattle.ocl.proofs.Bodies.{body-few, body-ready}
-use Rattle.full.specs.Search.{Clear}
+use Rattle.full_search.specs.Search.{Clear}
 
 module _ (n : Counts) (s : Sheet) (clear : lentRefusal n s false ≡ none) where
   known : Given n s

@@ -1,12 +1,12 @@
--- `full::breaks` meets its contract.
+-- `full_search::breaks` meets its contract.
 use mathlib.Core.Path.{_≡_, sym, ap, _∙_}
 use mathlib.Core.Bool.{not}
 use denote.Ref.{now}
 use Rattle.meaning.specs.Schema.{under as underType}
 use Rattle.tables.specs.Columns.{typesOf}
-use Rattle.full.specs.Search.{brokenRow}
-use Rattle.full.proofs.breaks.Statement.{statement}
-use Rattle.full.proofs.breaks.Tie as tie
+use Rattle.full_search.specs.Search.{brokenRow}
+use Rattle.full_search.proofs.breaks.Statement.{statement}
+use Rattle.full_search.proofs.breaks.Tie as tie
 
 type-of-requires : tie.Need-type-of-requires
 type-of-requires c κs = tt

@@ -1,12 +1,12 @@
--- `full::breaks_at` meets its contract: the row of the id, if it has one, and the pair there.
+-- `full_search::breaks_at` meets its contract: the row of the id, if it has one, and the pair there.
 use mathlib.Core.Path.{refl, sym, _∙_}
 use borrow.Author.Needs.{needs}
 use Rattle.schema.proofs.Founds as Founds
 use Rattle.register.proofs.Rows.{place-row}
-use Rattle.full.proofs.Given.{size-few, rule-ready}
-use Rattle.full.proofs.Pairs.{found-row, found-none}
-use Rattle.full.proofs.breaks_at.Statement.{statement}
-use Rattle.full.proofs.breaks_at.Tie as tie
+use Rattle.full_search.proofs.Given.{size-few, rule-ready}
+use Rattle.full_search.proofs.Pairs.{found-row, found-none}
+use Rattle.full_search.proofs.breaks_at.Statement.{statement}
+use Rattle.full_search.proofs.breaks_at.Tie as tie
 
 object-row-requires : tie.Need-object-row-requires
 object-row-requires c κs =

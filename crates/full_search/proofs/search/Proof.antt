@@ -1,15 +1,15 @@
--- `full::search` meets its contract. The invariants: no broken pair stands before the rule, or before the row of the rule.
+-- `full_search::search` meets its contract. The invariants: no broken pair stands before the rule, or before the row of the rule.
 use Prim.Native.Nat.{_-_}
 use mathlib.Core.Path.{_≡_, refl, _∙_}
 use native.Mathlib.Omega.{arith}
 use borrow.Author.Needs.{needs}
 use mathlib.Core.List.{[]}
 use Rattle.tables.specs.Layouts.{sheetOf}
-use Rattle.full.specs.declared.Answer.the-variants.{Accepted}
-use Rattle.full.proofs.Given.{size-few, rule-ready}
-use Rattle.full.proofs.Pairs.{Searching, Within, search-starts, within-starts, within-ends, search-ends, row-broken, row-passed}
-use Rattle.full.proofs.search.Statement.{statement}
-use Rattle.full.proofs.search.Tie as tie
+use Rattle.tables.specs.declared.Answer.the-variants.{Accepted}
+use Rattle.full_search.proofs.Given.{size-few, rule-ready}
+use Rattle.full_search.proofs.Pairs.{Searching, Within, search-starts, within-starts, within-ends, search-ends, row-broken, row-passed}
+use Rattle.full_search.proofs.search.Statement.{statement}
+use Rattle.full_search.proofs.search.Tie as tie
 
 abbrev Inv-loop : tie.InvT-loop
 Inv-loop n types relationships rules bodies objects links index answer₀ rule context size starts row₀ answer row =
