@@ -26,7 +26,8 @@ use Rattle.tables.specs.Bodies.{readBody}
 use Rattle.tables.specs.Columns.{noParent, bookOf, registerIn, typeRow, ruleRow, objectRow, eventRow}
 use Rattle.tables.specs.declared.Counts.{Counts}
 use Rattle.tables.proofs.Forms.{wordsFrom, whole-body, body-words, body-count, table-words}
-use Rattle.tables.proofs.Determined.{eventWords, event-back}
+use Rattle.tables.specs.Words.{eventWords}
+use Rattle.tables.proofs.Determined.{event-back}
 use Rattle.schema.proofs.Rows.{row-there, row-at}
 use Rattle.book.specs.Marks.{bodyOf}
 use Rattle.checks.specs.Given.{Given, EventsLent, EventsKnown}

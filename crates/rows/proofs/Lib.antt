@@ -8,6 +8,7 @@
 --   Keys      rows by their keys
 --   Moves     the rows after a row is put in, taken out or changed
 --   Listed    the list of rows after that
+--   Fronts    words at the front of a list; the first rows as the words of each
 pub mod Offsets
 pub mod Meet
 pub mod Shift
@@ -17,3 +18,4 @@ pub mod Words
 pub mod Keys
 pub mod Moves
 pub mod Listed
+pub mod Fronts

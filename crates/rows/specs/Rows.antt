@@ -40,6 +40,16 @@ zeroPast t width used = allZero (drop (used * width) t)
 unfoldable pub clearedPast : List ℕ → ℕ → ℕ → List ℕ
 clearedPast t width used = take (used * width) t ++ replicate (length t - used * width) 0
 
+-- ---- words at the front
+
+-- "words past a list or text keep what they held"
+abbrev pub inFront : List ℕ → List ℕ → List ℕ
+inFront words before = words ++ drop (length words) before
+
+-- a table of so many words: these, and zeros past them
+abbrev pub padded : ℕ → List ℕ → List ℕ
+padded long words = words ++ replicate (long - length words) 0
+
 -- ---- words and rows put in their place; where they do not fit, nothing is written
 
 -- dst with the first n words of src in front

@@ -39,20 +39,6 @@ pub fn rows_lent(t: &[u32], width: u32) -> usize
     t.len() / (width as usize)
 }
 
-// Whether every word past the used rows is 0.
-pub fn zero_past(t: &[u32], width: u32, used: u32) -> bool
-    ensures { λ r. ⌜ r ≡ zeroPast (now (t .entry)) width used ⌝ }
-{
-    let mut i = (used as usize) * (width as usize);
-    while i < t.len() {
-        if t[i] != 0 {
-            return false;
-        }
-        i += 1;
-    }
-    true
-}
-
 // Copies the first n words of src to dst, where both have them.
 pub fn copy_words(dst: &mut [u32], src: &[u32], n: usize)
     ensures { λ _. ⌜ now (dst .exit) ≡ copied (now (dst .entry)) (now (src .entry)) n ⌝ }

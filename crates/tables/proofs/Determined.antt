@@ -23,6 +23,7 @@ use Rattle.rows.proofs.Words.{word-signed}
 use Rattle.rows.proofs.Zeros.{zero-past}
 use Rattle.tables.specs.Bodies.{BodyRow, bodyRow, wholeBody, readBody}
 use Rattle.tables.specs.Columns.{noParent, typeRow, relationshipRow, ruleRow, objectRow, linkRow, noEvent, eventOf, eventRow, rulesOf}
+use Rattle.tables.specs.Words.{parentWord, typeWords, relationshipWords, objectWords, linkWords, eventWords}
 use Rattle.tables.proofs.Forms.{wordsFrom, whole-body, same-bodies, table-words}
 
 -- words of 32 bits
@@ -70,32 +71,7 @@ module _ {A : Type 0} (width : ℕ) (wide : 0 < width) (row : List ℕ → ℕ �
       past : (k : ℕ) → used * width ≤ k → getD t k 0 ≡ getD t′ k 0
       past k h = zero-past t width used k (c .unused) h ∙ sym (zero-past t′ width used k (c′ .unused) h)
 
--- ---- the words of a row, from what it reads to: `..Words`; that they are the row's: `..-back`
-
-unfoldable pub parentWord : Option ℕ → ℕ
-parentWord none = noParent
-parentWord (some p) = p
-
-unfoldable pub typeWords : ObjectType → List ℕ
-typeWords r = parentWord (r .parent) ∷ r .cells ∷ []
-
-unfoldable pub relationshipWords : Relationship → List ℕ
-relationshipWords r = r .source ∷ r .target ∷ []
-
-unfoldable pub objectWords : Object → List ℕ
-objectWords o = o .id ∷ o .type ∷ map wordOf (o .cells)
-
-unfoldable pub linkWords : Link → List ℕ
-linkWords l = l .relationship ∷ l .source ∷ l .target ∷ []
-
-unfoldable pub eventWords : Event → List ℕ
-eventWords (insert x y) = 0 ∷ x ∷ y ∷ 0 ∷ []
-eventWords (delete x) = 1 ∷ x ∷ 0 ∷ 0 ∷ []
-eventWords (set x y v) = 2 ∷ x ∷ y ∷ wordOf v ∷ []
-eventWords (join r x y) = 3 ∷ r ∷ x ∷ y ∷ []
-eventWords (part r x y) = 4 ∷ r ∷ x ∷ y ∷ []
-eventWords (special x y) = 5 ∷ x ∷ y ∷ 0 ∷ []
-eventWords (general x y) = 6 ∷ x ∷ y ∷ 0 ∷ []
+-- ---- that the words of what a row reads to are the row's
 
 parent-back : (w : ℕ) → parentWord (cond (eqb w noParent) none (some w)) ≡ w
 unfolding parentWord

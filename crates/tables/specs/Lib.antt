@@ -3,11 +3,13 @@
 --   Codes      the operator codes of body rows
 --   Bodies     a body's rows as a form, and a form as rows
 --   Columns    the rows of every table
+--   Words      the words of a row, by what it holds
 --   Refusals   refusals 2 and 6, and every refusal of a book and a register in order
 --   Answers    the answers of the checks
 pub mod Layouts
 pub mod Codes
 pub mod Bodies
 pub mod Columns
+pub mod Words
 pub mod Refusals
 pub mod Answers
