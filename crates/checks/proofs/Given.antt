@@ -86,20 +86,17 @@ module _ (n : Counts) (s : Sheet) where
 
   -- ---- a book and a register
 
-  module _ (short : Bool) (clear : refusalOf bookTables n s short ≡ none) where
+  module _ (clear : refusal (bookOf n s) (registerIn n s) ≡ none) where
     abbrev S : Schema
     S = (bookOf n s) .schema
 
-    few : (k : ℕ) (l : Layout) → getElem? bookTables k ≡ some l → over n s l ≡ false
-    few = few-at bookTables short clear
-
     fits : Checked (bookOf n s) (registerIn n s)
-    fits = checked (bookOf n s) (registerIn n s) (parts bookTables short clear .1)
+    fits = checked (bookOf n s) (registerIn n s) clear
 
-    whole : (i : ℕ) → i < n .rules → T (wholeBody (bodyOf (s .bodies) i) (wordAt (s .rules) 2 i 1))
+    pub whole : (i : ℕ) → i < n .rules → T (wholeBody (bodyOf (s .bodies) i) (wordAt (s .rules) 2 i 1))
     whole = bodies-whole fits
 
-    typed : (i : ℕ) → i < n .objects → wordAt (s .objects) 10 i 1 < n .types
+    pub typed : (i : ℕ) → i < n .objects → wordAt (s .objects) 10 i 1 < n .types
     unfolding objectFits objectRow
     typed i h =
         let o = objectRow (s .objects) i in
@@ -107,11 +104,15 @@ module _ (n : Counts) (s : Sheet) where
         let known = and-yes (validId (o .id) && knownType (S .types) (o .type)) (cellsFit (S .types) o) fit .0 in
         ltb-yes (subst T (type-known (n .types) (s .types) (wordAt (s .objects) 10 i 1)) (and-yes (validId (o .id)) (knownType (S .types) (o .type)) known .1))
 
-    cells : (i : ℕ) → i < n .objects → wordAt (s .types) 2 (wordAt (s .objects) 10 i 1) 1 ≤ cellCount
+    pub cells : (i : ℕ) → i < n .objects → wordAt (s .types) 2 (wordAt (s .objects) 10 i 1) 1 ≤ cellCount
     cells i h =
         let t = wordAt (s .objects) 10 i 1 in
         let same : cellsOf (S .types) t ≡ wordAt (s .types) 2 t 1 = cells-used (n .types) (s .types) t ∙ rw (lt-ltb t (n .types) (typed i h)) in
         subst (λ k. k ≤ cellCount) same (fits .types .cells-bound t)
+
+  module _ (short : Bool) (clear : refusalOf bookTables n s short ≡ none) where
+    few : (k : ℕ) (l : Layout) → getElem? bookTables k ≡ some l → over n s l ≡ false
+    few = few-at bookTables short clear
 
     pub given : Given n s
     unfolding bookTables
@@ -129,9 +130,9 @@ module _ (n : Counts) (s : Sheet) where
           objects-lent = omega (arith, lent objectTable (few 4 objectTable refl), div-mul-le-self (length (s .objects)) 10);
           links-lent = omega (arith, lent linkTable (few 5 linkTable refl), div-mul-le-self (length (s .links)) 3);
           clear = parts bookTables short clear .1;
-          whole = whole;
-          typed = typed;
-          cells = cells;
+          whole = whole (parts bookTables short clear .1);
+          typed = typed (parts bookTables short clear .1);
+          cells = cells (parts bookTables short clear .1);
         }
 
   -- ---- a batch with them

@@ -15,23 +15,18 @@ use Rattle.rows.specs.Rows.{wordAt}
 use Rattle.tables.specs.Layouts.{Sheet}
 use Rattle.tables.specs.Bodies.{readBody}
 use Rattle.tables.specs.Columns.{ruleRow, relationshipRow, bookOf, registerIn}
-use Rattle.tables.specs.Refusals.{lentRefusal}
 use Rattle.tables.specs.declared.Counts.{Counts}
 use Rattle.schema.proofs.Rows.{length-rows, row-there}
 use Rattle.register.specs.Slots.{Indexable}
 use Rattle.register.proofs.Fits.{indexable}
 use Rattle.book.specs.Marks.{Starts}
 use Rattle.checks.specs.Given.{Given}
-use Rattle.checks.proofs.Given.{given}
 use Rattle.ocl.specs.Site.{Site, siteOf, rowsAt}
 use Rattle.ocl.specs.Ready.{BodyReady}
 use Rattle.ocl.proofs.Bodies.{body-few, body-ready}
 use Rattle.full_search.specs.Search.{Clear}
 
-module _ (n : Counts) (s : Sheet) (clear : lentRefusal n s false ≡ none) where
-  known : Given n s
-  known = given n s false clear
-
+module _ (n : Counts) (s : Sheet) (known : Given n s) where
   few-relationships : length ((bookOf n s) .schema .relationships) ≤ maxRelationships
   few-relationships = omega (arith, known .few-relationships, length-rows (relationshipRow (s .relationships)) (n .relationships))
 
@@ -55,14 +50,14 @@ module _ {n : Counts} {s : Sheet} {index : List ℕ} (c : Clear n s index) {rule
 
   pub typed : T (wellTyped ((bookOf n s) .schema) (wordAt (s .rules) 2 rule 0 ∷ []) (readBody (rowsAt site) size))
   unfolding ruleRow
-  typed = subst (λ e. T (wellTyped ((bookOf n s) .schema) (wordAt (s .rules) 2 rule 0 ∷ []) (readBody (rowsAt site) e))) (sym sized) (rule-typed n s (c .unrefused) rule h)
+  typed = subst (λ e. T (wellTyped ((bookOf n s) .schema) (wordAt (s .rules) 2 rule 0 ∷ []) (readBody (rowsAt site) e))) (sym sized) (rule-typed n s (c .given) rule h)
 
   pub size-few : size ≤ maxForms
   size-few = body-few ((bookOf n s) .schema) site size (wordAt (s .rules) 2 rule 0) typed
 
   pub rule-ready : ((j : ℕ) → getD (s .bodies) j 0 < 2 ^ 32) → {starts : List ℕ} → Starts (rowsAt site) starts size → {row : ℕ} → row < n .objects → BodyReady site starts size row
   rule-ready words starts there =
-      body-ready ((bookOf n s) .schema) site size (wordAt (s .rules) 2 rule 0) typed (few-relationships n s (c .unrefused)) (register-fits n s (c .unrefused)) (c .indexed) words starts there
+      body-ready ((bookOf n s) .schema) site size (wordAt (s .rules) 2 rule 0) typed (few-relationships n s (c .given)) (register-fits n s (c .given)) (c .indexed) words starts there
 
 -- a table of zeros
 pub zeros : (m k : ℕ) → _≡_ {A = ℕ} (getD (replicate m 0) k 0) 0

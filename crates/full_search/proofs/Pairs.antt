@@ -76,7 +76,7 @@ module _ {n : Counts} {s : Sheet} {index : List ℕ} (c : Clear n s index) where
 
     pair-is : (id : ℕ) → (test n s) (pairOf rule id) ≡ isUnder (k .schema .types) g id (wordAt (s .rules) 2 rule 0) && not (meaning (k .schema .types) g ((ruleRow (s .rules) (s .bodies) rule) .body) (id ∷ []))
     unfolding ofRule broken ruleRow
-    pair-is id = ap (holds (λ r. broken (k .schema .types) g r id)) (rule-there n s (c .unrefused) rule h)
+    pair-is id = ap (holds (λ r. broken (k .schema .types) g r id)) (rule-there n s (c .given) rule h)
 
     pub pair-row : (row : ℕ) → row < n .objects → brokenRow (site rule) (wordAt (s .rules) 2 rule 0) size row ≡ (test n s) (pairOf rule (idIn (s .objects) row))
     unfolding brokenRow

@@ -1,18 +1,16 @@
 -- The search of the full check, and one rule at one object, once no refusal is met.
 use Prim.Native.Nat.{ℕ}
-use mathlib.Core.Path.{_≡_}
 use mathlib.Core.Bool.{Bool, false, _&&_, not}
 use mathlib.Core.List.{List, [], _∷_}
-use mathlib.Core.Option.{none}
 use Rattle.meaning.specs.Schema.{under}
 use Rattle.meaning.specs.Meaning.{broken}
 use Rattle.meaning.specs.Reach.{contextPairs, ofRule}
 use Rattle.meaning.specs.Answers.{Answer, firstBroken}
 use Rattle.tables.specs.Layouts.{Sheet}
 use Rattle.tables.specs.Columns.{objectRow, bookOf, registerIn}
-use Rattle.tables.specs.Refusals.{lentRefusal}
 use Rattle.tables.specs.declared.Counts.{Counts}
 use Rattle.register.specs.Slots.{Indexed}
+use Rattle.checks.specs.Given.{Given}
 use Rattle.ocl.specs.Site.{Site, typesAt}
 use Rattle.ocl.specs.Values.{truthOf}
 
@@ -28,7 +26,7 @@ brokenIn n s rule id = ofRule (bookOf n s) (λ r. broken ((bookOf n s) .schema .
 unfoldable pub brokenRow : Site → ℕ → ℕ → ℕ → Bool
 brokenRow w context e row = under (typesAt w) ((objectRow (w .objects) row) .type) context && not (truthOf w e (row ∷ []) 1)
 
--- no refusal is met, and the table is the index of the links
+-- the tables are as no refusal leaves them, and the last one is the index of their links
 pub record Clear (n : Counts) (s : Sheet) (index : List ℕ) : Type 0 where
-  pub unrefused : lentRefusal n s false ≡ none
+  pub given : Given n s
   pub indexed : Indexed (n .objects) (s .objects) (n .links) (s .links) index

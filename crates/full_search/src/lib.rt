@@ -12,7 +12,7 @@ ghost use Rattle.ocl.specs.Ready.{BodyReady};
 ghost use Rattle.full_search.specs.Search.{found, brokenRow, brokenIn, Clear};
 
 // Whether a rule of a context type, with a body of `size` rows, is broken at the object of a row: it is under the type, and the body does not hold.
-fn breaks(
+pub fn breaks(
     n: Counts,
     types: &[u32],
     objects: &[u32],

@@ -1,4 +1,5 @@
 -- `full::check_rule` meets its contract: the verdict on the question, and then the pair over the indexed register.
+use mathlib.Core.Bool.{false}
 use mathlib.Core.Path.{sym, ap, _∙_}
 use denote.Ref.{now}
 use borrow.Author.Needs.{needs}
@@ -6,7 +7,7 @@ use mathlib.Core.List.{[]}
 use Rattle.tables.specs.Layouts.{sheetOf}
 use Rattle.full.specs.Answers.{verdictFor}
 use Rattle.full_search.proofs.Given.{register-fits, can-index, zeros}
-use Rattle.checks.proofs.Given.{clear-none}
+use Rattle.checks.proofs.Given.{clear-none, given}
 use Rattle.full.proofs.Rules.{known-rule, clear-before, rule-refused, rule-broken, rule-accepted}
 use Rattle.full.proofs.check_rule.Statement.{statement}
 use Rattle.full.proofs.check_rule.Tie as tie
@@ -28,7 +29,7 @@ index-requires c κs =
     let earlier = c .before .before .before .before .before .before .before in
     let start = earlier .before .before .before .before in
     let s = sheetOf (now (start .args .types)) (now (start .args .relationships)) (now (start .args .rules)) (now (start .args .bodies)) (now (start .args .objects)) (now (start .args .links)) [] in
-    let clear = clear-none _ (clear-before _ (start .args .n .rules) (start .args .rule) (sym (c .before .enum-told .given .1) ∙ c .before .before .before .verdict-for .ensures) ∙ c .before .before .before .before .check .ensures) in
+    let clear = given (start .args .n) s false (clear-none _ (clear-before _ (start .args .n .rules) (start .args .rule) (sym (c .before .enum-told .given .1) ∙ c .before .before .before .verdict-for .ensures) ∙ c .before .before .before .before .check .ensures)) in
     let fits = register-fits (start .args .n) s clear in
     (fits .objects-ascend, fits .links-ascend, can-index (start .args .n) s clear, zeros 81920)
 
@@ -38,7 +39,7 @@ breaks-at-requires c κs =
     let earlier = c .before .before .before .before .before .before .before in
     let start = earlier .before .before .before .before .before .before in
     let asked = sym (c .before .before .before .enum-told .given .1) ∙ c .before .before .before .before .before .verdict-for .ensures in
-    (record { unrefused = clear-none _ (clear-before _ (start .args .n .rules) (start .args .rule) asked ∙ check .ensures); indexed = c .before .index2 .ensures }, known-rule _ (start .args .n .rules) (start .args .rule) asked)
+    (record { given = given _ _ false (clear-none _ (clear-before _ (start .args .n .rules) (start .args .rule) asked ∙ check .ensures)); indexed = c .before .index2 .ensures }, known-rule _ (start .args .n .rules) (start .args .rule) asked)
 
 returns : tie.Need-returns
 returns c =
