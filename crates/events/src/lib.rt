@@ -1,10 +1,10 @@
 // Document 01's events on the register's tables: a refusal or an effect as one step, and the run of a batch.
 mod runs;
 
-pub use runs::run;
 use event_effects::Held;
 use event_effects::row_effect;
 use event_refusals::refusal;
+pub use runs::run;
 use tables::Found;
 use tables::Verdict;
 ghost use Prim.Native.Nat.{ℕ};

@@ -1,8 +1,8 @@
 // What Rust and C programs link: the checker's entries over pointers and numbers.
 mod runs;
 
-use tables::Answer;
 use reader::Outcome;
+use tables::Answer;
 use tables::Counts;
 use tables::Verdict;
 ghost use mathlib.Core.Path.{_≡_};

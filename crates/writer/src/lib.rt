@@ -3,7 +3,6 @@ use line_writer::lines;
 use tables::Counts;
 use tables::Found;
 use tables::Verdict;
-
 ghost use mathlib.Core.Path.{_≡_};
 ghost use mathlib.Core.List.{List};
 ghost use Prim.Native.Nat.{ℕ, _+_, _<_, _≤_};
