@@ -1,0 +1,1 @@
+// Which pairs of a rule and an object a batch selects.
