@@ -1,6 +1,6 @@
 -- Document 01, "Reach rules", read backward: the ids at which a variable of a form can stand when the form moves. It is what the code covers with sets of
 -- rows; a candidate more than needed does no harm, since each is tested by the forward rule.
-use Prim.Native.Nat.{ℕ, suc, _+_, _-_, _<_}
+use Prim.Native.Nat.{ℕ, suc, _+_, _-_, _*_, _<_}
 use mathlib.Core.Path.{_≡_}
 use mathlib.Core.Bool.{Bool, true, false, _&&_, _||_, cond}
 use mathlib.Core.List.{List}
@@ -49,6 +49,17 @@ candidate c r s = reached c (r .body) 1 0 s down || broughtIn c r s
 pub record Grown (before after : List Bool) : Type 0 where
   pub long : length after ≡ length before
   pub kept : (i : ℕ) → getD before i false ≡ true → getD after i false ≡ true
+
+-- those of the first variables do; what later ones hold is free
+pub record GrownBelow (depth : ℕ) (before after : List Bool) : Type 0 where
+  pub long : length after ≡ length before
+  pub kept : (i : ℕ) → i < depth * 1024 → getD before i false ≡ true → getD after i false ≡ true
+
+-- one variable's set is emptied of its rows, and those before it are as they were
+pub record Cleared (v rows : ℕ) (before after : List Bool) : Type 0 where
+  pub long : length after ≡ length before
+  pub kept : (i : ℕ) → i < v * 1024 → getD after i false ≡ getD before i false
+  pub empty : (row : ℕ) → row < rows → getD after (v * 1024 + row) false ≡ false
 
 -- "Role 2r goes from source to target of relationship r, role 2r + 1 back": the role turned round
 abbrev pub turned : ℕ → ℕ

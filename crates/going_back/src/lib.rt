@@ -1,2 +1,3 @@
 // Going back from the events of a batch: the rows of objects at which a rule's body may turn false.
 mod back;
+mod sets;

@@ -1,0 +1,20 @@
+-- What a test that is true says of its parts.
+use mathlib.Core.Path.{_≡_, refl, sym, subst}
+use mathlib.Core.Logic.{_⊎_, inl, inr}
+use mathlib.Core.Bool.{Bool, true, false, _&&_, _||_}
+use lib.Dec.{T}
+
+pub so-true : (b : Bool) → T b → b ≡ true
+so-true true t = refl
+so-true false t = absurd t
+
+pub true-so : {b : Bool} → b ≡ true → T b
+true-so e = subst T (sym e) tt
+
+pub both-true : (a b : Bool) → (a && b) ≡ true → (a ≡ true) × (b ≡ true)
+both-true true b e = (refl, e)
+both-true false b e = absurd (true-so e)
+
+pub one-true : (a b : Bool) → (a || b) ≡ true → (a ≡ true) ⊎ (b ≡ true)
+one-true true b e = inl refl
+one-true false b e = inr e
