@@ -10,7 +10,9 @@ use Rattle.meaning.specs.Lists.{any}
 use Rattle.meaning.specs.Schema.{forward}
 use Rattle.meaning.specs.Register.{instances, farEnds}
 use Rattle.meaning.specs.Forms.{Sort, collection, Form, compare, negate, connect, quantify, kind, num, cell, size, sum, combine, role, all, select, Rule}
-use Rattle.tables.specs.Bodies.{BodyRow, asCollection, ending}
+use Rattle.tables.specs.Bodies.{BodyRow, Part, part, asCollection, ending}
+use Rattle.directions.specs.Sets.{someOf}
+use Rattle.ocl.specs.Site.{idIn}
 use Rattle.meaning.specs.Reach.{Change, Direction, down, same, reversed, either, through, leftOf, rightOf, firstTruth, secondTruth, sourceOf, secondTerm, roleMoves, allMoves, cellMoves, kindMoves, broughtIn}
 
 -- With u for variable v, the collection below its selects has a member in the set. Over all objects of a type this does not depend on v and u.
@@ -41,9 +43,29 @@ reached c (all t) n v u d = allMoves c t d
 reached c (select k b) n v u d =
     through _||_ same (reached c k n v u) d || throughMembers c k n (λ w x. reached c b (suc n) w x d) v u
 
+-- a form of any sort
+unfoldable pub partReached : Change → Part → (n v u : ℕ) → Direction → Bool
+partReached c (part s f) n v u d = reached c f n v u d
+
+-- from a movement in some direction of a set
+abbrev pub reachedBy : Change → Part → (n set v u : ℕ) → Bool
+reachedBy c p n set v u = someOf set (partReached c p n v u)
+
+-- a row without parts, by its code and its first two fields: kind, all, role and cell; a num never moves
+unfoldable pub leafReached : Change → (code x y v u : ℕ) → Direction → Bool
+leafReached c code x y v u d =
+    cond (eqb code 13) (eqb v x && kindMoves c u y d)
+    (cond (eqb code 21) (allMoves c x d)
+    (cond (eqb code 20) (eqb v x && roleMoves c y u d)
+    (cond (eqb code 15) (eqb v x && cellMoves c u y) false)))
+
 -- an object at which the forward rule is asked: one that is reached from a fall of the body, or that was brought in
 unfoldable pub candidate : Change → Rule → ℕ → Bool
 candidate c r s = reached c (r .body) 1 0 s down || broughtIn c r s
+
+-- Everything is reached; or of each of the first `depth` variables the rows that are reached are in its set, at 1,024 times its number.
+pub record Covered (reach : (v u : ℕ) → Bool) (objects : List ℕ) (rows depth : ℕ) (everything : Bool) (sets : List Bool) : Type 0 where
+  pub each : everything ≡ false → (v : ℕ) → v < depth → (row : ℕ) → row < rows → reach v (idIn objects row) ≡ true → getD sets (v * 1024 + row) false ≡ true
 
 -- marks that only grow
 pub record Grown (before after : List Bool) : Type 0 where
