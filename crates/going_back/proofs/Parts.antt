@@ -5,6 +5,7 @@ use mathlib.Core.Bool.{Bool, true, false, _||_, or-false}
 use mathlib.Core.List.{List}
 use native.Mathlib.Numerals.{add-one}
 use native.Mathlib.Omega.{arith}
+use lib.Dec.{T}
 use lib.ListN.{getD}
 use borrow.Author.Tests.{eq-eqb, ne-eqb}
 use Rattle.meaning.specs.Schema.{Schema}
@@ -21,8 +22,9 @@ use Rattle.going_back.proofs.Covers.{covered-as, covered-then}
 use Rattle.going_back.proofs.Nodes.{sumReached, secondReached, leaf-here, one-here, two-here}
 
 -- no direction, nothing reached
-pub none-covers : {c : Change} {w : Site} {e depth set : ℕ} {objects : List ℕ} {rows : ℕ} {sets : List Bool} → set ≡ 0 → Covered (reachedBy c (formAt w e) depth set) objects rows depth false sets
-none-covers {c} {w} {e} {depth} q = covered-as (λ v u. ap (λ dirs. reachedBy c (formAt w e) depth dirs v u) (sym q)) (record { each = λ still v l row h t. ? })
+pub none-covers : (c : Change) (w : Site) (e depth : ℕ) {set : ℕ} {objects : List ℕ} {rows : ℕ} {sets : List Bool} → set ≡ 0 → Covered (reachedBy c (formAt w e) depth set) objects rows depth false sets
+none-covers c w e depth q =
+    covered-as (λ v u. ap (λ dirs. reachedBy c (formAt w e) depth dirs v u) (sym q)) (record { each = λ still v l row h t. absurd (subst T (sym t) tt) })
 
 module _ {S : Schema} {w : Site} {starts : List ℕ} {e : ℕ} {vars : List ℕ} {depth : ℕ} (able : Able S w starts e vars depth) (c : Change) (set : ℕ) (some-set : 0 < set) (small : set < 4) (objects : List ℕ) (rows : ℕ) where
   abbrev reach : ℕ → ℕ → ℕ → ℕ → Bool
@@ -66,7 +68,7 @@ module _ {S : Schema} {w : Site} {starts : List ℕ} {e : ℕ} {vars : List ℕ}
 
     -- ---- two parts
 
-    module _ (m : firstSort (sorts able) ≡ 3 → ⊥) {first to-first : ℕ} (at : first ≡ getD starts (e - 1) 0) (passed : to-first ≡ passTo set (op able) 0) {r b : Bool} {s t : List Bool}
+    module _ (m : firstSort (sorts able) ≡ 3 → ⊥) {first to-first : ℕ} (at : first ≡ getD starts (e - 1) 0) (passed : to-first ≡ passTo set (op able) 0) {r : Bool} {s t : List Bool}
         (few : rows ≤ 1024) (still : r ≡ false) (part : Cover (reach first to-first) r s) (grown : GrownBelow depth s t) where
       -- the first part ends where the second starts
       first-is : formAt w first ≡ (firstPart (rowsAt w) (e - 1)) .form
@@ -78,10 +80,10 @@ module _ {S : Schema} {w : Site} {starts : List ℕ} {e : ℕ} {vars : List ℕ}
           ∙ two-here (rowsAt w) (e - 1) (last-sound able) c depth set some-set small v u n m
           ∙ at-end v u
 
-      pub plain-covers : (firstSort (sorts able) ≡ 2 → ⊥) → Cover (reach (e - 1) dirs) b t → Cover (reach e set) b t
+      pub plain-covers : {b : Bool} → (firstSort (sorts able) ≡ 2 → ⊥) → Cover (reach (e - 1) dirs) b t → Cover (reach e set) b t
       plain-covers k second = covered-as (λ v u. simp (ne-eqb (firstSort (sorts able)) 2 k) at (two-is v u)) (covered-then few still part grown second)
 
-      pub over-covers : firstSort (sorts able) ≡ 2 → Cover (throughMembers c (asCollection (formAt w first)) depth (reachedBy c (formAt w (e - 1)) (depth + 1) dirs)) b t → Cover (reach e set) b t
+      pub over-covers : {b : Bool} → firstSort (sorts able) ≡ 2 → Cover (throughMembers c (asCollection (formAt w first)) depth (reachedBy c (formAt w (e - 1)) (depth + 1) dirs)) b t → Cover (reach e set) b t
       over-covers k second =
           covered-as
           (λ v u. ap (λ d. reach first to-first v u || throughMembers c (asCollection (formAt w first)) depth (reachedBy c (formAt w (e - 1)) d dirs) v u) (add-one depth) ∙ simp (eq-eqb (firstSort (sorts able)) 2 k) at (two-is v u))

@@ -44,8 +44,8 @@ returns c =
     let base = at .before .base-row .ensures .when-all (sym (at .field .ensures) ∙ c .before .before .if1 .taken) in (
       grown-none _,
       λ k end set inside.
-      all-covered (s .args .n .objects) (now (s .args .objects)) (s .args .n .links) (now (s .args .links)) (s .pre .0 .2 .steady) k end (form s) set (s .args .of .2) (now (s .args .sets)) inside base _
-      (c .has-some .ensures),
+          all-covered (s .args .n .objects) (now (s .args .objects)) (s .args .n .links) (now (s .args .links)) (s .pre .0 .2 .steady) k end (form s) set (s .args .of .2) (now (s .args .sets)) inside base _
+          (c .has-some .ensures),
     )
 
 field-requires-2 : tie.Need-field-requires-2
@@ -85,8 +85,8 @@ returns-2 c =
     let s = begin (v .before .before) in (
       put .put-back .ensures .0,
       λ k end set inside.
-      role-covered (s .args .n .objects) (now (s .args .objects)) (s .args .n .links) (now (s .args .links)) (s .pre .0 .2 .steady) k end (form s) set (s .args .of .2) (now (s .args .sets)) inside (role-is (v .before)) (v .field2 .ensures) (turn .turned .ensures .0 ∙ ap turned (r .field3 .ensures)) _
-      (put .put-back .ensures .1),
+          role-covered (s .args .n .objects) (now (s .args .objects)) (s .args .n .links) (now (s .args .links)) (s .pre .0 .2 .steady) k end (form s) set (s .args .of .2) (now (s .args .sets)) inside (role-is (v .before)) (v .field2 .ensures) (turn .turned .ensures .0 ∙ ap turned (r .field3 .ensures)) _
+          (put .put-back .ensures .1),
     )
 
 pub image-spec : {M : Type 1} → statement M

@@ -42,7 +42,7 @@ returns c =
     let s = begin at in (
       below-then (cleared-below (at .clear .ensures)) (grown-below (s .args .of .2) (grown-then (put .put-answers .ensures .0) (led .image .ensures .0))),
       λ k traced.
-      led .image .ensures .1 k (traced .seen .end-is) (λ x. cellMoves k x (s .args .cell)) (λ row h t. put .put-answers .ensures .1 k traced row h (asked-set k _ (s .args .cell) ∙ t)),
+          led .image .ensures .1 k (traced .seen .end-is) (λ x. cellMoves k x (s .args .cell)) (λ row h t. put .put-answers .ensures .1 k traced row h (asked-set k _ (s .args .cell) ∙ t)),
     )
 
 pub members-spec : {M : Type 1} → statement M
