@@ -10,6 +10,7 @@
 --   Fars        a walk along a role that marks each far row
 --   Bases       the collection below selects
 --   Images      what a collection leads back to
+--   Rules       a rule of lent tables
 pub mod Coverage
 pub mod Tests
 pub mod Growth
@@ -21,3 +22,4 @@ pub mod Turned
 pub mod Fars
 pub mod Bases
 pub mod Images
+pub mod Rules

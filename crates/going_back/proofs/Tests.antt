@@ -27,3 +27,8 @@ and-more false f e = e
 pub or-more : (a b : Bool) {c d : Bool} → (a ≡ true → c ≡ true) → (b ≡ true → d ≡ true) → (a || b) ≡ true → (c || d) ≡ true
 or-more true b {c} {d} f g e = ap (λ x. x || d) (f refl)
 or-more false b {c} {d} f g e = ap (λ x. c || x) (g e) ∙ or-true c
+
+-- the second where not the first
+pub or-else : (a : Bool) {b : Bool} → (a ≡ false → b ≡ true) → (a || b) ≡ true
+or-else true f = refl
+or-else false f = f refl
