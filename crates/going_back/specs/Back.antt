@@ -1,6 +1,6 @@
 -- Document 01, "Reach rules", read backward: the ids at which a variable of a form can stand when the form moves. It is what the code covers with sets of
 -- rows; a candidate more than needed does no harm, since each is tested by the forward rule.
-use Prim.Native.Nat.{ℕ, suc, _+_, _-_, _<_}
+use Prim.Native.Nat.{ℕ, suc, _+_, _-_, _*_, _<_}
 use mathlib.Core.Path.{_≡_}
 use mathlib.Core.Bool.{Bool, true, false, _&&_, _||_, cond}
 use mathlib.Core.List.{List}
@@ -10,7 +10,9 @@ use Rattle.meaning.specs.Lists.{any}
 use Rattle.meaning.specs.Schema.{forward}
 use Rattle.meaning.specs.Register.{instances, farEnds}
 use Rattle.meaning.specs.Forms.{Sort, collection, Form, compare, negate, connect, quantify, kind, num, cell, size, sum, combine, role, all, select, Rule}
-use Rattle.tables.specs.Bodies.{BodyRow, asCollection, ending}
+use Rattle.tables.specs.Bodies.{BodyRow, Part, part, asCollection, ending}
+use Rattle.directions.specs.Sets.{someOf}
+use Rattle.ocl.specs.Site.{idIn}
 use Rattle.meaning.specs.Reach.{Change, Direction, down, same, reversed, either, through, leftOf, rightOf, firstTruth, secondTruth, sourceOf, secondTerm, roleMoves, allMoves, cellMoves, kindMoves, broughtIn}
 
 -- With u for variable v, the collection below its selects has a member in the set. Over all objects of a type this does not depend on v and u.
@@ -41,14 +43,45 @@ reached c (all t) n v u d = allMoves c t d
 reached c (select k b) n v u d =
     through _||_ same (reached c k n v u) d || throughMembers c k n (λ w x. reached c b (suc n) w x d) v u
 
+-- a form of any sort
+unfoldable pub partReached : Change → Part → (n v u : ℕ) → Direction → Bool
+partReached c (part s f) n v u d = reached c f n v u d
+
+-- from a movement in some direction of a set
+abbrev pub reachedBy : Change → Part → (n set v u : ℕ) → Bool
+reachedBy c p n set v u = someOf set (partReached c p n v u)
+
+-- a row without parts, by its code and its first two fields: kind, all, role and cell; a num never moves
+unfoldable pub leafReached : Change → (code x y v u : ℕ) → Direction → Bool
+leafReached c code x y v u d =
+    cond (eqb code 13) (eqb v x && kindMoves c u y d)
+    (cond (eqb code 21) (allMoves c x d)
+    (cond (eqb code 20) (eqb v x && roleMoves c y u d)
+    (cond (eqb code 15) (eqb v x && cellMoves c u y) false)))
+
 -- an object at which the forward rule is asked: one that is reached from a fall of the body, or that was brought in
 unfoldable pub candidate : Change → Rule → ℕ → Bool
 candidate c r s = reached c (r .body) 1 0 s down || broughtIn c r s
+
+-- Everything is reached; or of each of the first `depth` variables the rows that are reached are in its set, at 1,024 times its number.
+pub record Covered (reach : (v u : ℕ) → Bool) (objects : List ℕ) (rows depth : ℕ) (everything : Bool) (sets : List Bool) : Type 0 where
+  pub each : everything ≡ false → (v : ℕ) → v < depth → (row : ℕ) → row < rows → reach v (idIn objects row) ≡ true → getD sets (v * 1024 + row) false ≡ true
 
 -- marks that only grow
 pub record Grown (before after : List Bool) : Type 0 where
   pub long : length after ≡ length before
   pub kept : (i : ℕ) → getD before i false ≡ true → getD after i false ≡ true
+
+-- those of the first variables do; what later ones hold is free
+pub record GrownBelow (depth : ℕ) (before after : List Bool) : Type 0 where
+  pub long : length after ≡ length before
+  pub kept : (i : ℕ) → i < depth * 1024 → getD before i false ≡ true → getD after i false ≡ true
+
+-- one variable's set is emptied of its rows, and those before it are as they were
+pub record Cleared (v rows : ℕ) (before after : List Bool) : Type 0 where
+  pub long : length after ≡ length before
+  pub kept : (i : ℕ) → i < v * 1024 → getD after i false ≡ getD before i false
+  pub empty : (row : ℕ) → row < rows → getD after (v * 1024 + row) false ≡ false
 
 -- "Role 2r goes from source to target of relationship r, role 2r + 1 back": the role turned round
 abbrev pub turned : ℕ → ℕ

@@ -137,7 +137,7 @@ fn kind_moved(
 }
 
 // Whether the set of all objects of a type moves in a direction of the set.
-fn all_moved(
+pub fn all_moved(
     n: Counts,
     types: &[u32],
     objects: &[u32],

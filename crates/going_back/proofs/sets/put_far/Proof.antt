@@ -1,4 +1,4 @@
--- `going_back::back::put_far` meets its contract. The loop's invariant: the marks only grow, and each far row is marked or still to come. The measure is
+-- `going_back::sets::put_far` meets its contract. The loop's invariant: the marks only grow, and each far row is marked or still to come. The measure is
 -- what is left of the walk.
 use Prim.Native.Nat.{ℕ, suc, _+_, _-_, _*_, _≤_, _<_}
 use mathlib.Core.Path.{_≡_, sym, subst, _∙_}
@@ -13,10 +13,10 @@ use Rattle.tables.specs.declared.Counts.{Counts}
 use Rattle.ocl.specs.Site.{Site, siteOf, registerAt, idIn}
 use Rattle.ocl.proofs.Steps.{fewer-left}
 use Rattle.going_back.specs.Back.{Grown}
-use Rattle.going_back.proofs.Sets.{grown-none, grown-then}
+use Rattle.going_back.proofs.Growth.{grown-none, grown-then}
 use Rattle.going_back.proofs.Fars.{left, FarWalk, far-starts, far-low, far-ends, went, far-goes-on}
-use Rattle.going_back.proofs.back.put_far.Statement.{statement}
-use Rattle.going_back.proofs.back.put_far.Tie as tie
+use Rattle.going_back.proofs.sets.put_far.Statement.{statement}
+use Rattle.going_back.proofs.sets.put_far.Tie as tie
 
 -- what the walk looks at, and which rows are marked
 abbrev walked : Counts → List ℕ → List ℕ → List ℕ → Site

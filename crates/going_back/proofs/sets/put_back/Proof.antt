@@ -1,4 +1,4 @@
--- `going_back::back::put_back` meets its contract. The loop's invariant: the marks only grow, and what the rows that were passed lead to is marked. The
+-- `going_back::sets::put_back` meets its contract. The loop's invariant: the marks only grow, and what the rows that were passed lead to is marked. The
 -- measure is what is left of the rows.
 use Prim.Native.Nat.{ℕ, _+_, _-_, _*_, _≤_, _<_}
 use mathlib.Core.Path.{_≡_, _∙_}
@@ -13,9 +13,9 @@ use Rattle.tables.specs.Columns.{registerOf}
 use Rattle.tables.specs.declared.Counts.{Counts}
 use Rattle.ocl.specs.Site.{idIn}
 use Rattle.going_back.specs.Back.{Grown}
-use Rattle.going_back.proofs.Sets.{grown-none, grown-then}
-use Rattle.going_back.proofs.back.put_back.Statement.{statement}
-use Rattle.going_back.proofs.back.put_back.Tie as tie
+use Rattle.going_back.proofs.Growth.{grown-none, grown-then}
+use Rattle.going_back.proofs.sets.put_back.Statement.{statement}
+use Rattle.going_back.proofs.sets.put_back.Tie as tie
 
 -- what row x leads to is marked, if it was in the set
 abbrev Led : Counts → List ℕ → List ℕ → ℕ → ℕ → ℕ → List Bool → List Bool → ℕ → Type 0

@@ -1,11 +1,11 @@
--- `going_back::back::put_row` meets its contract.
+-- `going_back::sets::put_row` meets its contract.
 use mathlib.Core.Path.{sym, subst, _∙_}
 use lib.Dec.{T}
 use borrow.Author.Tests.{not-true}
-use Rattle.going_back.proofs.Sets.{grown-none}
+use Rattle.going_back.proofs.Growth.{grown-none}
 use borrow.Author.Needs.{needs}
-use Rattle.going_back.proofs.back.put_row.Statement.{statement}
-use Rattle.going_back.proofs.back.put_row.Tie as tie
+use Rattle.going_back.proofs.sets.put_row.Statement.{statement}
+use Rattle.going_back.proofs.sets.put_row.Tie as tie
 
 mul-at : tie.Need-mul-at
 mul-at c = search needs

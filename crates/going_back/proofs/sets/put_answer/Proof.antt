@@ -1,4 +1,4 @@
--- `going_back::back::put_answer` meets its contract.
+-- `going_back::sets::put_answer` meets its contract.
 use Prim.Native.Nat.{_+_, _*_, _<_}
 use mathlib.Core.Path.{_≡_, sym, ap, subst, _∙_}
 use mathlib.Core.Bool.{true, false}
@@ -8,10 +8,10 @@ use lib.ListN.{length, getD, set}
 use lib.Seq.{getD-set-same}
 use denote.Ref.{now}
 use borrow.Author.Tests.{not-true}
-use Rattle.going_back.proofs.Sets.{grown-none, grown-one}
+use Rattle.going_back.proofs.Growth.{grown-none, grown-one}
 use borrow.Author.Needs.{needs}
-use Rattle.going_back.proofs.back.put_answer.Statement.{statement}
-use Rattle.going_back.proofs.back.put_answer.Tie as tie
+use Rattle.going_back.proofs.sets.put_answer.Statement.{statement}
+use Rattle.going_back.proofs.sets.put_answer.Tie as tie
 
 mul-wide : tie.Need-mul-wide
 mul-wide c = search needs

@@ -1,14 +1,14 @@
--- `going_back::back::mark` meets its contract.
+-- `going_back::sets::mark` meets its contract.
 use Prim.Native.Nat.{_+_, _*_, _<_}
 use mathlib.Core.Bool.{true, false}
 use native.Mathlib.Omega.{arith}
 use lib.ListN.{length}
 use lib.Seq.{getD-set-same}
 use denote.Ref.{now}
-use Rattle.going_back.proofs.Sets.{grown-none, grown-one}
+use Rattle.going_back.proofs.Growth.{grown-none, grown-one}
 use borrow.Author.Needs.{needs}
-use Rattle.going_back.proofs.back.mark.Statement.{statement}
-use Rattle.going_back.proofs.back.mark.Tie as tie
+use Rattle.going_back.proofs.sets.mark.Statement.{statement}
+use Rattle.going_back.proofs.sets.mark.Tie as tie
 
 returns : tie.Need-returns
 returns c = let h = c .if1 .taken in (grown-none _, λ low. absurd (omega arith))

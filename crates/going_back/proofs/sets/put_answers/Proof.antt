@@ -1,4 +1,4 @@
--- `going_back::back::put_answers` meets its contract. The loop's invariant: the marks only grow, and the row of each place that was passed and answers is
+-- `going_back::sets::put_answers` meets its contract. The loop's invariant: the marks only grow, and the row of each place that was passed and answers is
 -- marked. The measure is what is left of the places.
 use Prim.Native.Nat.{ℕ, _+_, _-_, _*_, _≤_, _<_}
 use mathlib.Core.Path.{_≡_, _∙_}
@@ -11,9 +11,9 @@ use Rattle.trace.specs.Questions.{questionOf}
 use Rattle.trace.specs.Traces.{placeAnswers}
 use Rattle.going_back.specs.Back.{Grown}
 use Rattle.reach.proofs.Asking.{covers}
-use Rattle.going_back.proofs.Sets.{grown-none, grown-then}
-use Rattle.going_back.proofs.back.put_answers.Statement.{statement}
-use Rattle.going_back.proofs.back.put_answers.Tie as tie
+use Rattle.going_back.proofs.Growth.{grown-none, grown-then}
+use Rattle.going_back.proofs.sets.put_answers.Statement.{statement}
+use Rattle.going_back.proofs.sets.put_answers.Tie as tie
 
 abbrev Inv-loop : tie.InvT-loop
 Inv-loop n types objects links events trace question x v sets₀ place₀ sets place =
