@@ -4,8 +4,12 @@
 --   Naming      the ids that an event names, by its words
 --   Keeping     what is kept of each event
 --   Coming      the types that an event's object comes into or goes out of, by its words
+--   Climbing    the types above a type, by a walk up from it
+--   Moving      the sets of directions in which all objects of a type move
 pub mod Questions
 pub mod Placing
 pub mod Naming
 pub mod Keeping
 pub mod Coming
+pub mod Climbing
+pub mod Moving

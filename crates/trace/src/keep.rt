@@ -35,7 +35,7 @@ fn is_there(link_count: u32, links: &[u32], events: &[u32], i: u32) -> bool
 }
 
 // 1 where it holds, else 0.
-fn bit(holds: bool) -> u32
+pub fn bit(holds: bool) -> u32
     ensures { λ r. ⌜ (eqb r 1 ≡ holds) × (r < 2) ⌝ }
 {
     if holds {
