@@ -1,7 +1,7 @@
 // Going back from the events: sets of rows, one for each variable, that cover every object at which a form may move.
-use reach::ask;
 use book::body::field;
 use ocl::Place;
+use reach::ask;
 use register::slots;
 use tables::Counts;
 ghost use mathlib.Core.Path.{_≡_};

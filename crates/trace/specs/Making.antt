@@ -5,13 +5,14 @@ use mathlib.Core.Bool.{Bool, true, false, _&&_, _||_, not}
 use mathlib.Core.List.{List}
 use lib.Dec.{eqb}
 use lib.ListN.{getD, set}
-use Rattle.meaning.specs.Limits.{maxTypes}
+use Rattle.meaning.specs.Limits.{maxTypes, maxObjects, maxEvents}
 use Rattle.meaning.specs.Register.{Object, Register, isUnder, hasLink}
 use Rattle.meaning.specs.Schema.{ObjectType, under}
 use Rattle.meaning.specs.Events.{Event, join, linkOf}
 use Rattle.meaning.specs.Reach.{inserts, deletes, specials, generals, among, Direction, up, down}
 use Rattle.tables.specs.Columns.{eventRow}
-use Rattle.register.specs.Tables.{linksWith}
+use Rattle.tables.specs.declared.Counts.{Counts}
+use Rattle.register.specs.Tables.{ObjectsAscend, LinksAscend, linksWith}
 use Rattle.register.specs.Chains.{Chained}
 use Rattle.directions.specs.Sets.{has}
 use Rattle.trace.specs.Questions.{metUnder}
@@ -106,3 +107,14 @@ pub record SetsWith (before after : List ℕ) (moved : ℕ → Direction → Boo
   pub small : (t : ℕ) → allSet before t < 4 → allSet after t < 4
   pub below : (k : ℕ) → k < 1536 → getD after k 0 ≡ getD before k 0
   pub above : (k : ℕ) → 1536 + n ≤ k → getD after k 0 ≡ getD before k 0
+
+-- ---- the whole trace
+
+-- What it asks: the register at the end in order and within its limits, of each event a type that it met or none, and a table of zeros.
+pub record CanTrace (n : Counts) (objects links met trace : List ℕ) : Type 0 where
+  pub objects-ascend : ObjectsAscend (n .objects) objects
+  pub links-ascend : LinksAscend (n .links) links
+  pub objects-few : n .objects ≤ maxObjects
+  pub events-few : n .events ≤ maxEvents
+  pub met-low : (i : ℕ) → i < n .events → getD met i 0 ≤ maxTypes
+  pub empty : (k : ℕ) → getD trace k 0 ≡ 0

@@ -185,13 +185,22 @@ pub fn fill(
     requires { ⌜ (ObjectsAscend «object_count» (now objects)) × («event_count» ≤ maxEvents) ⌝ }
     ensures { λ _. ⌜ ((ls : List Link) → SetsWith (now (trace .entry)) (now (trace .exit))
         (λ t d. someBelow (λ i. eventMoves (typesOf «type_count» (now (types .entry))) (objectsWith «object_count» (now (objects .entry)) ls)
-            (eventRow (now (events .entry)) i) (getD (now (met .entry)) i 0) t d) «event_count») maxTypes) ⌝ }
+        (eventRow (now (events .entry)) i) (getD (now (met .entry)) i 0) t d) «event_count») maxTypes) ⌝ }
 {
     let mut i: u32 = 0;
     while i < event_count {
         let at = i as usize;
         let m = met[at];
-        put_event(type_count, types, object_count, objects, events, i, m, trace);
+        put_event(
+            type_count,
+            types,
+            object_count,
+            objects,
+            events,
+            i,
+            m,
+            trace,
+        );
         i += 1;
     }
 }

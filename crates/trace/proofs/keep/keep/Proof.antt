@@ -43,7 +43,7 @@ write-requires c κs =
     let s = turn .before .before .before .before in
     let few = s .pre .1 in
     let i = turn .before .loop .i in
-    let small = s .pre .2 i in
+    let small = s .pre .2 i (turn .loop-test .taken) in
     (omega arith, omega (arith, turn .loop-test .taken), omega (arith, marked .bit .ensures .1), omega arith)
 
 add-i : tie.Need-add-i Inv-loop μ-loop

@@ -69,9 +69,8 @@ loop-again c =
     let a = at .before .args in
     let t = at .loop .t in
     let is : eitherWay (and .both .result) (gone .goes .result)
-        ≡ truthsMove (a .kind) (a .z) (getD (now (a .into)) t false) (getD (now (a .had)) t false) (getD (now (a .there)) t false) =
-      λ k. eitherWay ((and .both .ensures ∙ ap (λ b. b && getD (now (a .there)) t false) (come .comes .ensures)) k) (gone .goes .ensures k) in
-    (
+    ≡ truthsMove (a .kind) (a .z) (getD (now (a .into)) t false) (getD (now (a .had)) t false) (getD (now (a .there)) t false) =
+    λ k. eitherWay ((and .both .ensures ∙ ap (λ b. b && getD (now (a .there)) t false) (come .comes .ensures)) k) (gone .goes .ensures k) in (
       omega (arith, turn .loop-test .taken),
       rw add-one (sets-more t (at .loop .inv .1) (c .put .ensures) is),
     )

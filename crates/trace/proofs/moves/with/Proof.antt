@@ -35,12 +35,11 @@ returns : tie.Need-returns
 returns c =
     let first = c .before .before .before in
     let asked = first .before .before in
-    let a = asked .before .args in
-    (
+    let a = asked .before .args in (
       omega (arith, c .bit2 .ensures .1, first .bit .ensures .1),
       words-with (a .set) (first .bit .result) (c .bit2 .result) (a .gain) (a .loss) (first .bit .ensures .1) (c .bit2 .ensures .1)
-      (first .bit .ensures .0 ∙ first .before .either .ensures ∙ ap (λ b. b || a .gain) (asked .contains .ensures))
-      (c .bit2 .ensures .0 ∙ c .before .either2 .ensures ∙ ap (λ b. b || a .loss) (c .before .before .contains2 .ensures)),
+          (first .bit .ensures .0 ∙ first .before .either .ensures ∙ ap (λ b. b || a .gain) (asked .contains .ensures))
+          (c .bit2 .ensures .0 ∙ c .before .either2 .ensures ∙ ap (λ b. b || a .loss) (c .before .before .contains2 .ensures)),
     )
 
 pub with-spec : {M : Type 1} → statement M

@@ -53,10 +53,11 @@ loop-again c =
     let asked = c .before .before in
     let put = asked .before .before in
     let at = put .before .before .before in
-    let a = at .before .before .args in
-    (put .put .kept .1 .0 ∙ at .loop .inv .0,
-     walk-up (typesOf (a .type-count) (now (a .types))) (a .t) (at .loop .inv .1) (put .put .ensures) (put .before .before .loop-test .taken)
-     (parent-word (a .type-count) (now (a .types)) (at .loop .at) (sym (asked .has-parent .ensures) ∙ not-false (asked .has-parent .result) (c .before .if1 .left)) ∙ ap some (sym (c .word .ensures))))
+    let a = at .before .before .args in (
+      put .put .kept .1 .0 ∙ at .loop .inv .0,
+      walk-up (typesOf (a .type-count) (now (a .types))) (a .t) (at .loop .inv .1) (put .put .ensures) (put .before .before .loop-test .taken)
+          (parent-word (a .type-count) (now (a .types)) (at .loop .at) (sym (asked .has-parent .ensures) ∙ not-false (asked .has-parent .result) (c .before .if1 .left)) ∙ ap some (sym (c .word .ensures))),
+    )
 
 slice-aggregate-put-2 : tie.Need-slice-aggregate-put-2 Inv-loop μ-loop
 slice-aggregate-put-2 c = search needs
