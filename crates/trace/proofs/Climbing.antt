@@ -1,6 +1,6 @@
 -- The types above a type, by a walk up from it that puts a truth for each type on its way.
 use Prim.Native.Nat.{ℕ, zero, suc, _-_, _≤_, _<_}
-use mathlib.Core.Path.{_≡_, refl, sym, ap, ap₂, subst, _∙_}
+use mathlib.Core.Path.{_≡_, refl, sym, ap, subst, _∙_}
 use mathlib.Core.Bool.{Bool, true, false, _||_, cond, or-false, or-true, or-assoc}
 use mathlib.Core.List.{List}
 use mathlib.Core.Option.{Option, none, some}

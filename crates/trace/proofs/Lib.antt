@@ -8,6 +8,7 @@
 --   Moving      the sets of directions in which all objects of a type move
 --   Steps       the steps of a batch by the rows of its events, and what some step of it does
 --   Tracing     the whole trace, from its parts
+--   Runs        a batch that was run, as the trace sees it
 pub mod Questions
 pub mod Placing
 pub mod Naming
@@ -17,3 +18,4 @@ pub mod Climbing
 pub mod Moving
 pub mod Steps
 pub mod Tracing
+pub mod Runs

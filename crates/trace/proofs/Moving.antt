@@ -13,7 +13,6 @@ use borrow.Author.Tests.{eqb-true, eqb-false}
 use Rattle.meaning.specs.Limits.{maxTypes}
 use Rattle.meaning.specs.Schema.{ObjectType, under}
 use Rattle.meaning.specs.Register.{Register, isUnder}
-use Rattle.meaning.specs.Events.{Event}
 use Rattle.meaning.specs.Reach.{Direction, up, down}
 use Rattle.tables.specs.Columns.{eventOf}
 use Rattle.directions.specs.Sets.{holdsOne, has}

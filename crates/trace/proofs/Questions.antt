@@ -1,6 +1,6 @@
 -- Questions about an object, at the places of an event and by the words of its row.
-use Prim.Native.Nat.{ℕ, zero, suc, _+_, _/_, _%_, _<_}
-use mathlib.Core.Path.{_≡_, refl, sym, ap, ap₂, subst, _∙_}
+use Prim.Native.Nat.{ℕ, zero, suc, _/_, _%_, _<_}
+use mathlib.Core.Path.{_≡_, refl, sym, ap, ap₂, _∙_}
 use mathlib.Core.Bool.{Bool, true, false, _&&_, _||_, not, cond, and-true, and-false, or-false}
 use mathlib.Core.List.{List}
 use mathlib.Core.Option.{some}
@@ -9,7 +9,7 @@ use lib.Dec.{eqb, lit<}
 use borrow.Author.Tests.{eq-eqb, ne-eqb, eqb-true, eqb-false}
 use Rattle.meaning.specs.Lists.{holds}
 use Rattle.meaning.specs.Schema.{ObjectType, under, relationshipOf}
-use Rattle.meaning.specs.Register.{Register, isUnder, hasLink, startsAt}
+use Rattle.meaning.specs.Register.{isUnder, hasLink, startsAt}
 use Rattle.meaning.specs.Events.{Event, insert, delete, set, join, part, special, general, linkOf}
 use Rattle.meaning.specs.Reach.{Step, Change, Kind, inserts, deletes, sets, joins, parts, specials, generals, sameKind, kindPlace, among}
 use Rattle.tables.specs.Columns.{noEvent, eventOf}

@@ -1,6 +1,6 @@
 -- The steps of a batch by the rows of its events, and what some step of it does.
 use Prim.Native.Nat.{ℕ, zero, suc, _+_, _<_}
-use mathlib.Core.Path.{_≡_, refl, sym, ap, ap₂, subst, _∙_}
+use mathlib.Core.Path.{_≡_, refl, sym, ap, ap₂, _∙_}
 use mathlib.Core.Bool.{Bool, true, false, _&&_, _||_, not, or-true, or-false, or-assoc}
 use mathlib.Core.List.{List, [], _∷_, map}
 use mathlib.Core.Option.{some, Option·none-ne-some, Option·some-injective}
@@ -41,7 +41,8 @@ mapped-at f read (y ∷ l) k (suc n) e (suc i) h =
     let at : suc k + i ≡ k + suc i = omega arith in
     (r .0, r .1, r .2 ∙ ap read at)
 
-some-within : {A B : Type 0} (f : A → B) (read : ℕ → B) (l : List A) (k n : ℕ) → map f l ≡ rowsFrom read k n → (i : ℕ) (x : A) → getElem? l i ≡ some x → i < n
+-- a place that has an element is one of the rows
+pub some-within : {A B : Type 0} (f : A → B) (read : ℕ → B) (l : List A) (k n : ℕ) → map f l ≡ rowsFrom read k n → (i : ℕ) (x : A) → getElem? l i ≡ some x → i < n
 some-within f read [] k n e i x q = absurd (Option·none-ne-some x q)
 some-within f read (y ∷ l) k zero e i x q = let z : _≡_ {A = ℕ} (suc (length (map f l))) 0 = ap length e in absurd (omega arith)
 some-within f read (y ∷ l) k (suc n) e zero x q = omega arith

@@ -1,7 +1,7 @@
 -- The whole trace, from its places, what is kept of each event, and the sets of directions of each type.
 use Prim.Native.Nat.{ℕ, _+_, _*_, _≤_, _<_}
-use mathlib.Core.Path.{_≡_, refl, sym, ap, _∙_}
-use mathlib.Core.Bool.{Bool, false, _||_}
+use mathlib.Core.Path.{_≡_, sym, ap, _∙_}
+use mathlib.Core.Bool.{Bool, _||_}
 use mathlib.Core.List.{List, []}
 use native.Mathlib.Omega.{arith}
 use lib.Dec.{eqb}
@@ -9,7 +9,7 @@ use lib.ListN.{getD}
 use Rattle.meaning.specs.Limits.{maxTypes}
 use Rattle.meaning.specs.Register.{Link, hasLink}
 use Rattle.meaning.specs.Events.{linkOf}
-use Rattle.meaning.specs.Reach.{Change, Direction, up, down, allMoves}
+use Rattle.meaning.specs.Reach.{Change, Direction, up, down}
 use Rattle.rows.specs.Rows.{readRows}
 use Rattle.tables.specs.Columns.{typesOf, objectRow, linkRow, eventRow}
 use Rattle.tables.specs.declared.Counts.{Counts}

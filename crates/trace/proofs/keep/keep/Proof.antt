@@ -1,6 +1,6 @@
 -- `trace::keep::keep` meets its contract. The invariant: what is kept of the events below this one stands. The measure is the events left.
 use native.Mathlib.Numerals.{add-one}
-use mathlib.Core.Path.{_≡_, refl, sym, subst, _∙_}
+use mathlib.Core.Path.{_≡_, refl, subst, _∙_}
 use Rattle.trace.proofs.Keeping.{kept-none, kept-more}
 use Rattle.trace.specs.Making.{Kept}
 use borrow.Author.Needs.{needs}

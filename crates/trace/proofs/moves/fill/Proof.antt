@@ -1,5 +1,5 @@
 -- `trace::moves::fill` meets its contract. The invariant: the events below this one are in the sets. The measure is the events left.
-use Prim.Native.Nat.{ℕ, _-_, _≤_}
+use Prim.Native.Nat.{_-_, _≤_}
 use mathlib.Core.Path.{_≡_, refl, ap}
 use mathlib.Core.List.{List}
 use native.Mathlib.Numerals.{add-one}

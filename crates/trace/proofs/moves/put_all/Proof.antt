@@ -1,5 +1,5 @@
 -- `trace::moves::put_all` meets its contract. The invariant: the sets of the types below this one are done. The measure is the types left.
-use Prim.Native.Nat.{ℕ, _-_, _≤_}
+use Prim.Native.Nat.{_-_, _≤_}
 use mathlib.Core.Path.{_≡_, ap, subst, _∙_}
 use mathlib.Core.Bool.{false, _&&_}
 use native.Mathlib.Numerals.{add-one}

@@ -2,7 +2,6 @@
 -- measure is the number of steps left.
 use mathlib.Core.Path.{_≡_, refl, sym, ap, _∙_}
 use mathlib.Core.Option.{some}
-use native.Mathlib.Omega.{arith}
 use lib.ListN.{length}
 use Rattle.meaning.specs.Limits.{maxTypes}
 use denote.Ref.{now}
