@@ -2,19 +2,16 @@
 use Prim.Native.Nat.{ℕ, zero, suc, _+_, _-_, _*_, _/_, _%_, _≤_, _<_}
 use mathlib.Core.Path.{_≡_, refl, sym, ap, ap₂, subst, _∙_}
 use mathlib.Core.Bool.{Bool, true, false, _&&_, _||_, not, cond, or-true}
-use mathlib.Core.List.{List, [], _∷_, map}
-use mathlib.Core.Option.{Option, none, some, Option·map, Option·none-ne-some, Option·some-injective}
+use mathlib.Core.List.{List}
+use mathlib.Core.Option.{Option, none, some}
 use mathlib.Core.Logic.{_⊎_, inl, inr, ⊎-elim}
 use native.Mathlib.Nat.{eq-or-lt-of-le, le-of-suc-le-suc}
 use native.Mathlib.Omega.{arith}
 use lib.Dec.{T, leb, eqb}
-use lib.ListN.{length, getD, getElem?}
+use lib.ListN.{getD, getElem?}
 use borrow.Author.Tests.{ne-eqb, eqb-true, leb-true, leb-false}
-use Rattle.meaning.specs.Limits.{maxObjects}
-use Rattle.meaning.specs.Lists.{any, holds}
-use Rattle.meaning.specs.Events.{Event}
+use Rattle.meaning.specs.Lists.{holds}
 use Rattle.meaning.specs.Reach.{Step, Change, someStep}
-use Rattle.rows.specs.Rows.{rowsFrom, readRows}
 use Rattle.tables.specs.Columns.{objectRow, typesOf, eventRow}
 use Rattle.tables.specs.declared.Counts.{Counts}
 use Rattle.register.specs.Tables.{objectPlace}
@@ -26,40 +23,11 @@ use Rattle.ocl.specs.Site.{idIn}
 use Rattle.trace.specs.Questions.{Question, answers, asked, answersAt}
 use Rattle.trace.specs.Traces.{itself, placeAnswers, namedAt, orPast, rowNamed, placeRow, thereWord, metWord, Traced}
 use Rattle.trace.proofs.Questions.{names, step-places}
+use Rattle.trace.proofs.Steps.{any-none-at, any-some-at, step-at, step-within, step-event}
 
 so-true : (b : Bool) → T b → b ≡ true
 so-true true t = refl
 so-true false t = absurd t
-
--- ---- lists by their places
-
-any-none-at : {A : Type 0} (p : A → Bool) (l : List A) → ((i : ℕ) (x : A) → getElem? l i ≡ some x → p x ≡ false) → any p l ≡ false
-any-none-at p [] h = refl
-any-none-at p (x ∷ l) h = ap₂ _||_ (h 0 x refl) (any-none-at p l (λ i. h (suc i)))
-
-any-some-at : {A : Type 0} (p : A → Bool) (l : List A) (i : ℕ) (x : A) → getElem? l i ≡ some x → p x ≡ true → any p l ≡ true
-any-some-at p [] i x e t = absurd (Option·none-ne-some x e)
-any-some-at p (y ∷ l) zero x e t = ap (λ b. b || any p l) (ap p (Option·some-injective y x e) ∙ t)
-any-some-at p (y ∷ l) (suc i) x e t = ap (λ b. p y || b) (any-some-at p l i x e t) ∙ or-true (p y)
-
--- of a list whose images are rows, the element at a place
-mapped-at : {A B : Type 0} (f : A → B) (read : ℕ → B) (l : List A) (k n : ℕ) → map f l ≡ rowsFrom read k n → (i : ℕ) → i < n → (x : A) × (getElem? l i ≡ some x) × (f x ≡ read (k + i))
-mapped-at f read l k zero e i h = absurd (omega arith)
-mapped-at f read [] k (suc n) e i h = let z : _≡_ {A = ℕ} 0 (suc (length (rowsFrom read (suc k) n))) = ap length e in absurd (omega arith)
-mapped-at f read (y ∷ l) k (suc n) e zero h = let at : k + 0 ≡ k = omega arith in let q : f y ≡ read k = cc in (y, refl, q ∙ ap read (sym at))
-mapped-at f read (y ∷ l) k (suc n) e (suc i) h =
-    let tail : map f l ≡ rowsFrom read (suc k) n = cc in
-    let r = mapped-at f read l (suc k) n tail i (omega arith) in
-    let at : suc k + i ≡ k + suc i = omega arith in
-    (r .0, r .1, r .2 ∙ ap read at)
-
-some-within : {A B : Type 0} (f : A → B) (read : ℕ → B) (l : List A) (k n : ℕ) → map f l ≡ rowsFrom read k n → (i : ℕ) (x : A) → getElem? l i ≡ some x → i < n
-some-within f read [] k n e i x q = absurd (Option·none-ne-some x q)
-some-within f read (y ∷ l) k zero e i x q = let z : _≡_ {A = ℕ} (suc (length (map f l))) 0 = ap length e in absurd (omega arith)
-some-within f read (y ∷ l) k (suc n) e zero x q = omega arith
-some-within f read (y ∷ l) k (suc n) e (suc i) x q =
-    let tail : map f l ≡ rowsFrom read (suc k) n = cc in
-    let r = some-within f read l (suc k) n tail i x q in omega arith
 
 -- ---- the rows that places name
 
@@ -106,18 +74,11 @@ module _ {c : Change} {n : Counts} {types objects links events trace : List ℕ}
         (λ k. answersAt (typesOf (n .types) types) q (eventRow events (sym first k)) (sym even k) (metWord trace (sym first k)) (eqb (thereWord trace (sym first k)) 1))
         (λ k. answersAt (typesOf (n .types) types) q (eventRow events (sym second k)) (sym odd k) (metWord trace (sym second k)) (eqb (thereWord trace (sym second k)) 1))
 
-    -- the step of an event
-    step-at : (i : ℕ) → i < n .events → (s : Step) × (getElem? (c .steps) i ≡ some s) × (s .event ≡ eventRow events i)
-    step-at i h =
-        let r = mapped-at (λ (s : Step). s .event) (eventRow events) (c .steps) 0 (n .events) (traced .seen .events-are) i h in
-        let at : 0 + i ≡ i = omega arith in
-        (r .0, r .1, r .2 ∙ ap (eventRow events) at)
-
     -- a place that names the row, and answers
     pub found : (p : ℕ) → p < 2 * n .events → key p ≡ row → answerAt p ≡ true → true ≡ asked c q u
     unfolding asked someStep
     found p h k a =
-        let r = step-at (p / 2) (omega arith) in
+        let r = step-at (traced .seen) (p / 2) (omega arith) in
         sym (any-some-at (answers c q u) (c .steps) (p / 2) (r .0) (r .1) (at-step (p / 2) (r .0) (r .1) (r .2) (omega arith) ∙ side (p % 2) refl (omega arith)))
       where
         i : ℕ
@@ -147,10 +108,8 @@ module _ {c : Change} {n : Counts} {types objects links events trace : List ℕ}
 
         still : (i : ℕ) (s : Step) → getElem? (c .steps) i ≡ some s → answers c q u s ≡ false
         still i s e =
-            let within = some-within (λ (t : Step). t .event) (eventRow events) (c .steps) 0 (n .events) (traced .seen .events-are) i s e in
-            let r = step-at i within in
-            let own : r .0 ≡ s = Option·some-injective (r .0) s (sym (r .1) ∙ e) in
-            at-step i s e (ap (λ (t : Step). t .event) (sym own) ∙ r .2) within
+            let within = step-within (traced .seen) i s e in
+            at-step i s e (step-event (traced .seen) i s e) within
             ∙ ap₂ _||_ (silent i 0 (2 * i) (omega arith) (omega arith) (omega arith) (names u (eventRow events i) 0) refl) (silent i 1 (2 * i + 1) (omega arith) (omega arith) (omega arith) (names u (eventRow events i) 1) refl)
 
 -- ---- the walk over a row's places

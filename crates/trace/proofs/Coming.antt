@@ -11,7 +11,7 @@ use Rattle.meaning.specs.Events.{Event, insert, delete, special, general}
 use Rattle.meaning.specs.Reach.{inserts, deletes, specials, generals, among}
 use Rattle.tables.specs.Columns.{noEvent, eventOf}
 use Rattle.trace.specs.Questions.{metUnder}
-use Rattle.trace.specs.Making.{comesInto, goesFrom, deleteWords}
+use Rattle.trace.specs.Making.{comesInto, goesFrom, deleteWords, comesBy, goesBy}
 use Rattle.trace.proofs.Questions.{type-words}
 
 -- ---- truths
@@ -39,31 +39,15 @@ comes-apart false true true u false false = refl
 comes-apart false true false u v w = refl
 comes-apart false false z u v w = refl
 
-module _ (ts : List ObjectType) (kind x y z met t : ℕ) where
-  abbrev e : Event
-  e = eventOf kind x y z
-
-  abbrev into : Bool
-  into = under ts y t
-
-  abbrev had : Bool
-  had = metUnder ts met t
-
-  -- it comes in, by its words
-  abbrev pub comes : Bool
-  comes = (eqb 0 kind && (eqb z 0 && into)) || (eqb 5 kind && (eqb z 0 && (into && not had)))
-
-  pub comes-words : (whom : ℕ → Bool) → comesInto ts e met t whom ≡ (comes && whom x)
-  unfolding comesInto
-  comes-words whom =
-      ap₂ _||_
-      (type-words inserts (λ id u n. whom id && under ts u t) x y z refl refl refl refl kind)
-      (type-words specials (λ id u n. whom id && (under ts u t && not had)) x y z refl refl refl refl kind)
-      ∙ comes-apart (eqb 0 kind) (eqb 5 kind) (eqb z 0) into (into && not had) (whom x)
-
-  -- it goes out
-  abbrev pub goes : Bool
-  goes = (deleteWords kind z && had) || (eqb 6 kind && (eqb z 0 && (had && not into)))
+pub comes-words : (ts : List ObjectType) (kind x y z met t : ℕ) (whom : ℕ → Bool) → comesInto ts (eventOf kind x y z) met t whom ≡ (comesBy kind z (under ts y t) (metUnder ts met t) && whom x)
+unfolding comesInto
+comes-words ts kind x y z met t whom =
+    let into = under ts y t in
+    let had = metUnder ts met t in
+    ap₂ _||_
+    (type-words inserts (λ id u n. whom id && under ts u t) x y z refl refl refl refl kind)
+    (type-words specials (λ id u n. whom id && (under ts u t && not had)) x y z refl refl refl refl kind)
+    ∙ comes-apart (eqb 0 kind) (eqb 5 kind) (eqb z 0) into (into && not had) (whom x)
 
 delete-words : (kind x y z : ℕ) (had : Bool) → among deletes (λ id u n. had) (eventOf kind x y z) ≡ (deleteWords kind z && had)
 unfolding eventOf
@@ -91,19 +75,19 @@ delete-words kind x y z had = step kind
     step (suc (suc (suc (suc (suc (suc zero)))))) = either-way (general x y) refl (eqb z 0)
     step (suc (suc (suc (suc (suc (suc (suc k))))))) = refl
 
-pub goes-words : (ts : List ObjectType) (kind x y z met t : ℕ) → goesFrom ts (eventOf kind x y z) met t ≡ goes ts kind x y z met t
+pub goes-words : (ts : List ObjectType) (kind x y z met t : ℕ) → goesFrom ts (eventOf kind x y z) met t ≡ goesBy kind z (under ts y t) (metUnder ts met t)
 unfolding goesFrom
 goes-words ts kind x y z met t =
     ap₂ _||_ (delete-words kind x y z (metUnder ts met t)) (type-words generals (λ id u n. metUnder ts met t && not (under ts u t)) x y z refl refl refl refl kind)
 
 -- ---- what the code looks at, in its order
 
-module _ (ts : List ObjectType) (kind x y z met t : ℕ) where
+module _ (kind z : ℕ) (into had : Bool) where
   abbrev in-words : Bool
-  in-words = comes ts kind x y z met t
+  in-words = comesBy kind z into had
 
   abbrev out-words : Bool
-  out-words = goes ts kind x y z met t
+  out-words = goesBy kind z into had
 
   both-off : (a b : Bool) → ((a && false) || (b && false)) ≡ false
   both-off true true = refl
@@ -114,24 +98,24 @@ module _ (ts : List ObjectType) (kind x y z met t : ℕ) where
   pub comes-spoiled : (z ≡ 0 → ⊥) → in-words ≡ false
   comes-spoiled h = rw (ne-eqb z 0 h) (both-off (eqb 0 kind) (eqb 5 kind))
 
-  pub comes-insert : kind ≡ 0 → z ≡ 0 → in-words ≡ under ts y t
-  comes-insert k h = rw (k, h) (or-false (under ts y t))
+  pub comes-insert : kind ≡ 0 → z ≡ 0 → in-words ≡ into
+  comes-insert k h = rw (k, h) (or-false (into))
 
   pub comes-other : (kind ≡ 0 → ⊥) → (kind ≡ 5 → ⊥) → in-words ≡ false
   comes-other i s = rw (ne-eqb 0 kind (λ q. i (sym q)), ne-eqb 5 kind (λ q. s (sym q)))
 
-  pub comes-still : kind ≡ 5 → metUnder ts met t ≡ true → in-words ≡ false
-  comes-still k h = rw (k, h) (off (eqb z 0) (under ts y t))
+  pub comes-still : kind ≡ 5 → had ≡ true → in-words ≡ false
+  comes-still k h = rw (k, h) (off (eqb z 0) (into))
     where
       off : (a b : Bool) → (a && (b && false)) ≡ false
       off true true = refl
       off true false = refl
       off false b = refl
 
-  pub comes-special : kind ≡ 5 → z ≡ 0 → metUnder ts met t ≡ false → in-words ≡ under ts y t
-  comes-special k h m = rw (k, h, m) (and-true (under ts y t))
+  pub comes-special : kind ≡ 5 → z ≡ 0 → had ≡ false → in-words ≡ into
+  comes-special k h m = rw (k, h, m) (and-true (into))
 
-  pub goes-still : metUnder ts met t ≡ false → out-words ≡ false
+  pub goes-still : had ≡ false → out-words ≡ false
   goes-still h = rw h (off (deleteWords kind z) (eqb 6 kind) (eqb z 0))
     where
       off : (a b c : Bool) → ((a && false) || (b && (c && false))) ≡ false
@@ -142,16 +126,16 @@ module _ (ts : List ObjectType) (kind x y z met t : ℕ) where
       off false true false = refl
       off false false c = refl
 
-  pub goes-delete : deleteWords kind z ≡ true → metUnder ts met t ≡ true → out-words ≡ true
+  pub goes-delete : deleteWords kind z ≡ true → had ≡ true → out-words ≡ true
   goes-delete d h = rw (d, h)
 
   pub goes-other : deleteWords kind z ≡ false → (kind ≡ 6 → ⊥) → out-words ≡ false
   goes-other d g = rw (d, ne-eqb 6 kind (λ q. g (sym q)))
 
-  pub goes-general : deleteWords kind z ≡ false → kind ≡ 6 → metUnder ts met t ≡ true → out-words ≡ not (under ts y t)
+  pub goes-general : deleteWords kind z ≡ false → kind ≡ 6 → had ≡ true → out-words ≡ not (into)
   goes-general d k h = rw (d, h, k) (step (eqb z 0) (sym (ap (λ j. deleteWords j z) k) ∙ d))
     where
-      step : (b : Bool) → not b ≡ false → (b && not (under ts y t)) ≡ not (under ts y t)
+      step : (b : Bool) → not b ≡ false → (b && not (into)) ≡ not (into)
       step true e = refl
       step false e = absurd (subst (λ b. cond b ℕ ⊥) e 0)
 

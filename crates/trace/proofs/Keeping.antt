@@ -1,6 +1,6 @@
 -- What is kept of each event: one event more.
-use Prim.Native.Nat.{ℕ, zero, suc, _+_, _≤_, _<_}
-use mathlib.Core.Path.{_≡_, refl, sym, ap, subst, _∙_}
+use Prim.Native.Nat.{ℕ, zero, suc, _+_, _<_}
+use mathlib.Core.Path.{_≡_, refl, sym, ap, _∙_}
 use mathlib.Core.Bool.{Bool, true, false, cond}
 use mathlib.Core.Logic.{⊎-elim}
 use mathlib.Core.List.{List}
@@ -14,7 +14,7 @@ use Rattle.meaning.specs.Events.{Event, insert, delete, set as sets, join, part
 use Rattle.tables.specs.Columns.{noEvent, eventOf, eventRow}
 use Rattle.register.specs.Tables.{linksWith}
 use Rattle.trace.specs.Traces.{thereWord, metWord}
-use Rattle.trace.specs.Making.{keptEvent, Kept}
+use Rattle.trace.specs.Making.{Kept}
 
 -- ---- the words of a join
 

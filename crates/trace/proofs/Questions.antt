@@ -1,6 +1,6 @@
 -- Questions about an object, at the places of an event and by the words of its row.
-use Prim.Native.Nat.{ℕ, zero, suc, _+_, _/_, _%_, _<_}
-use mathlib.Core.Path.{_≡_, refl, sym, ap, ap₂, subst, _∙_}
+use Prim.Native.Nat.{ℕ, zero, suc, _/_, _%_, _<_}
+use mathlib.Core.Path.{_≡_, refl, sym, ap, ap₂, _∙_}
 use mathlib.Core.Bool.{Bool, true, false, _&&_, _||_, not, cond, and-true, and-false, or-false}
 use mathlib.Core.List.{List}
 use mathlib.Core.Option.{some}
@@ -9,7 +9,7 @@ use lib.Dec.{eqb, lit<}
 use borrow.Author.Tests.{eq-eqb, ne-eqb, eqb-true, eqb-false}
 use Rattle.meaning.specs.Lists.{holds}
 use Rattle.meaning.specs.Schema.{ObjectType, under, relationshipOf}
-use Rattle.meaning.specs.Register.{Register, isUnder, hasLink, startsAt}
+use Rattle.meaning.specs.Register.{isUnder, hasLink, startsAt}
 use Rattle.meaning.specs.Events.{Event, insert, delete, set, join, part, special, general, linkOf}
 use Rattle.meaning.specs.Reach.{Step, Change, Kind, inserts, deletes, sets, joins, parts, specials, generals, sameKind, kindPlace, among}
 use Rattle.tables.specs.Columns.{noEvent, eventOf}
@@ -189,23 +189,15 @@ parts-same f g (part n a b) h = h n a b
 parts-same f g (special id t) h = refl
 parts-same f g (general id t) h = refl
 
-specials-same : (f g : ℕ → ℕ → ℕ → Bool) (e : Event) → ((x y z : ℕ) → objectOf e ≡ some x → f x y z ≡ g x y z) → among specials f e ≡ among specials g e
-specials-same f g (insert id t) h = refl
-specials-same f g (delete id) h = refl
-specials-same f g (set id k v) h = refl
-specials-same f g (join n a b) h = refl
-specials-same f g (part n a b) h = refl
-specials-same f g (special id t) h = h id t 0 refl
-specials-same f g (general id t) h = refl
-
-generals-same : (f g : ℕ → ℕ → ℕ → Bool) (e : Event) → ((x y z : ℕ) → objectOf e ≡ some x → f x y z ≡ g x y z) → among generals f e ≡ among generals g e
-generals-same f g (insert id t) h = refl
-generals-same f g (delete id) h = refl
-generals-same f g (set id k v) h = refl
-generals-same f g (join n a b) h = refl
-generals-same f g (part n a b) h = refl
-generals-same f g (special id t) h = refl
-generals-same f g (general id t) h = h id t 0 refl
+-- of an event that names an object
+pub objects-same : (which : Kind) (f g : ℕ → ℕ → ℕ → Bool) → sameKind which joins ≡ false → sameKind which parts ≡ false → (e : Event) → ((x y z : ℕ) → objectOf e ≡ some x → f x y z ≡ g x y z) → among which f e ≡ among which g e
+objects-same which f g j p (insert id t) h = ap (λ b. sameKind which inserts && b) (h id t 0 refl)
+objects-same which f g j p (delete id) h = ap (λ b. sameKind which deletes && b) (h id 0 0 refl)
+objects-same which f g j p (set id k v) h = ap (λ b. sameKind which sets && b) (h id k 0 refl)
+objects-same which f g j p (join n a b) h = rw j
+objects-same which f g j p (part n a b) h = rw p
+objects-same which f g j p (special id t) h = ap (λ b. sameKind which specials && b) (h id t 0 refl)
+objects-same which f g j p (general id t) h = ap (λ b. sameKind which generals && b) (h id t 0 refl)
 
 module _ (c : Change) (u : ℕ) (s : Step) (met : ℕ) (there : Bool)
     (met-is : (id t : ℕ) → objectOf (s .event) ≡ some id → isUnder (c .schema .types) (s .met) id t ≡ metUnder (c .schema .types) met t)
@@ -236,11 +228,11 @@ module _ (c : Change) (u : ℕ) (s : Step) (met : ℕ) (there : Bool)
       (parts-same (named 1) (near 1) e (λ n a b. ap (λ x. eqb n (relationshipOf r) && x) (and-true (eqb 1 (r % 2)))))
   step-places (insertedInto t) = object-places inserts u (λ id w n. under types w t) refl refl e
   step-places (specialisedInto t) =
-      specials-same (λ id w n. eqb u id && (under types w t && not (isUnder types (s .met) id t))) (λ id w n. eqb u id && (under types w t && not (metUnder types met t))) e
+      objects-same specials (λ id w n. eqb u id && (under types w t && not (isUnder types (s .met) id t))) (λ id w n. eqb u id && (under types w t && not (metUnder types met t))) refl refl e
       (λ id w n q. ap (λ x. eqb u id && (under types w t && not x)) (met-is id t q))
       ∙ object-places specials u (λ id w n. under types w t && not (metUnder types met t)) refl refl e
   step-places (generalisedFrom t) =
-      generals-same (λ id w n. eqb u id && (isUnder types (s .met) id t && not (under types w t))) (λ id w n. eqb u id && (metUnder types met t && not (under types w t))) e
+      objects-same generals (λ id w n. eqb u id && (isUnder types (s .met) id t && not (under types w t))) (λ id w n. eqb u id && (metUnder types met t && not (under types w t))) refl refl e
       (λ id w n q. ap (λ x. eqb u id && (x && not (under types w t))) (met-is id t q))
       ∙ object-places generals u (λ id w n. metUnder types met t && not (under types w t)) refl refl e
 

@@ -5,15 +5,18 @@ use mathlib.Core.Bool.{Bool, true, false, _&&_, _||_, not}
 use mathlib.Core.List.{List}
 use lib.Dec.{eqb}
 use lib.ListN.{getD, set}
-use Rattle.meaning.specs.Register.{Object, hasLink}
+use Rattle.meaning.specs.Limits.{maxTypes, maxObjects, maxEvents}
+use Rattle.meaning.specs.Register.{Object, Register, isUnder, hasLink}
 use Rattle.meaning.specs.Schema.{ObjectType, under}
 use Rattle.meaning.specs.Events.{Event, join, linkOf}
-use Rattle.meaning.specs.Reach.{inserts, deletes, specials, generals, among}
+use Rattle.meaning.specs.Reach.{inserts, deletes, specials, generals, among, Direction, up, down}
 use Rattle.tables.specs.Columns.{eventRow}
-use Rattle.register.specs.Tables.{linksWith}
+use Rattle.tables.specs.declared.Counts.{Counts}
+use Rattle.register.specs.Tables.{ObjectsAscend, LinksAscend, linksWith}
 use Rattle.register.specs.Chains.{Chained}
+use Rattle.directions.specs.Sets.{has}
 use Rattle.trace.specs.Questions.{metUnder}
-use Rattle.trace.specs.Traces.{placeRow, nextPlace, firstPlace, thereWord, metWord, itself}
+use Rattle.trace.specs.Traces.{placeRow, nextPlace, firstPlace, thereWord, metWord, allSet, itself}
 
 -- the table with a place, that names the row, at the head of the row's chain; what was the head is next
 abbrev pub placed : List ℕ → ℕ → ℕ → List ℕ
@@ -45,6 +48,10 @@ pub record Kept (m : ℕ) (links events met : List ℕ) (before trace : List ℕ
 
 -- ---- the types that objects come into or go out of
 
+-- a truth for each type
+pub record ForTypes (truths : List Bool) (test : ℕ → Bool) : Type 0 where
+  pub each : (t : ℕ) → t < maxTypes → getD truths t false ≡ test t
+
 -- an event brings its object, one of which `whom` holds, into t; it takes its object out of t; by the type that it met
 module _ (types : List ObjectType) (e : Event) (met t : ℕ) where
   unfoldable pub comesInto : (ℕ → Bool) → Bool
@@ -64,3 +71,50 @@ deleteWords (suc (suc (suc (suc zero)))) z = false
 deleteWords (suc (suc (suc (suc (suc zero))))) z = not (eqb z 0)
 deleteWords (suc (suc (suc (suc (suc (suc zero)))))) z = not (eqb z 0)
 deleteWords (suc (suc (suc (suc (suc (suc (suc k))))))) z = true
+
+-- the same by a row's kind and last field, and by whether the type that it names is under t, and the one that it met was
+abbrev pub comesBy : ℕ → ℕ → Bool → Bool → Bool
+comesBy kind z into had = (eqb 0 kind && (eqb z 0 && into)) || (eqb 5 kind && (eqb z 0 && (into && not had)))
+
+abbrev pub goesBy : ℕ → ℕ → Bool → Bool → Bool
+goesBy kind z into had = (deleteWords kind z && had) || (eqb 6 kind && (eqb z 0 && (had && not into)))
+
+-- ---- the directions in which all objects of a type move
+
+-- a gain or a loss
+abbrev pub eitherWay : Bool → Bool → Direction → Bool
+eitherWay gain loss up = gain
+eitherWay gain loss down = loss
+
+-- an event brings an object that is under t at the end into t, or takes one out
+abbrev pub eventMoves : List ObjectType → Register → Event → ℕ → ℕ → Direction → Bool
+eventMoves types g e met t = eitherWay (comesInto types e met t (λ x. isUnder types g x t)) (goesFrom types e met t)
+
+-- one of the first n
+abbrev pub someBelow : (ℕ → Bool) → ℕ → Bool
+someBelow so zero = false
+someBelow so (suc n) = someBelow so n || so n
+
+-- the set of type t has directions besides; every other word is as it was
+pub record SetWith (before after : List ℕ) (t : ℕ) (moved : Direction → Bool) : Type 0 where
+  pub set-is : (d : Direction) → has (allSet after t) d ≡ (has (allSet before t) d || moved d)
+  pub small : allSet after t < 4
+  pub other : (k : ℕ) → (k ≡ 1536 + t → ⊥) → getD after k 0 ≡ getD before k 0
+
+-- so have the sets of the types below n
+pub record SetsWith (before after : List ℕ) (moved : ℕ → Direction → Bool) (n : ℕ) : Type 0 where
+  pub sets-are : (t : ℕ) → t < n → (d : Direction) → has (allSet after t) d ≡ (has (allSet before t) d || moved t d)
+  pub small : (t : ℕ) → allSet before t < 4 → allSet after t < 4
+  pub below : (k : ℕ) → k < 1536 → getD after k 0 ≡ getD before k 0
+  pub above : (k : ℕ) → 1536 + n ≤ k → getD after k 0 ≡ getD before k 0
+
+-- ---- the whole trace
+
+-- What it asks: the register at the end in order and within its limits, of each event a type that it met or none, and a table of zeros.
+pub record CanTrace (n : Counts) (objects links met trace : List ℕ) : Type 0 where
+  pub objects-ascend : ObjectsAscend (n .objects) objects
+  pub links-ascend : LinksAscend (n .links) links
+  pub objects-few : n .objects ≤ maxObjects
+  pub events-few : n .events ≤ maxEvents
+  pub met-low : (i : ℕ) → i < n .events → getD met i 0 ≤ maxTypes
+  pub empty : (k : ℕ) → getD trace k 0 ≡ 0

@@ -35,7 +35,7 @@ fn is_there(link_count: u32, links: &[u32], events: &[u32], i: u32) -> bool
 }
 
 // 1 where it holds, else 0.
-fn bit(holds: bool) -> u32
+pub fn bit(holds: bool) -> u32
     ensures { λ r. ⌜ (eqb r 1 ≡ holds) × (r < 2) ⌝ }
 {
     if holds {
@@ -64,7 +64,7 @@ pub fn keep(
     met: &[u32; 256],
     trace: &mut [u16; 2593],
 )
-    requires { ⌜ (LinksAscend «link_count» (now links)) × («event_count» ≤ maxEvents) × ((i : ℕ) → getD (now met) i 0 ≤ maxTypes) ⌝ }
+    requires { ⌜ (LinksAscend «link_count» (now links)) × («event_count» ≤ maxEvents) × ((i : ℕ) → i < «event_count» → getD (now met) i 0 ≤ maxTypes) ⌝ }
     ensures { λ _. ⌜ Kept «link_count» (now (links .entry)) (now (events .entry)) (now (met .entry)) (now (trace .entry)) (now (trace .exit)) «event_count» ⌝ }
 {
     let mut i: u32 = 0;

@@ -1,4 +1,40 @@
 // What is kept of a batch that was run, for the reach rules: a trace of its events by the rows of the register at the end.
+use tables::Counts;
+ghost use Rattle.meaning.specs.Reach.{Change};
+ghost use lib.ListN.{getD};
+ghost use Rattle.trace.specs.Traces.{Seen, Traced};
+ghost use Rattle.trace.specs.Making.{CanTrace};
+
 mod keep;
+mod moves;
 mod places;
 pub mod types;
+
+// The trace of a batch in a table of zeros. The counts are those at the end.
+pub fn make(
+    n: Counts,
+    types: &[u32],
+    objects: &[u32],
+    links: &[u32],
+    events: &[u32],
+    met: &[u32; 256],
+    trace: &mut [u16; 2593],
+)
+    requires { ⌜ CanTrace n (now objects) (now links) (now met) (now trace) ⌝ }
+    ensures { λ _. ⌜ ((c : Change)
+        → Seen c n (now (types .entry)) (now (objects .entry)) (now (links .entry)) (now (events .entry)) (λ i. getD (now (met .entry)) i 0)
+        → Traced c n (now (types .entry)) (now (objects .entry)) (now (links .entry)) (now (events .entry)) (now (trace .exit))) ⌝ }
+{
+    places::place(n.objects, objects, n.events, events, trace);
+    keep::keep(n.links, links, n.events, events, met, trace);
+    moves::fill(
+        n.types,
+        types,
+        n.objects,
+        objects,
+        n.events,
+        events,
+        met,
+        trace,
+    );
+}

@@ -1,27 +1,17 @@
-// The types that the object of an event comes into or goes out of.
+// The types that are above the type of an object: the one that an event met, one that an event names, the one at the end.
 use tables::Found;
 ghost use mathlib.Core.Path.{_≡_};
-ghost use mathlib.Core.Bool.{Bool, _&&_};
+ghost use mathlib.Core.Bool.{false, _||_};
 ghost use mathlib.Core.List.{List};
-ghost use Prim.Native.Nat.{ℕ};
+ghost use lib.Dec.{eqb};
+ghost use lib.ListN.{length, getD};
+ghost use Rattle.meaning.specs.Limits.{maxTypes};
+ghost use Rattle.meaning.specs.Schema.{under};
 ghost use Rattle.meaning.specs.Register.{Link, isUnder};
-ghost use Rattle.tables.specs.Columns.{typesOf, eventOf, eventRow};
+ghost use Rattle.tables.specs.Columns.{typesOf};
 ghost use Rattle.register.specs.Tables.{ObjectsAscend, objectsWith};
 ghost use Rattle.trace.specs.Questions.{metUnder};
-ghost use Rattle.trace.specs.Making.{comesInto, goesFrom, deleteWords};
-
-// The kinds of events, by their places in document 01's order.
-const INSERT: u32 = 0;
-
-const DELETE: u32 = 1;
-
-const SET: u32 = 2;
-
-const PART: u32 = 4;
-
-const SPECIAL: u32 = 5;
-
-const GENERAL: u32 = 6;
+ghost use Rattle.trace.specs.Making.{ForTypes};
 
 // Whether an object whose type was `met` was under t; 32 is no type.
 pub fn was_under(type_count: u32, types: &[u32], met: u32, t: u32) -> bool
@@ -34,110 +24,61 @@ pub fn was_under(type_count: u32, types: &[u32], met: u32, t: u32) -> bool
     }
 }
 
-// Whether the object of an id is there and under t.
-fn is_under(
+// Puts the truth of type t; a number past the last type has none.
+fn put(t: u32, truths: &mut [bool])
+    requires { ⌜ length (now truths) ≡ maxTypes ⌝ }
+    ensures { λ _. ⌜ ForTypes (now (truths .exit)) (λ u. getD (now (truths .entry)) u false || eqb t u) ⌝ }
+{
+    if t < meaning::MAX_TYPES {
+        let at = t as usize;
+        truths[at] = true;
+    }
+}
+
+// For each type, whether t is under it: one walk up from t.
+pub fn above(type_count: u32, types: &[u32], t: u32) -> [bool; 32]
+    ensures { λ r. ⌜ ForTypes r (under (typesOf «type_count» (now (types .entry))) t) ⌝ }
+{
+    let mut truths = [false; 32];
+    let mut at = t;
+    let mut left = t;
+    while left > 0 {
+        put(at, &mut truths);
+        if !schema::has_parent(type_count, types, at) {
+            return truths;
+        }
+        at = rows::word(types, 2, at, 0);
+        left -= 1;
+    }
+    put(at, &mut truths);
+    truths
+}
+
+// For each type, whether an object whose type was `met` was under it.
+pub fn met_above(type_count: u32, types: &[u32], met: u32) -> [bool; 32]
+    ensures { λ r. ⌜ ForTypes r (metUnder (typesOf «type_count» (now (types .entry))) met) ⌝ }
+{
+    if met < meaning::MAX_TYPES {
+        above(type_count, types, met)
+    } else {
+        [false; 32]
+    }
+}
+
+// For each type, whether the object of an id is there and under it.
+pub fn end_above(
     type_count: u32,
     types: &[u32],
     object_count: u32,
     objects: &[u32],
     id: u32,
-    t: u32,
-) -> bool
+) -> [bool; 32]
     requires { ⌜ ObjectsAscend «object_count» (now objects) ⌝ }
     ensures { λ r. ⌜ ((ls : List Link) →
-        r ≡ isUnder (typesOf «type_count» (now (types .entry))) (objectsWith «object_count» (now (objects .entry)) ls) id t) ⌝ }
+        ForTypes r (isUnder (typesOf «type_count» (now (types .entry))) (objectsWith «object_count» (now (objects .entry)) ls) id)) ⌝ }
 {
     match register::object_row(object_count, objects, id) {
-        Found::At(row) => schema::under(type_count, types, register::type_of(objects, row), t),
-        Found::Nothing => false,
+        Found::At(row) => above(type_count, types, register::type_of(objects, row)),
+        Found::Nothing => [false; 32],
     }
-}
-
-// Whether an event brings its object into t.
-fn comes(type_count: u32, types: &[u32], kind: u32, y: u32, z: u32, met: u32, t: u32) -> bool
-    ensures { λ r. ⌜ ((x : ℕ) (whom : ℕ → Bool) → comesInto (typesOf «type_count» (now (types .entry))) (eventOf kind x y z) met t whom ≡ (r && whom x)) ⌝ }
-{
-    if z != 0 {
-        return false;
-    }
-    if kind == INSERT {
-        return schema::under(type_count, types, y, t);
-    }
-    if kind != SPECIAL {
-        return false;
-    }
-    if was_under(type_count, types, met, t) {
-        return false;
-    }
-    schema::under(type_count, types, y, t)
-}
-
-// Whether a row is read as a delete.
-fn is_delete(kind: u32, z: u32) -> bool
-    ensures { λ r. ⌜ r ≡ deleteWords kind z ⌝ }
-{
-    if kind == DELETE {
-        return true;
-    }
-    if kind > GENERAL {
-        return true;
-    }
-    if kind < SET {
-        return z != 0;
-    }
-    if kind > PART {
-        return z != 0;
-    }
-    false
-}
-
-// Whether an event takes its object out of t.
-fn goes(type_count: u32, types: &[u32], kind: u32, y: u32, z: u32, met: u32, t: u32) -> bool
-    ensures { λ r. ⌜ ((x : ℕ) → r ≡ goesFrom (typesOf «type_count» (now (types .entry))) (eventOf kind x y z) met t) ⌝ }
-{
-    if !was_under(type_count, types, met, t) {
-        return false;
-    }
-    if is_delete(kind, z) {
-        return true;
-    }
-    if kind != GENERAL {
-        return false;
-    }
-    !schema::under(type_count, types, y, t)
-}
-
-// Whether an event brings an object that is under t at the end into t.
-fn gains(
-    type_count: u32,
-    types: &[u32],
-    object_count: u32,
-    objects: &[u32],
-    events: &[u32],
-    i: u32,
-    met: u32,
-    t: u32,
-) -> bool
-    requires { ⌜ ObjectsAscend «object_count» (now objects) ⌝ }
-    ensures { λ r. ⌜ ((ls : List Link) → r ≡ comesInto (typesOf «type_count» (now (types .entry))) (eventRow (now (events .entry)) i) met t
-        (λ x. isUnder (typesOf «type_count» (now (types .entry))) (objectsWith «object_count» (now (objects .entry)) ls) x t)) ⌝ }
-{
-    let kind = rows::word(events, 4, i, 0);
-    let x = rows::word(events, 4, i, 1);
-    let y = rows::word(events, 4, i, 2);
-    let z = rows::word(events, 4, i, 3);
-    if comes(type_count, types, kind, y, z, met, t) {
-        return is_under(type_count, types, object_count, objects, x, t);
-    }
-    false
-}
-
-// Whether an event takes an object out of t.
-fn loses(type_count: u32, types: &[u32], events: &[u32], i: u32, met: u32, t: u32) -> bool
-    ensures { λ r. ⌜ r ≡ goesFrom (typesOf «type_count» (now (types .entry))) (eventRow (now (events .entry)) i) met t ⌝ }
-{
-    let kind = rows::word(events, 4, i, 0);
-    let y = rows::word(events, 4, i, 2);
-    let z = rows::word(events, 4, i, 3);
-    goes(type_count, types, kind, y, z, met, t)
 }

@@ -1,6 +1,6 @@
 -- `trace::keep::keep` meets its contract. The invariant: what is kept of the events below this one stands. The measure is the events left.
 use native.Mathlib.Numerals.{add-one}
-use mathlib.Core.Path.{_≡_, refl, sym, subst, _∙_}
+use mathlib.Core.Path.{_≡_, refl, subst, _∙_}
 use Rattle.trace.proofs.Keeping.{kept-none, kept-more}
 use Rattle.trace.specs.Making.{Kept}
 use borrow.Author.Needs.{needs}
@@ -43,7 +43,7 @@ write-requires c κs =
     let s = turn .before .before .before .before in
     let few = s .pre .1 in
     let i = turn .before .loop .i in
-    let small = s .pre .2 i in
+    let small = s .pre .2 i (turn .loop-test .taken) in
     (omega arith, omega (arith, turn .loop-test .taken), omega (arith, marked .bit .ensures .1), omega arith)
 
 add-i : tie.Need-add-i Inv-loop μ-loop

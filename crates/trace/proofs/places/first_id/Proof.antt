@@ -1,5 +1,4 @@
 -- `trace::places::first_id` meets its contract.
-use mathlib.Core.Path.{refl}
 use native.Mathlib.Omega.{arith}
 use Rattle.trace.proofs.Naming.{set-names, join-names, part-names, spoiled-names, past-names, deleted-none, deleted-names, typed-names}
 use Rattle.trace.proofs.places.first_id.Statement.{statement}

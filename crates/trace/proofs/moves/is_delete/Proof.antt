@@ -1,9 +1,8 @@
--- `trace::types::is_delete` meets its contract.
+-- `trace::moves::is_delete` meets its contract.
 use native.Mathlib.Omega.{arith}
 use Rattle.trace.proofs.Coming.{delete-own, delete-past, delete-low, delete-high, delete-mid}
-use borrow.Author.Needs.{needs}
-use Rattle.trace.proofs.types.is_delete.Statement.{statement}
-use Rattle.trace.proofs.types.is_delete.Tie as tie
+use Rattle.trace.proofs.moves.is_delete.Statement.{statement}
+use Rattle.trace.proofs.moves.is_delete.Tie as tie
 
 returns : tie.Need-returns
 returns c = delete-own _ (c .if1 .taken)
