@@ -1,6 +1,6 @@
 -- Each event type that a well-typed rule lists has a place among the marks: its type or relationship is one of 32, its cell one of 8.
 use Prim.Native.Nat.{ℕ, _≤_, _<_}
-use mathlib.Core.Path.{_≡_, ap, subst}
+use mathlib.Core.Path.{_≡_, ap}
 use mathlib.Core.Logic.{⊎-elim}
 use mathlib.Core.Bool.{Bool, true, false, _&&_, cond}
 use mathlib.Core.List.{List, [], _∷_, _++_, foldr, List·Memᴰ·head, List·Memᴰ·tail}

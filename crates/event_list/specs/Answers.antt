@@ -6,7 +6,8 @@ use mathlib.Core.Option.{Option, none, some}
 use lib.Dec.{ltb}
 use lib.ListN.{length, getElem?}
 use Rattle.meaning.specs.Lists.{firstOf}
-use Rattle.meaning.specs.Forms.{Book}
+use Rattle.meaning.specs.Schema.{Schema}
+use Rattle.meaning.specs.Forms.{Rule, Book}
 use Rattle.meaning.specs.Events.{Refusal}
 use Rattle.meaning.specs.EventList.{EventType, eventTypeWords, eventList}
 use Rattle.meaning.specs.Answers.{bookRefusal, lackedRule}
@@ -27,9 +28,14 @@ unfoldable pub ruleRefusal : Counts → Sheet → ℕ → Option Refusal
 ruleRefusal n s rule =
     firstOf (tableRefusal ruleTables n s false) (firstOf (bookRefusal (bookOf n s)) (lackedRule (bookOf n s) rule))
 
--- the event list of the rule of that number
+-- the event list of a rule, if there is one
+abbrev pub listIn : Schema → Option Rule → List EventType
+listIn S none = []
+listIn S (some r) = eventList S r
+
+-- that of the rule of a number
 unfoldable pub listOf : Book → ℕ → List EventType
-listOf k rule = elim (getElem? (k .rules) rule) [ none ↦ [] | some r ↦ eventList (k .schema) r ]
+listOf k rule = listIn (k .schema) (getElem? (k .rules) rule)
 
 -- "three 16-bit words each"
 unfoldable pub listWords : List EventType → List ℕ
