@@ -28,9 +28,12 @@ fn put(place: usize, at: usize, list: &mut [u16])
     requires { ⌜ (place < places) × (at + 3 ≤ length (now list)) ⌝ }
     ensures { λ _. ⌜ now (list .exit) ≡ take at (now (list .entry)) ++ wordsAt place ++ drop (at + 3) (now (list .entry)) ⌝ }
 {
-    list[at] = (place / 256) as u16;
-    list[at + 1] = (place / 8 % 32) as u16;
-    list[at + 2] = (place % 8) as u16;
+    let kind = place / 256;
+    let number = place / 8 % 32;
+    let cell = place % 8;
+    list[at] = kind as u16;
+    list[at + 1] = number as u16;
+    list[at + 2] = cell as u16;
 }
 
 // Writes the words of the marked event types, in the order of places.
