@@ -23,11 +23,11 @@ unfolding refusalAt
 stage number none rest = refl
 stage number (some p) rest = refl
 
-first-assoc : {A : Type 0} (a b d : Option A) → firstOf (firstOf a b) d ≡ firstOf a (firstOf b d)
+pub first-assoc : {A : Type 0} (a b d : Option A) → firstOf (firstOf a b) d ≡ firstOf a (firstOf b d)
 first-assoc none b d = refl
 first-assoc (some x) b d = refl
 
-first-none : {A : Type 0} (a : Option A) → a ≡ firstOf a none
+pub first-none : {A : Type 0} (a : Option A) → a ≡ firstOf a none
 first-none none = refl
 first-none (some x) = refl
 

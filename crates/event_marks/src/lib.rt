@@ -2,4 +2,4 @@
 mod body;
 mod mark;
 mod quiet;
-mod rule;
+pub mod rule;

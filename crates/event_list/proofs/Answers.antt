@@ -1,0 +1,209 @@
+-- What the checks of a lent book say about the answer, and what no refusal gives.
+use Prim.Native.Nat.{ℕ, _*_, _≤_, _<_}
+use mathlib.Core.Path.{_≡_, refl, sym, ap, _∙_}
+use mathlib.Core.Bool.{Bool, true, false, _&&_, _||_, cond}
+use mathlib.Core.List.{List, [], _∷_}
+use mathlib.Core.Option.{Option, none, some}
+use native.Mathlib.Omega.{arith}
+use borrow.Author.Tests.{lt-ltb, le-ltb, ltb-true}
+use lib.Dec.{T, ltb, leb}
+use lib.ListN.{length, getD, replicate, getElem?, getD-replicate}
+use mir.Facts.{and-yes, T-not-not}
+use Rattle.meaning.specs.Lists.{firstOf, _∈_}
+use Rattle.meaning.specs.Limits.{maxForms}
+use Rattle.meaning.specs.Schema.{Schema, knownType, typeFault, relationshipFault}
+use Rattle.meaning.specs.Register.{objectFault, linkFault}
+use Rattle.meaning.specs.Forms.{wellTyped, formCount, Rule, Book, faultyRule, ruleFault}
+use Rattle.meaning.specs.Events.{Refusal}
+use Rattle.meaning.specs.EventList.{EventType, eventList}
+use Rattle.meaning.specs.Answers.{refusalAt, bookRefusal, registerRefusal, refusal, lackedRule}
+use Rattle.meaning.proofs.Lists.{first-of-none}
+use Rattle.meaning.proofs.Order.{fault-none}
+use Rattle.meaning.proofs.Touched.{event-list-ascends}
+use Rattle.meaning.proofs.Agreement.{Checked, checked, refusal-at-none}
+use Rattle.rows.specs.Rows.{wordAt}
+use Rattle.tables.specs.Layouts.{Sheet, sheetOf, bookTables}
+use Rattle.tables.specs.Bodies.{wholeBody}
+use Rattle.tables.specs.Columns.{typeRow, relationshipRow, ruleRow, bookOf, registerIn}
+use Rattle.tables.specs.Refusals.{verdictOf, tableRefusal, refusalOf, lentRefusal}
+use Rattle.tables.specs.declared.Counts.{Counts}
+use Rattle.tables.specs.declared.Verdict.the-variants.{Clear, Refused}
+use Rattle.schema.proofs.Rows.{length-rows, row-there}
+use Rattle.book.specs.Marks.{bodyOf}
+use Rattle.checks.specs.Given.{Given}
+use Rattle.checks.proofs.Given.{given, clear-none}
+use Rattle.checks.proofs.Stages.{first-assoc, first-none}
+use Rattle.event_marks.specs.Marks.{places, marked, Added}
+use Rattle.event_list.specs.Places.{markedBelow, placeWords}
+use Rattle.rows.specs.Rows.{inFront}
+use Rattle.event_list.specs.Answers.{ruleTables, ruleRefusal, listIn, listOf, listWords, roomRefusal, listRefusal, listedOf, answer, wordsAfter, listAfter}
+use Rattle.event_list.specs.declared.Listed.the-variants as Listed
+use Rattle.event_list.proofs.Places.{words-length}
+use Rattle.event_list.proofs.Bounds.{placed, rule-placed}
+use Rattle.event_list.proofs.Read.{read-length, read-words}
+
+-- ---- a refusal that is met first
+
+refused-first : (o later : Option Refusal) {number place : ℕ} → Refused number place ≡ verdictOf o → Refused number place ≡ verdictOf (firstOf o later)
+refused-first none later e = cc
+refused-first (some r) later e = e
+
+refused-listed : (o later : Option Refusal) (es : List EventType) {number place : ℕ} → Refused number place ≡ verdictOf o → Listed.Refused number place ≡ listedOf (firstOf o later) es
+refused-listed none later es e = cc
+refused-listed (some r) later es e = cc
+
+refused-words : (o later : Option Refusal) (es : List EventType) (l : List ℕ) {number place : ℕ} → Refused number place ≡ verdictOf o → l ≡ wordsAfter (firstOf o later) es l
+refused-words none later es l e = cc
+refused-words (some r) later es l e = refl
+
+-- a rule that is not known is lacked
+abbrev unlessKnown : Bool → ℕ → Option Refusal
+unlessKnown known rule = cond known none (some (record { number = 4; place = rule }))
+
+module _ (n : Counts) (types relationships rules bodies : List ℕ) (rule : ℕ) where
+  abbrev s : Sheet
+  s = sheetOf types relationships rules bodies [] [] []
+
+  -- the counts without a register
+  abbrev m : Counts
+  m = record { types = n .types; relationships = n .relationships; rules = n .rules; objects = 0; links = 0; events = 0 }
+
+  abbrev k : Book
+  k = bookOf n s
+
+  -- an empty register is never refused
+  book-alone : lentRefusal m s false ≡ firstOf (tableRefusal ruleTables n s false) (bookRefusal k)
+  unfolding refusalOf tableRefusal bookTables ruleTables refusal registerRefusal objectFault linkFault refusalAt
+  book-alone = ap (firstOf (tableRefusal ruleTables n s false)) (sym (first-none (bookRefusal k)))
+
+  in-turn : firstOf (lentRefusal m s false) (lackedRule k rule) ≡ ruleRefusal n s rule
+  unfolding ruleRefusal
+  in-turn = ap (λ o. firstOf o (lackedRule k rule)) book-alone ∙ first-assoc (tableRefusal ruleTables n s false) (bookRefusal k) (lackedRule k rule)
+
+  lacked-is : unlessKnown (ltb rule (n .rules)) rule ≡ lackedRule k rule
+  unfolding lackedRule
+  lacked-is = ap (λ count. unlessKnown (ltb rule count) rule) (sym (length-rows (ruleRow rules bodies) (n .rules)))
+
+  -- ---- the verdict
+
+  pub book-refused : {number place : ℕ} → Refused number place ≡ verdictOf (lentRefusal m s false) → Refused number place ≡ verdictOf (ruleRefusal n s rule)
+  book-refused e = refused-first (lentRefusal m s false) (lackedRule k rule) e ∙ ap verdictOf in-turn
+
+  module _ (clear : Clear ≡ verdictOf (lentRefusal m s false)) where
+    lacked-decides : verdictOf (unlessKnown (ltb rule (n .rules)) rule) ≡ verdictOf (ruleRefusal n s rule)
+    lacked-decides =
+        ap verdictOf lacked-is
+        ∙ ap (λ o. verdictOf (firstOf o (lackedRule k rule))) (sym (clear-none (lentRefusal m s false) clear))
+        ∙ ap verdictOf in-turn
+
+    pub rule-known : rule < n .rules → Clear ≡ verdictOf (ruleRefusal n s rule)
+    rule-known h = rw (lt-ltb rule (n .rules) h) at lacked-decides
+
+    pub rule-lacked : n .rules ≤ rule → Refused 4 rule ≡ verdictOf (ruleRefusal n s rule)
+    rule-lacked h = rw (le-ltb rule (n .rules) h) at lacked-decides
+
+  -- ---- a refusal of the book
+
+  pub list-refused : {number place : ℕ} → Refused number place ≡ verdictOf (ruleRefusal n s rule) → (l : List ℕ) → (Listed.Refused number place ≡ answer n s rule (length l)) × (l ≡ listAfter n s rule l)
+  unfolding answer listAfter listRefusal
+  list-refused e l =
+      let room = roomRefusal (length l) (listOf k rule) in
+      (refused-listed (ruleRefusal n s rule) room (listOf k rule) e, refused-words (ruleRefusal n s rule) room (listOf k rule) l e)
+
+  -- ---- no refusal of the book
+
+  module _ (clear : Clear ≡ verdictOf (ruleRefusal n s rule)) where
+    met : (lentRefusal m s false ≡ none) × (lackedRule k rule ≡ none)
+    met = first-of-none (lentRefusal m s false) (lackedRule k rule) (in-turn ∙ clear-none (ruleRefusal n s rule) clear)
+
+    known : Given m s
+    known = given m s false (met .0)
+
+    there : rule < n .rules
+    there = ltb-true rule (n .rules) (step (ltb rule (n .rules)) (lacked-is ∙ met .1))
+      where
+        step : (b : Bool) → unlessKnown b rule ≡ none → b ≡ true
+        step true e = refl
+        step false e = cc
+
+    pub body-whole : T (wholeBody (bodyOf bodies rule) (wordAt rules 2 rule 1))
+    body-whole = known .whole rule there
+
+    abbrev S : Schema
+    S = k .schema
+
+    abbrev r : Rule
+    r = ruleRow rules bodies rule
+
+    abbrev es : List EventType
+    es = eventList S r
+
+    found : getElem? (k .rules) rule ≡ some r
+    found = row-there (ruleRow rules bodies) (n .rules) rule there
+
+    fits : Checked k (registerIn m s)
+    fits = checked k (registerIn m s) (known .clear)
+
+    context-known : T (knownType (S .types) (r .context))
+    unfolding bookRefusal ruleFault faultyRule
+    context-known =
+        let parts = first-of-none (refusalAt 3 (firstOf (typeFault (S .types)) (relationshipFault S))) (refusalAt 4 (ruleFault k)) (fits .book) in
+        let typed = knownType (S .types) (r .context) && wellTyped S (r .context ∷ []) (r .body) in
+        let good = T-not-not (typed && leb (formCount (r .body)) maxForms) (fault-none (faultyRule S) (k .rules) (refusal-at-none 4 (ruleFault k) (parts .1)) rule r found .1) in
+        and-yes (knownType (S .types) (r .context)) (wellTyped S (r .context ∷ []) (r .body)) (and-yes typed (leb (formCount (r .body)) maxForms) good .0) .0
+
+    in-place : (e : EventType) → e ∈ es → T (placed e)
+    in-place =
+        rule-placed S
+        (omega (arith, known .few-types, length-rows (typeRow types) (n .types)))
+        (omega (arith, known .few-relationships, length-rows (relationshipRow relationships) (n .relationships)))
+        (fits .types .cells-bound)
+        r
+        context-known
+        (fits .typed rule r found)
+
+    list-is : listOf k rule ≡ es
+    unfolding listOf
+    list-is = ap (listIn S) found
+
+    module _ (marks : List Bool) (added : Added (replicate places false) marks (marked es)) where
+      abbrev read : List ℕ
+      read = markedBelow marks places
+
+      each : (place : ℕ) → place < places → getD marks place false ≡ marked es place
+      each place h = added .each place h ∙ ap (λ b. b || marked es place) (getD-replicate places place false false h)
+
+      words-same : placeWords read ≡ listWords (listOf k rule)
+      words-same = read-words marks es (event-list-ascends S r) in-place each ∙ ap listWords (sym list-is)
+
+      length-same : length read ≡ length (listOf k rule)
+      length-same = read-length marks es (event-list-ascends S r) in-place each ∙ ap length (sym list-is)
+
+      words-lent : 3 * length read ≡ length (listWords (listOf k rule))
+      words-lent = sym (words-length read) ∙ ap length words-same
+
+      -- 14, where the words do not fit
+      abbrev unlessRoom : Bool → Option Refusal
+      unlessRoom short = cond short (some (record { number = 14; place = 0 })) none
+
+      refusal-is : (lent : ℕ) (short : Bool) → ltb lent (3 * length read) ≡ short → unlessRoom short ≡ listRefusal n s rule lent
+      unfolding listRefusal roomRefusal
+      refusal-is lent short e =
+          ap unlessRoom (sym e)
+          ∙ ap (λ size. unlessRoom (ltb lent size)) words-lent
+          ∙ ap (λ o. firstOf o (roomRefusal lent (listOf k rule))) (sym (clear-none (ruleRefusal n s rule) clear))
+
+      module _ (l : List ℕ) where
+        pub list-short : length l < 3 * length read → (Listed.Refused 14 0 ≡ answer n s rule (length l)) × (l ≡ listAfter n s rule l)
+        unfolding answer listAfter
+        list-short h =
+            let is = refusal-is (length l) true (lt-ltb (length l) (3 * length read) h) in
+            (ap (λ o. listedOf o (listOf k rule)) is, ap (λ o. wordsAfter o (listOf k rule) l) is)
+
+        pub list-whole : 3 * length read ≤ length l → (Listed.Types (length read) ≡ answer n s rule (length l)) × (inFront (placeWords read) l ≡ listAfter n s rule l)
+        unfolding answer listAfter
+        list-whole h =
+            let is = refusal-is (length l) false (le-ltb (length l) (3 * length read) h) in (
+              ap Listed.Types length-same ∙ ap (λ o. listedOf o (listOf k rule)) is,
+              ap (λ w. inFront w l) words-same ∙ ap (λ o. wordsAfter o (listOf k rule) l) is,
+            )

@@ -1,0 +1,162 @@
+-- Each event type that a well-typed rule lists has a place among the marks: its type or relationship is one of 32, its cell one of 8.
+use Prim.Native.Nat.{ℕ, _≤_, _<_}
+use mathlib.Core.Path.{_≡_, ap}
+use mathlib.Core.Logic.{⊎-elim}
+use mathlib.Core.Bool.{Bool, true, false, _&&_, cond}
+use mathlib.Core.List.{List, [], _∷_, _++_, foldr, List·Memᴰ·head, List·Memᴰ·tail}
+use mathlib.Core.Option.{none}
+use native.Mathlib.Omega.{arith}
+use lib.Dec.{T, ltb}
+use lib.ListN.{length, getD, List·getD-eq-default}
+use mir.Facts.{and-yes, yes-and, ltb-yes, yes-ltb, ltb-no}
+use Rattle.meaning.specs.Lists.{every, putInOrder, _∈_}
+use Rattle.meaning.specs.Limits.{maxTypes, maxRelationships, cellCount}
+use Rattle.meaning.specs.Schema.{ObjectType, Schema, knownType, knownRelationship, knownRole, typeAt, cellsOf, hasParent, under, relationshipOf, nearType}
+use Rattle.meaning.specs.Forms.{Sort, Form, compare, negate, connect, quantify, kind, num, cell, size, sum, combine, role, all, select, bind, variable, memberType, wellTyped, Rule}
+use Rattle.meaning.specs.Reach.{Direction, up, down, opposite, Passing, same, reversed, either, through, leftOf, rightOf, firstTruth, secondTruth, sourceOf, secondTerm, quiet}
+use Rattle.meaning.specs.EventList.{EventType, insertOf, deleteOf, setOf, joinOf, partOf, specialOf, generalOf, eventTypeWords, whereParent, roleLists, allLists, kindLists, lists, contextLists, eventList}
+use Rattle.meaning.proofs.Lists.{decide, every-at, every-append}
+use Rattle.meaning.proofs.Order.{put-from}
+
+-- its three words are below 7, 32 and 8
+abbrev pub placed : EventType → Bool
+placed e = let w = eventTypeWords e in ltb (getD w 0 0) 7 && (ltb (getD w 1 0) 32 && ltb (getD w 2 0) 8)
+
+-- each event type of the list has a place
+abbrev Placed : List EventType → Type 0
+Placed l = T (every placed l)
+
+one-placed : (e : EventType) → T (placed e) → Placed (e ∷ [])
+one-placed e h = yes-and (placed e) true h tt
+
+parent-placed : (S : Schema) (t : ℕ) (e : EventType) → T (placed e) → Placed (whereParent S t e)
+unfolding whereParent
+parent-placed S t e h = step (hasParent (S .types) t)
+  where
+    step : (b : Bool) → Placed (cond b (e ∷ []) [])
+    step true = one-placed e h
+    step false = tt
+
+both-placed : (l k : List EventType) → Placed l → Placed k → Placed (l ++ k)
+both-placed = every-append placed
+
+through-placed : (x : Passing) (listed : Direction → List EventType) → ((d : Direction) → Placed (listed d)) → (d : Direction) → Placed (through _++_ x listed d)
+through-placed same listed h d = h d
+through-placed reversed listed h d = h (opposite d)
+through-placed either listed h d = both-placed (listed up) (listed down) (h up) (h down)
+
+module _ (S : Schema) (few-types : length (S .types) ≤ maxTypes) (few-relationships : length (S .relationships) ≤ maxRelationships) (few-cells : (t : ℕ) → cellsOf (S .types) t ≤ cellCount) where
+  -- ---- forms without parts
+
+  number : (t : ℕ) → t < 32 → T (ltb t 32 && true)
+  number t h = yes-and (ltb t 32) true (yes-ltb h) tt
+
+  few : (t : ℕ) → T (knownType (S .types) t) → t < 32
+  unfolding knownType
+  few t h = let less : t < length (S .types) = ltb-yes h in omega arith
+
+  few-role : (r : ℕ) → T (knownRole (S .relationships) r) → relationshipOf r < 32
+  unfolding knownRole knownRelationship
+  few-role r h = let less : relationshipOf r < length (S .relationships) = ltb-yes h in omega arith
+
+  role-placed : (r : ℕ) → T (knownRole (S .relationships) r) → (d : Direction) → Placed (roleLists r d)
+  unfolding roleLists eventTypeWords
+  role-placed r h up = one-placed (joinOf (relationshipOf r)) (number (relationshipOf r) (few-role r h))
+  role-placed r h down = one-placed (partOf (relationshipOf r)) (number (relationshipOf r) (few-role r h))
+
+  kind-placed : (t : ℕ) → T (knownType (S .types) t) → (d : Direction) → Placed (kindLists S t d)
+  unfolding kindLists eventTypeWords
+  kind-placed t h up = parent-placed S t (specialOf t) (number t (few t h))
+  kind-placed t h down = parent-placed S t (generalOf t) (number t (few t h))
+
+  all-placed : (t : ℕ) → T (knownType (S .types) t) → (d : Direction) → Placed (allLists S t d)
+  unfolding allLists kindLists eventTypeWords
+  all-placed t h up = yes-and (placed (insertOf t)) _ (number t (few t h)) (kind-placed t h up)
+  all-placed t h down = yes-and (placed (deleteOf t)) _ (number t (few t h)) (kind-placed t h down)
+
+  -- a type that the schema lacks has no cell
+  celled : (t k : ℕ) → T (ltb k (cellsOf (S .types) t)) → t < 32
+  unfolding cellsOf typeAt knownType
+  celled t k h =
+      let some-cell : k < cellsOf (S .types) t = ltb-yes h in
+      ⊎-elim (few t)
+      (λ lacked. let no-cell : cellsOf (S .types) t ≡ 0 = ap (λ (o : ObjectType). o .cells) (List·getD-eq-default (S .types) (record { parent = none; cells = 0 }) {n = t} (ltb-no lacked)) in absurd (omega arith))
+      (decide (knownType (S .types) t))
+
+  set-placed : (t k : ℕ) → T (ltb k (cellsOf (S .types) t)) → Placed (setOf t k ∷ [])
+  unfolding eventTypeWords
+  set-placed t k h =
+      let less : k < cellsOf (S .types) t = ltb-yes h in
+      one-placed (setOf t k) (yes-and (ltb t 32) (ltb k 8) (yes-ltb (celled t k h)) (yes-ltb {a = k} {b = 8} (omega (arith, few-cells t))))
+
+  -- ---- forms
+
+  -- what a form lists, either way
+  abbrev ListsPlaced : {s : Sort} → Form s → List ℕ → Type 0
+  ListsPlaced f ts = (d : Direction) → Placed (lists S f ts d)
+
+  two-placed : {s u : Sort} (x y : Passing) (a : Form s) (b : Form u) (ts : List ℕ) → (T (wellTyped S ts a) → ListsPlaced a ts) → (T (wellTyped S ts b) → ListsPlaced b ts)
+      → T (wellTyped S ts a && wellTyped S ts b)
+      → (d : Direction)
+      → Placed (through _++_ x (lists S a ts) d ++ through _++_ y (lists S b ts) d)
+  two-placed x y a b ts f g w d =
+      let typed = and-yes (wellTyped S ts a) (wellTyped S ts b) w in
+      both-placed (through _++_ x (lists S a ts) d) (through _++_ y (lists S b ts) d) (through-placed x (lists S a ts) (f (typed .0)) d) (through-placed y (lists S b ts) (g (typed .1)) d)
+
+  -- a form over a collection, with what is listed besides
+  over-placed : {s : Sort} (x : Passing) (c : Form s) (ts : List ℕ) (besides : Direction → List EventType) (typed well : Bool) → (T typed → ListsPlaced c ts) → (T well → (d : Direction) → Placed (besides d))
+      → T (typed && well)
+      → (d : Direction)
+      → Placed (through _++_ x (lists S c ts) d ++ besides d)
+  over-placed x c ts besides typed well f g w d =
+      let both = and-yes typed well w in
+      both-placed (through _++_ x (lists S c ts) d) (besides d) (through-placed x (lists S c ts) (f (both .0)) d) (g (both .1) d)
+
+  lists-placed : {s : Sort} (f : Form s) (ts : List ℕ) → T (wellTyped S ts f) → ListsPlaced f ts
+  unfolding wellTyped lists
+  lists-placed (compare o a b) ts w = two-placed (leftOf o) (rightOf o) a b ts (lists-placed a ts) (lists-placed b ts) w
+  lists-placed (negate a) ts w = through-placed reversed (lists S a ts) (lists-placed a ts w)
+  lists-placed (connect o a b) ts w = two-placed (firstTruth o) (secondTruth o) a b ts (lists-placed a ts) (lists-placed b ts) w
+  lists-placed (quantify q c b) ts w =
+      let inner = bind ts (memberType (S .relationships) c) in
+      over-placed (sourceOf q) c ts (lists S b inner) (wellTyped S ts c) (wellTyped S inner b) (lists-placed c ts) (lists-placed b inner) w
+  lists-placed (kind v t) ts w = kind-placed t (and-yes (ltb v (length ts)) (knownType (S .types) t) w .1)
+  lists-placed (num n) ts w = λ d. tt
+  lists-placed (cell v k) ts w = λ d. set-placed (variable ts v) k (and-yes (ltb v (length ts)) _ w .1)
+  lists-placed (size c) ts w = lists-placed c ts w
+  lists-placed (sum c k) ts w =
+      let member = memberType (S .relationships) c in
+      over-placed either c ts (λ d. setOf member k ∷ []) (wellTyped S ts c) (ltb k (cellsOf (S .types) member)) (lists-placed c ts) (λ h d. set-placed member k h) w
+  lists-placed (combine o a b) ts w = two-placed same (secondTerm o) a b ts (lists-placed a ts) (lists-placed b ts) w
+  lists-placed (role v r) ts w =
+      let known = ltb v (length ts) && knownRole (S .relationships) r in
+      let fits = and-yes known (under (S .types) (variable ts v) (nearType (S .relationships) r)) w in
+      role-placed r (and-yes (ltb v (length ts)) (knownRole (S .relationships) r) (fits .0) .1)
+  lists-placed (all t) ts w = all-placed t w
+  lists-placed (select c b) ts w =
+      let inner = bind ts (memberType (S .relationships) c) in
+      over-placed same c ts (lists S b inner) (wellTyped S ts c) (wellTyped S inner b) (lists-placed c ts) (lists-placed b inner) w
+
+  -- ---- a rule
+
+  context-placed : (r : Rule) → T (knownType (S .types) (r .context)) → Placed (contextLists S r)
+  unfolding contextLists eventTypeWords
+  context-placed r h =
+      both-placed (cond (quiet (r .body)) [] (insertOf (r .context) ∷ [])) (whereParent S (r .context) (specialOf (r .context))) (step (quiet (r .body))) (parent-placed S (r .context) (specialOf (r .context)) (number (r .context) (few (r .context) h)))
+    where
+      step : (b : Bool) → Placed (cond b [] (insertOf (r .context) ∷ []))
+      step true = tt
+      step false = one-placed (insertOf (r .context)) (number (r .context) (few (r .context) h))
+
+  -- what is put in order was there before
+  sorted-from : (l : List EventType) {e : EventType} → e ∈ foldr (putInOrder eventTypeWords) [] l → e ∈ l
+  sorted-from [] m = m
+  sorted-from (x ∷ xs) m =
+      ⊎-elim List·Memᴰ·head (λ n. List·Memᴰ·tail (sorted-from xs n)) (put-from eventTypeWords x (foldr (putInOrder eventTypeWords) [] xs) m)
+
+  pub rule-placed : (r : Rule) → T (knownType (S .types) (r .context)) → T (wellTyped S (r .context ∷ []) (r .body)) → (e : EventType) → e ∈ eventList S r → T (placed e)
+  unfolding eventList
+  rule-placed r known typed e m =
+      every-at placed
+      (both-placed (lists S (r .body) (r .context ∷ []) down) (contextLists S r) (lists-placed (r .body) (r .context ∷ []) typed down) (context-placed r known))
+      (sorted-from (lists S (r .body) (r .context ∷ []) down ++ contextLists S r) m)
