@@ -39,7 +39,7 @@ module _ (n : Counts) (types rules bodies objects links index : List ℕ) (rule 
   abbrev r : Rule
   r = ruleRow rules bodies rule
 
-  body-form : part truth (readBody (rowsAt w) size) ≡ formAt w size
+  pub body-form : part truth (readBody (rowsAt w) size) ≡ formAt w size
   body-form = ap (part truth) (body-ending (rowsAt w) size whole) ∙ sym (is-truth (formAt w size) (whole-body (rowsAt w) size whole .isTruth))
 
   -- what no refusal of a book and a register gives is enough

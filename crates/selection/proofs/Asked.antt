@@ -1,0 +1,85 @@
+-- Whether a rule is selected at the object in a row, by what the code asks.
+use Prim.Native.Nat.{ℕ, _<_}
+use mathlib.Core.Path.{_≡_, refl, sym, ap, ap₂, _∙_}
+use mathlib.Core.Bool.{Bool, true, false, _&&_, _||_, not}
+use mathlib.Core.List.{List, [], _∷_, map}
+use lib.Dec.{T}
+use lib.ListN.{take}
+use Rattle.meaning.specs.Schema.{under}
+use Rattle.meaning.specs.Register.{isUnder}
+use Rattle.meaning.specs.Forms.{truth, Rule}
+use Rattle.meaning.specs.Reach.{Change, down, moves, quiet, inserted, specialised, broughtIn, selected}
+use Rattle.rows.specs.Rows.{wordAt}
+use Rattle.tables.specs.Bodies.{wholeBody, readBody, part}
+use Rattle.tables.specs.Columns.{typesOf, objectRow, ruleRow}
+use Rattle.tables.specs.declared.Counts.{Counts}
+use Rattle.book.specs.Marks.{bodyOf}
+use Rattle.ocl.specs.Site.{Site, siteOf, rowsAt, formAt, idIn}
+use Rattle.trace.specs.Questions.{asked, insertedInto}
+use Rattle.trace.specs.Traces.{Traced}
+use Rattle.reach.specs.Moves.{partMoves, movesAt}
+use Rattle.reach.proofs.Leaves.{asked-inserted, under-end}
+use Rattle.going_back.proofs.Rules.{body-form}
+
+-- ---- two parts, of which the first decides or not
+
+pub first-holds : {a : Bool} (b : Bool) → a ≡ true → true ≡ (a || b)
+first-holds b e = sym (rw e)
+
+pub second-decides : {a b r : Bool} → a ≡ false → r ≡ b → r ≡ (a || b)
+second-decides e q = q ∙ sym (rw e)
+
+or-second : (a : Bool) {b : Bool} → b ≡ true → (a || b) ≡ true
+or-second true e = refl
+or-second false e = e
+
+or-none : (a : Bool) {b : Bool} → b ≡ false → (a || b) ≡ a
+or-none true e = refl
+or-none false e = e
+
+swapped : (s i : Bool) → (not s && (true && i)) ≡ (i && not s)
+swapped true true = refl
+swapped true false = refl
+swapped false true = refl
+swapped false false = refl
+
+-- an insert is asked for only where the body is not quiet
+pub asked-insert : (c : Change) (u t : ℕ) (still : Bool) → (not still && (true && asked c (insertedInto t) u)) ≡ (inserted c u t && not still)
+asked-insert c u t still = swapped still (asked c (insertedInto t) u) ∙ ap (λ i. i && not still) (asked-inserted c u t)
+
+-- ---- a rule at a row
+
+module _ {c : Change} {n : Counts} {types objects links events trace : List ℕ} (traced : Traced c n types objects links events trace) (index rules bodies : List ℕ) (rule : ℕ) {row : ℕ} (h : row < n .objects) {inside : Bool}
+    (under-is : inside ≡ under (typesOf (n .types) types) ((objectRow objects row) .type) (wordAt rules 2 rule 0)) where
+  abbrev r : Rule
+  r = ruleRow rules bodies rule
+
+  abbrev u : ℕ
+  u = idIn objects row
+
+  abbrev w : Site
+  w = siteOf n types objects links index bodies rule
+
+  at-end : isUnder (c .schema .types) (c .end) u (r .context) ≡ inside
+  unfolding ruleRow
+  at-end = sym (under-is ∙ under-end traced h (wordAt rules 2 rule 0))
+
+  pub not-under : inside ≡ false → false ≡ selected c r u
+  unfolding selected
+  not-under e = sym (rw (at-end, e))
+
+  module _ (yes : inside ≡ true) {brought : Bool} (brought-is : brought ≡ broughtIn c r u) where
+    is-selected : selected c r u ≡ (moves c (r .body) (u ∷ []) down || brought)
+    unfolding selected
+    is-selected = rw (at-end, yes, brought-is)
+
+    pub was-brought : brought ≡ true → true ≡ selected c r u
+    was-brought e = sym (is-selected ∙ or-second (moves c (r .body) (u ∷ []) down) e)
+
+    -- the walk of the body answers
+    pub body-moved : brought ≡ false → T (wholeBody (bodyOf bodies rule) (wordAt rules 2 rule 1)) → (vars : List ℕ) → take 1 vars ≡ row ∷ [] → {moved : Bool} → moved ≡ movesAt c w (wordAt rules 2 rule 1) vars 1 2 → moved ≡ selected c r u
+    unfolding movesAt partMoves ruleRow
+    body-moved e whole vars self q =
+        q
+        ∙ ap₂ (λ p l. partMoves c p (map (idIn objects) l) down) (sym (body-form n types rules bodies objects links index rule whole)) self
+        ∙ sym (is-selected ∙ or-none (moves c (r .body) (u ∷ []) down) e)

@@ -1,0 +1,32 @@
+-- What the selection is given of a rule: the refusal checks and the index give it.
+use Prim.Native.Nat.{ℕ, _+_, _<_}
+use mathlib.Core.Path.{_≡_}
+use mathlib.Core.Bool.{Bool, true, false}
+use mathlib.Core.List.{List, [], _∷_}
+use lib.Dec.{T}
+use lib.ListN.{getD}
+use Rattle.meaning.specs.Schema.{Schema}
+use Rattle.meaning.specs.Forms.{wellTyped}
+use Rattle.meaning.specs.Reach.{Change}
+use Rattle.rows.specs.Rows.{wordAt}
+use Rattle.tables.specs.Bodies.{wholeBody}
+use Rattle.tables.specs.Columns.{ruleRow}
+use Rattle.tables.specs.declared.Counts.{Counts}
+use Rattle.book.specs.Marks.{bodyOf}
+use Rattle.ocl.specs.Site.{siteOf, idIn}
+use Rattle.trace.specs.Traces.{Traced}
+use Rattle.going_back.specs.Back.{candidate}
+use Rattle.going_back.specs.Walkable.{BodyAble}
+
+-- its body is whole and well typed, and the reach rules can be asked at each object's row
+pub record RuleReady (n : Counts) (types objects links index rules bodies starts : List ℕ) (rule : ℕ) : Type 0 where
+  pub schema : Schema
+  pub whole : T (wholeBody (bodyOf bodies rule) (wordAt rules 2 rule 1))
+  pub typed : T (wellTyped schema ((ruleRow rules bodies rule) .context ∷ []) ((ruleRow rules bodies rule) .body))
+  pub able : BodyAble schema (siteOf n types objects links index bodies rule) starts (wordAt rules 2 rule 1)
+
+-- the marks have every candidate of the rule
+abbrev pub Marked : Counts → List ℕ → List ℕ → List ℕ → List ℕ → List ℕ → List ℕ → List ℕ → ℕ → List Bool → Type 0
+Marked n types objects links events trace rules bodies rule marks =
+    (c : Change) → Traced c n types objects links events trace → (row : ℕ) → row < n .objects
+    → candidate c (ruleRow rules bodies rule) (idIn objects row) ≡ true → getD marks row false ≡ true
