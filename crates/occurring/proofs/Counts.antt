@@ -1,23 +1,26 @@
 -- What an event counts for, by the kind as which its row is read and by the row's words.
 use Prim.Native.Nat.{ℕ, zero, suc, _/_, _%_, _<_}
 use mathlib.Core.Path.{_≡_, refl, sym, ap, subst, _∙_}
-use mathlib.Core.Bool.{Bool, true, false, _&&_, _||_, not, cond, and-false, or-false, or-assoc}
+use mathlib.Core.Bool.{Bool, true, false, _&&_, _||_, not, cond, and-true, and-false, or-false, or-assoc}
 use mathlib.Core.List.{List, [], _∷_}
 use native.Mathlib.Omega.{arith}
 use lib.Dec.{ltb, eqb}
-use lib.ListN.{getD}
+use lib.ListN.{getD, replicate}
 use borrow.Author.Tests.{eq-eqb, ne-eqb, eqb-true, eqb-false, ltb-true, ltb-false}
+use Rattle.meaning.specs.Limits.{maxTypes}
 use Rattle.meaning.specs.Schema.{ObjectType, under}
 use Rattle.meaning.specs.Register.{Register, isUnder}
 use Rattle.meaning.specs.Reach.{inserts, sets, joins, parts, specials, generals}
 use Rattle.meaning.specs.EventList.{EventType, insertOf, deleteOf, setOf, joinOf, partOf, specialOf, generalOf, eventTypeWords}
 use Rattle.tables.specs.Columns.{eventOf}
 use Rattle.trace.specs.Questions.{metUnder}
-use Rattle.trace.specs.Making.{deleteWords}
+use Rattle.trace.specs.Making.{ForTypes, deleteWords}
 use Rattle.trace.proofs.Questions.{type-words, whole-words}
 use Rattle.trace.proofs.Coming.{delete-words, delete-past}
+use Rattle.trace.proofs.Climbing.{no-truths}
 use Rattle.event_marks.specs.Marks.{places, wordsAt, Added}
 use Rattle.occurring.specs.Counting.{counts, readKind, Counted}
+use Rattle.occurring.proofs.Types.{butNot}
 
 -- ---- the kind as which a row is read
 
@@ -170,6 +173,22 @@ module _ (x y : ℕ) (into had there : ℕ → Bool) where
               ap (λ j. eqb k j && new (place / 8 % 32) (place % 8)) (sym kind-is)
               ∙ ap (λ b. b && new (place / 8 % 32) (place % 8)) q
               ∙ sym (ap (λ b. b && kindCounts (kindOf e) (numberOf e) (cellOf e)) (ne-eqb (kindOf e) r (λ s. eqb-false k (kindOf e) q (sym (s ∙ is)))))
+
+-- ---- the marks that the code adds, by the number and the cell of an event type
+
+-- where the cell is 0, as that of every event type but a set
+pub cell-new : {c : ℕ} (b : Bool) → c ≡ 0 → (eqb 0 c && b) ≡ b
+cell-new b e = ap (λ k. eqb 0 k && b) e
+
+pub link-new : (x m : ℕ) {c : ℕ} → c ≡ 0 → (eqb x m && (eqb 0 c && true)) ≡ eqb x m
+link-new x m e = ap (λ b. eqb x m && b) (cell-new true e) ∙ and-true (eqb x m)
+
+module _ {these : List Bool} {f : ℕ → Bool} (of : ForTypes these f) where
+  pub types-new : {except : List Bool} {g : ℕ → Bool} → ForTypes except g → (m : ℕ) → m < maxTypes → butNot these except m ≡ (f m && not (g m))
+  types-new but m h = λ i. of .each m h i && not (but .each m h i)
+
+  pub all-new : (m : ℕ) → m < maxTypes → butNot these (replicate maxTypes false) m ≡ f m
+  all-new m h = types-new no-truths m h ∙ and-true (f m)
 
 -- the event of a row counts for what the row does
 pub counts-row : (ts : List ObjectType) (end : Register) (kind x y z met : ℕ) (e : EventType)
