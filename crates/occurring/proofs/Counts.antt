@@ -18,7 +18,7 @@ use Rattle.trace.specs.Making.{ForTypes, deleteWords}
 use Rattle.trace.proofs.Questions.{type-words, whole-words}
 use Rattle.trace.proofs.Coming.{delete-words, delete-past}
 use Rattle.trace.proofs.Climbing.{no-truths}
-use Rattle.event_marks.specs.Marks.{places, wordsAt, Added}
+use Rattle.event_marks.specs.Marks.{wordsAt, Added}
 use Rattle.occurring.specs.Counting.{counts, readKind, Counted}
 use Rattle.occurring.proofs.Types.{butNot}
 

@@ -200,7 +200,7 @@ returns-7 c =
     let e2 = was .before .before in
     let w = e2 .before .before in
     let is : kind w ≡ 6 =
-      omega (arith, w .before .before .read-kind .ensures .1, e2 .before .if1 .left, e2 .if2 .left, was .before .if3 .left, above .before .if4 .left, gen .before .if5 .left, gen .if6 .left) in
+    omega (arith, w .before .before .read-kind .ensures .1, e2 .before .if1 .left, e2 .if2 .left, was .before .if3 .left, above .before .if4 .left, gen .before .if5 .left, gen .if6 .left) in
     λ ls.
     read-as w ls 6 is (λ m k. eqb 0 k && butNot (was .met-above .result) (above .above .result) m) (put .put-types5 .ensures)
     (λ m k h z. cell-new _ (z (λ q. omega arith)) ∙ types-new (was .met-above .ensures) (above .above .ensures) m h)
