@@ -1,5 +1,5 @@
-// The event list of a rule: document 01's reach rules without objects.
+// The event list of a rule as marks: document 01's reach rules without objects.
 mod body;
-mod mark;
+pub mod mark;
 pub mod quiet;
 pub mod rule;

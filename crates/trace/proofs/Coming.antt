@@ -49,7 +49,7 @@ comes-words ts kind x y z met t whom =
     (type-words specials (λ id u n. whom id && (under ts u t && not had)) x y z refl refl refl refl kind)
     ∙ comes-apart (eqb 0 kind) (eqb 5 kind) (eqb z 0) into (into && not had) (whom x)
 
-delete-words : (kind x y z : ℕ) (had : Bool) → among deletes (λ id u n. had) (eventOf kind x y z) ≡ (deleteWords kind z && had)
+pub delete-words : (kind x y z : ℕ) (had : Bool) → among deletes (λ id u n. had) (eventOf kind x y z) ≡ (deleteWords kind z && had)
 unfolding eventOf
 delete-words kind x y z had = step kind
   where

@@ -6,7 +6,7 @@ ghost use Rattle.trace.specs.Traces.{Seen, Traced};
 ghost use Rattle.trace.specs.Making.{CanTrace};
 
 mod keep;
-mod moves;
+pub mod moves;
 mod places;
 pub mod types;
 

@@ -50,7 +50,7 @@ fn comes(kind: u32, z: u32, into: bool, had: bool) -> bool
 }
 
 // Whether a row is read as a delete.
-fn is_delete(kind: u32, z: u32) -> bool
+pub fn is_delete(kind: u32, z: u32) -> bool
     ensures { λ r. ⌜ r ≡ deleteWords kind z ⌝ }
 {
     if kind == DELETE {
