@@ -1,5 +1,7 @@
 -- Laws of the selection.
 --   Codes    the codes of the touched rules are the selected pairs
 --   Asked    whether a rule is selected at a row, by what is asked
+--   Chosen   the codes of a rule's rows one after the other
 pub mod Codes
 pub mod Asked
+pub mod Chosen
