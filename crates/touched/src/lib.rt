@@ -30,3 +30,32 @@ fn shared(a: &[bool; 1792], b: &[bool; 1792]) -> bool
     }
     false
 }
+
+// Whether the batch touches a rule: an event type that the rule lists occurs in it.
+fn rule_touched(
+    n: Counts,
+    types: &[u32],
+    relationships: &[u32],
+    rules: &[u32],
+    bodies: &[u32],
+    rule: u32,
+    occurring: &[bool; 1792],
+) -> bool
+    requires { ⌜ BookGiven n (now types) (now relationships) (now rules) (now bodies) × (rule < n .rules) ⌝ }
+    ensures { λ r. ⌜ ((c : Change) → c .schema ≡ schemaOf (n .types) (now (types .entry)) (n .relationships) (now (relationships .entry))
+        → Occurring c (now (occurring .entry))
+        → r ≡ touched c (ruleRow (now (rules .entry)) (now (bodies .entry)) rule)) ⌝ }
+{
+    let mut marks = [false; 1792];
+    rule_marks(
+        n.types,
+        types,
+        n.relationships,
+        relationships,
+        rules,
+        bodies,
+        rule,
+        &mut marks,
+    );
+    shared(&marks, occurring)
+}
