@@ -5,7 +5,6 @@ use mathlib.Core.Bool.{Bool, false, _||_}
 use mathlib.Core.List.{List}
 use native.Mathlib.Omega.{arith}
 use lib.ListN.{replicate, getD-replicate}
-use Rattle.meaning.specs.Schema.{Schema}
 use Rattle.meaning.specs.Forms.{Rule, Book}
 use Rattle.meaning.specs.Reach.{Change}
 use Rattle.meaning.specs.EventList.{eventList, touched}

@@ -59,3 +59,28 @@ fn rule_touched(
     );
     shared(&marks, occurring)
 }
+
+// The rules of a lent book that a batch touches, by the marks of the event types that occur in it.
+pub fn touched(
+    n: Counts,
+    types: &[u32],
+    relationships: &[u32],
+    rules: &[u32],
+    bodies: &[u32],
+    occurring: &[bool; 1792],
+) -> u32
+    requires { ⌜ BookGiven n (now types) (now relationships) (now rules) (now bodies) ⌝ }
+    ensures { λ r. ⌜ ((c : Change) → c .schema ≡ schemaOf (n .types) (now (types .entry)) (n .relationships) (now (relationships .entry))
+        → Occurring c (now (occurring .entry))
+        → bitsIn r ≡ keep (λ i. touched c (ruleRow (now (rules .entry)) (now (bodies .entry)) i)) (readRows (λ i. i) (n .rules))) ⌝ }
+{
+    let mut word: u32 = 0;
+    let mut rule: u32 = 0;
+    while rule < n.rules {
+        if rule_touched(n, types, relationships, rules, bodies, rule, occurring) {
+            word = bits::with(word, rule);
+        }
+        rule += 1;
+    }
+    word
+}

@@ -46,7 +46,7 @@ loop-again c =
     let place = head .loop .place in (
       omega arith,
       shared-next a b place (head .loop .inv .1)
-          (⊎-elim
+          (⊎-elim {C = (getD a place false && getD b place false) ≡ false}
           (λ w. ap (λ m. getD a place false && m) (w .2 .left) ∙ and-false (getD a place false))
           (λ w. ap (λ m. m && getD b place false) (w .left))
           (c .if1 .came)),
