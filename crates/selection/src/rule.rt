@@ -8,12 +8,12 @@ use reach::ask;
 use reach::forward::moved;
 use tables::Counts;
 ghost use mathlib.Core.Path.{_≡_};
-ghost use mathlib.Core.Bool.{Bool, false, _&&_, _||_, not};
+ghost use mathlib.Core.Bool.{_&&_, _||_, not};
 ghost use mathlib.Core.List.{[], _++_};
 ghost use Prim.Native.Nat.{ℕ, _+_, _*_, _≤_, _<_};
 ghost use lib.ListN.{length, take, set};
 ghost use Rattle.meaning.specs.Reach.{Change, quiet, inserted, specialised, selected};
-ghost use Rattle.tables.specs.Columns.{ruleRow};
+ghost use Rattle.tables.specs.Columns.{ruleRow, schemaOf};
 ghost use Rattle.tables.specs.Layouts.{sheetOf};
 ghost use Rattle.ocl.specs.Site.{idIn};
 ghost use Rattle.trace.specs.Traces.{Traced, Traces};
@@ -220,4 +220,67 @@ fn choose(
         row += 1;
     }
     count
+}
+
+// Puts the codes of a rule's selected pairs after those that are there; the answer is how many there are then. The sets are room for going back, whatever
+// they hold.
+pub fn select_rule(
+    n: Counts,
+    types: &[u32],
+    relationships: &[u32],
+    rules: &[u32],
+    bodies: &[u32],
+    objects: &[u32],
+    links: &[u32],
+    index: &[u16; 81920],
+    events: &[u32],
+    trace: &[u16; 2593],
+    rule: u32,
+    sets: &mut [bool],
+    at: u32,
+    chosen: &mut [u16],
+) -> u32
+    requires { ⌜ (Clear n (sheetOf (now types) (now relationships) (now rules) (now bodies) (now objects) (now links) []) (now index))
+        × (Traces n (now types) (now objects) (now links) (now events) (now trace))
+        × (rule < n .rules) × (at ≤ rule * 1024) × (length (now chosen) ≡ 32768) × (length (now sets) ≡ 65536) ⌝ }
+    ensures { λ r. ⌜ (length (now (chosen .exit)) ≡ length (now (chosen .entry))) × (length (now (sets .exit)) ≡ length (now (sets .entry))) × (r ≤ at + 1024)
+        × ((c : Change) → Traced c n (now (types .entry)) (now (objects .entry)) (now (links .entry)) (now (events .entry)) (now (trace .entry))
+        → c .schema ≡ schemaOf (n .types) (now (types .entry)) (n .relationships) (now (relationships .entry))
+        → take r (now (chosen .exit)) ≡ take at (now (chosen .entry)) ++ ruleCodes c (now (rules .entry)) (now (bodies .entry)) (now (objects .entry)) (n .objects) rule) ⌝ }
+{
+    let size = rows::word(rules, 2, rule, 1);
+    let spans = scan(bodies, rule, size);
+    let starts = spans.starts;
+    let still = quiet(bodies, &starts, rule, size);
+    let marks = candidates(
+        n,
+        types,
+        objects,
+        links,
+        index,
+        rules,
+        bodies,
+        &starts,
+        events,
+        trace,
+        rule,
+        sets,
+    );
+    choose(
+        n,
+        types,
+        objects,
+        links,
+        index,
+        rules,
+        bodies,
+        &starts,
+        events,
+        trace,
+        rule,
+        still,
+        &marks,
+        at,
+        chosen,
+    )
 }
