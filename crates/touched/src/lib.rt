@@ -2,7 +2,7 @@
 use event_marks::rule::rule_marks;
 use tables::Counts;
 ghost use mathlib.Core.Path.{_≡_};
-ghost use Prim.Native.Nat.{ℕ, _<_};
+ghost use Prim.Native.Nat.{_<_};
 ghost use Rattle.meaning.specs.Lists.{keep};
 ghost use Rattle.meaning.specs.Reach.{Change};
 ghost use Rattle.meaning.specs.EventList.{touched};
