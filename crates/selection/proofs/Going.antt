@@ -18,7 +18,7 @@ sooner : (low m : ℕ) (l : List ℕ) → Spaced (suc low) m l → Spaced low m 
 sooner low m [] s = tt
 sooner low m (i ∷ l) s = (omega (arith, s .0), s .1, s .2)
 
-spaced-from : (may : ℕ → Bool) (j q : ℕ) → Spaced j (j + q) (keep may (rowsFrom (λ x. x) j q))
+pub spaced-from : (may : ℕ → Bool) (j q : ℕ) → Spaced j (j + q) (keep may (rowsFrom (λ x. x) j q))
 spaced-from may j zero = tt
 spaced-from may j (suc q) = step (may j) (subst (λ m. Spaced (suc j) m (keep may (rowsFrom (λ x. x) (suc j) q))) (omega arith) (spaced-from may (suc j) q))
   where
@@ -45,7 +45,7 @@ pub record Going (m : ℕ) (all left : List ℕ) (count remaining : ℕ) : Type 
   pub done : List ℕ
   pub parts : all ≡ done ++ left
 
-pub going-starts : (m : ℕ) (may : ℕ → Bool) (all : List ℕ) {remaining : ℕ} → all ≡ keep may (readRows (λ x. x) m) → remaining ≡ length all → Going m all all 0 remaining
+abbrev pub going-starts : (m : ℕ) (may : ℕ → Bool) (all : List ℕ) {remaining : ℕ} → all ≡ keep may (readRows (λ x. x) m) → remaining ≡ length all → Going m all all 0 remaining
 going-starts m may all e number =
     record { low = 0; room = omega arith; ahead = subst (Spaced 0 m) (sym e) (subst (λ k. Spaced 0 k (keep may (readRows (λ x. x) m))) (omega arith) (spaced-from may 0 m)); number = number; done = []; parts = refl }
 
@@ -58,10 +58,10 @@ module _ {m : ℕ} {all left : List ℕ} {count remaining : ℕ} (g : Going m al
   abbrev next : ℕ
   next = getD left 0 32
 
-  split : left ≡ next ∷ drop 1 left
+  pub split : left ≡ next ∷ drop 1 left
   split = next-is left (omega (arith, g .number))
 
-  at-next : Spaced (g .low) m (next ∷ drop 1 left)
+  pub at-next : Spaced (g .low) m (next ∷ drop 1 left)
   at-next = subst (Spaced (g .low) m) split (g .ahead)
 
   pub next-low : {rule : ℕ} → rule ≡ next → rule < m
@@ -70,7 +70,7 @@ module _ {m : ℕ} {all left : List ℕ} {count remaining : ℕ} (g : Going m al
   pub next-room : {rule : ℕ} → rule ≡ next → count ≤ rule * maxObjects
   next-room e = omega (arith, at-next .0, g .room)
 
-  pub going-on : {rule : ℕ} {rest : List ℕ} {count' remaining' : ℕ} → rule ≡ next → rest ≡ drop 1 left → count' ≤ count + maxObjects → remaining' + 1 ≡ remaining → Going m all rest count' remaining'
+  abbrev pub going-on : {rule : ℕ} {rest : List ℕ} {count' remaining' : ℕ} → rule ≡ next → rest ≡ drop 1 left → count' ≤ count + maxObjects → remaining' + 1 ≡ remaining → Going m all rest count' remaining'
   going-on {rule} e r few fewer =
       record {
         low = suc next;
@@ -91,5 +91,5 @@ none-left [] e = refl
 none-left (i ∷ l) e = absurd (omega arith)
 
 -- nothing is left
-pub going-ends : {m : ℕ} {all left : List ℕ} {count : ℕ} (g : Going m all left count 0) → g .done ≡ all
-going-ends {left = left} g = sym (g .parts ∙ ap (λ l. g .done ++ l) (none-left left (g .number)) ∙ append-nil (g .done))
+pub going-ends : {m : ℕ} {all left : List ℕ} {count remaining : ℕ} (g : Going m all left count remaining) → remaining ≡ 0 → g .done ≡ all
+going-ends {left = left} g e = sym (g .parts ∙ ap (λ l. g .done ++ l) (none-left left (sym e ∙ g .number)) ∙ append-nil (g .done))

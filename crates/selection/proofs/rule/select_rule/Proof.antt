@@ -46,9 +46,10 @@ scan-requires c κs = let s = entry c in size-few (s .pre .0) (s .pre .2) (c .wo
 quiet-requires : tie.Need-quiet-requires
 quiet-requires c κs =
     let scanned = c .before .before in
-    let s = entry (scanned .before) in
-    (scanned .scan .ensures .0,
-      subst (λ e. T ((ending (bodyOf (now (s .args .bodies)) (s .args .rule)) e) .sound)) (sym (scanned .before .word .ensures)) (sound (s .pre .0) (s .pre .2)))
+    let s = entry (scanned .before) in (
+      scanned .scan .ensures .0,
+      subst (λ e. T ((ending (bodyOf (now (s .args .bodies)) (s .args .rule)) e) .sound)) (sym (scanned .before .word .ensures)) (sound (s .pre .0) (s .pre .2)),
+    )
 
 candidates-requires : tie.Need-candidates-requires
 candidates-requires c κs =
