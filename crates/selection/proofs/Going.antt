@@ -39,6 +39,7 @@ flat-one f i = append-nil (f i)
 -- the rules that are left of all, the codes that are there, and how many rules remain
 pub record Going (m : ℕ) (all left : List ℕ) (count remaining : ℕ) : Type 0 where
   pub low : ℕ
+  pub low-few : low ≤ m
   pub room : count ≤ low * maxObjects
   pub ahead : Spaced low m left
   pub number : remaining ≡ length left
@@ -47,7 +48,7 @@ pub record Going (m : ℕ) (all left : List ℕ) (count remaining : ℕ) : Type 
 
 abbrev pub going-starts : (m : ℕ) (may : ℕ → Bool) (all : List ℕ) {remaining : ℕ} → all ≡ keep may (readRows (λ x. x) m) → remaining ≡ length all → Going m all all 0 remaining
 going-starts m may all e number =
-    record { low = 0; room = omega arith; ahead = subst (Spaced 0 m) (sym e) (subst (λ k. Spaced 0 k (keep may (readRows (λ x. x) m))) (omega arith) (spaced-from may 0 m)); number = number; done = []; parts = refl }
+    record { low = 0; low-few = omega arith; room = omega arith; ahead = subst (Spaced 0 m) (sym e) (subst (λ k. Spaced 0 k (keep may (readRows (λ x. x) m))) (omega arith) (spaced-from may 0 m)); number = number; done = []; parts = refl }
 
 module _ {m : ℕ} {all left : List ℕ} {count remaining : ℕ} (g : Going m all left count remaining) (some-left : 0 < remaining) where
   -- the next rule is the first that is left
@@ -74,6 +75,7 @@ module _ {m : ℕ} {all left : List ℕ} {count remaining : ℕ} (g : Going m al
   going-on {rule} e r few fewer =
       record {
         low = suc next;
+        low-few = omega (arith, at-next .1);
         room = omega (arith, next-room refl);
         ahead = subst (Spaced (suc next) m) (sym r) (at-next .2);
         number = omega (arith, g .number, ap length split, ap length r);

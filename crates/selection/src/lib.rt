@@ -6,7 +6,7 @@ use tables::Counts;
 ghost use mathlib.Core.Path.{_≡_};
 ghost use mathlib.Core.Bool.{Bool};
 ghost use mathlib.Core.List.{[], flatMap};
-ghost use Prim.Native.Nat.{ℕ};
+ghost use Prim.Native.Nat.{ℕ, _*_, _≤_};
 ghost use lib.ListN.{length, take};
 ghost use Rattle.meaning.specs.Lists.{keep};
 ghost use Rattle.meaning.specs.Reach.{Change};
@@ -37,7 +37,7 @@ pub fn select(
     requires { ⌜ (Clear n (sheetOf (now types) (now relationships) (now rules) (now bodies) (now objects) (now links) []) (now index))
         × (Traces n (now types) (now objects) (now links) (now events) (now trace))
         × ((may : ℕ → Bool) × (bitsIn touched ≡ keep may (readRows (λ i. i) (n .rules)))) × (length (now chosen) ≡ 32768) ⌝ }
-    ensures { λ r. ⌜ (length (now (chosen .exit)) ≡ length (now (chosen .entry)))
+    ensures { λ r. ⌜ (length (now (chosen .exit)) ≡ length (now (chosen .entry))) × (r ≤ n .rules * 1024)
         × ((c : Change) → Traced c n (now (types .entry)) (now (objects .entry)) (now (links .entry)) (now (events .entry)) (now (trace .entry))
         → c .schema ≡ schemaOf (n .types) (now (types .entry)) (n .relationships) (now (relationships .entry))
         → take r (now (chosen .exit)) ≡ flatMap (ruleCodes c (now (rules .entry)) (now (bodies .entry)) (now (objects .entry)) (n .objects)) (bitsIn touched)) ⌝ }

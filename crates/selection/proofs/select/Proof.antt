@@ -91,7 +91,7 @@ returns c =
     let s = entry head in
     let (g, codes) = head .loop .inv .2 in
     let none : head .loop .remaining ≡ 0 = omega (arith, c .loop-test .left) in
-    (head .loop .inv .0, λ k traced e. codes k traced e ∙ ap (flatMap (ruleCodes k (now (s .args .rules)) (now (s .args .bodies)) (now (s .args .objects)) (s .args .n .objects))) (going-ends g none))
+    (head .loop .inv .0, omega (arith, g .room, g .low-few), λ k traced e. codes k traced e ∙ ap (flatMap (ruleCodes k (now (s .args .rules)) (now (s .args .bodies)) (now (s .args .objects)) (s .args .n .objects))) (going-ends g none))
 
 pub select-spec : {M : Type 1} → statement M
 select-spec =
