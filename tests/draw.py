@@ -6,16 +6,46 @@
 Parks are small, so that coincidences happen: the same link parted and joined, an id deleted and inserted again. Most rules are drawn until
 they hold, since a batch check promises most from a good register.
 """
-import random
 import sys
 
 import plain
 
 
+class Draw:
+    """Numbers that are the same on every machine and with every version of Python."""
+
+    def __init__(self, seed):
+        self.state = seed
+        for _ in range(4):
+            self.random()
+
+    def random(self):
+        """At least 0 and below 1."""
+        self.state = (self.state * 6364136223846793005 + 1442695040888963407) % 2**64
+        return (self.state >> 11) / 2**53
+
+    def randrange(self, n):
+        return int(self.random() * n)
+
+    def randint(self, least, most):
+        return least + self.randrange(most - least + 1)
+
+    def choice(self, things):
+        return things[self.randrange(len(things))]
+
+    def sample(self, things, count):
+        left = list(things)
+        return [left.pop(self.randrange(len(left))) for _ in range(count)]
+
+
 def pick(draw, weighted):
     """One of (weight, thing), by weight."""
-    things = [(w, x) for w, x in weighted if w > 0]
-    return draw.choices([x for _, x in things], [w for w, _ in things])[0]
+    left = draw.random() * sum(w for w, _ in weighted)
+    for w, thing in weighted:
+        left -= w
+        if left < 0:
+            return thing
+    return weighted[0][1]
 
 
 # ---------------------------------------------------------------- books
@@ -308,7 +338,7 @@ def lines(book, register):
 
 def drawn(number, batches):
     """A book and its register with a first batch, and further batches for them."""
-    draw = random.Random(number)
+    draw = Draw(number)
     book = schema(draw)
     register = park(draw, book)
     add_rules(draw, book, register)

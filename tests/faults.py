@@ -12,7 +12,7 @@ HERE = os.path.dirname(os.path.abspath(__file__))
 # What is wrong; a piece of plain.py that stands there once; what stands there instead.
 FAULTS = [
     ('a loss counts only if the link is gone at the end',
-     'any(such(link) for link in self.parts)', 'any(such(link) and link not in self.end.links for link in self.parts)'),
+     'any(such(link) for link in self.parted)', 'any(such(link) and link not in self.end.links for link in self.parted)'),
     ('a gain counts though the link is gone at the end', 'such(link) and link in self.end.links', 'such(link)'),
     ('a role has the links at its other end too', 'and link[near] == env[v]', 'and env[v] in link[1:]'),
     ('a role is taken the other way round', 'near = 1 if role % 2 == 0 else 2\n        such', 'near = 2 if role % 2 == 0 else 1\n        such'),
@@ -62,7 +62,7 @@ FAULTS = [
     ('a delete forgets the sets before it', '            self.changes.append(',
      '            self.sets = {s for s in self.sets if kind != "delete" or s[0] != x[0]}\n            self.changes.append('),
     ('a delete forgets the parts before it', '            self.changes.append(',
-     '            self.parts = {l for l in self.parts if kind != "delete" or x[0] not in l[1:]}\n            self.changes.append('),
+     '            self.parted = {l for l in self.parted if kind != "delete" or x[0] not in l[1:]}\n            self.changes.append('),
     ('a set to the value that is there does not count', '            self.sets.add((x[0], x[1]))',
      '            self.sets |= {(x[0], x[1])} if self.old.objects[x[0]] != self.end.objects[x[0]] else set()'),
     ('a set undone does not count', 'return ((env[v], k) in self.sets,) * 2',
@@ -115,7 +115,7 @@ def noticed(good, bad):
 def main():
     source = open(os.path.join(HERE, 'plain.py')).read()
     # Faults may look at the register before the batch and before the event.
-    source = source.replace('        self.sets, self.joins', '        self.start = register\n        self.sets, self.joins', 1)
+    source = source.replace('        self.sets, self.joined', '        self.start = register\n        self.sets, self.joined', 1)
     source = source.replace('        apply(self.book, self.end, event)', '        self.old = self.end.copy()\n        apply(self.book, self.end, event)', 1)
     text = open(sys.argv[1]).read()
     good, missed = list(reading(source)(text)), 0

@@ -35,7 +35,7 @@ class Book:
         self.types, self.relationships, self.rules = [], [], []
 
     def above(self, t):
-        """"A type is *under* itself, its parent and so on up": the types that t is under."""
+        # "A type is *under* itself, its parent and so on up": the types that t is under
         return set() if t is None else {t} | self.above(self.types[t][0])
 
     def under(self, t, u):
@@ -91,7 +91,7 @@ def blocks(text):
 # ---------------------------------------------------------------- OCL
 
 def far_ends(register, role, u):
-    """"Role 2r goes from source to target of relationship r, role 2r + 1 back.\""""
+    # "Role 2r goes from source to target of relationship r, role 2r + 1 back."
     near, far = (1, 2) if role % 2 == 0 else (2, 1)
     return {link[far] for link in register.links if link[0] == role // 2 and link[near] == u}
 
@@ -139,13 +139,13 @@ def truth(book, register, b, env):
 
 
 def broken(book, register, rule, s):
-    """"A rule is *broken* at an object under its context type where its body, self that object, is not true.\""""
+    # "A rule is *broken* at an object under its context type where its body, self that object, is not true."
     context, body = book.rules[rule]
     return book.under(register.type_of(s), context) and not truth(book, register, body, [s])
 
 
 def full_check(book, register):
-    """"the first broken pair, lowest rule and then lowest id, or accepted" (None)."""
+    # "the first broken pair, lowest rule and then lowest id, or accepted" (None)
     pairs = [(r, s) for r in range(len(book.rules)) for s in sorted(register.objects)]
     return next((pair for pair in pairs if broken(book, register, *pair)), None)
 
@@ -222,7 +222,7 @@ def event_refusal(book, register, event):
 
 
 def apply(book, register, event):
-    """"Insert adds the object, delete takes it out, set puts v in cell k, ..; nothing else changes.\""""
+    # "Insert adds the object, delete takes it out, set puts v in cell k, ..; nothing else changes."
     kind, *x = event
     if kind == 'insert':
         register.objects[x[0]] = (x[1], (0,) * 8)
@@ -289,7 +289,7 @@ class Batch(Reach):
 
     def __init__(self, book, register, events):
         self.book, self.end, self.refused = book, register.copy(), None
-        self.sets, self.joins, self.parts = set(), set(), set()
+        self.sets, self.joined, self.parted = set(), set(), set()
         self.changes = []  # (kind, id, the types it brought the object into, the types it took it out of)
         for place, event in enumerate(events):
             number = event_refusal(book, self.end, event)
@@ -303,7 +303,7 @@ class Batch(Reach):
         before = self.end.type_of(x[0]) if kind not in ('join', 'part') else None
         apply(self.book, self.end, event)
         if kind in ('join', 'part'):
-            (self.joins if kind == 'join' else self.parts).add(tuple(x))
+            (self.joined if kind == 'join' else self.parted).add(tuple(x))
         elif kind == 'set':
             self.sets.add((x[0], x[1]))
         else:  # Reading 15: "brought in" and "took out" are of the type in question.
@@ -323,14 +323,14 @@ class Batch(Reach):
     either = staticmethod(any)
 
     def role(self, v, role, env):
-        """"gain if a join named such a link and it is there at the end .. loss if a part named one, back again or not"."""
+        # "gain if a join named such a link and it is there at the end .. loss if a part named one, back again or not"
         near = 1 if role % 2 == 0 else 2
         such = lambda link: link[0] == role // 2 and link[near] == env[v]
-        gain = any(such(link) and link in self.end.links for link in self.joins)
-        return gain, any(such(link) for link in self.parts)
+        gain = any(such(link) and link in self.end.links for link in self.joined)
+        return gain, any(such(link) for link in self.parted)
 
     def all(self, t, env):
-        """"gain if an insert or special brought in an object that is under t at the end; loss if a delete or general took one out"."""
+        # "gain if an insert or special brought in an object that is under t at the end; loss if a delete or general took one out"
         gain = any(k in ('insert', 'special') and t in entered and self.there(i, t) for k, i, entered, _ in self.changes)
         return gain, any(k in ('delete', 'general') and t in left for k, _, _, left in self.changes)
 
@@ -338,15 +338,15 @@ class Batch(Reach):
         return False, False  # "never"
 
     def cell(self, v, k, env):
-        """"may rise or fall if a set named that object and cell"."""
+        # "may rise or fall if a set named that object and cell"
         return ((env[v], k) in self.sets,) * 2
 
     def kind(self, v, t, env):
-        """"false if a general took that object out of t, true if a special brought it in and it is there at the end"."""
+        # "false if a general took that object out of t, true if a special brought it in and it is there at the end"
         return self.brought('special', env[v], t) and self.there(env[v], t), self.took('general', env[v], t)
 
     def at_members(self, c, b, env):
-        """"Members are always those at the end.\""""
+        # "Members are always those at the end."
         each = [self.moves(b, env + [m]) for m in members(self.book, self.end, c, env)]
         return any(up for up, _ in each), any(down for _, down in each)
 
@@ -354,7 +354,7 @@ class Batch(Reach):
         return any((m, k) in self.sets for m in members(self.book, self.end, c, env))
 
     def selected(self, rule, s):
-        """"s is under the context type at the end and: the body may turn false at s; or an insert ..; or a special did"."""
+        # "s is under the context type at the end and: the body may turn false at s; or an insert ..; or a special did"
         context, body = self.book.rules[rule]
         if not self.there(s, context):
             return False
@@ -363,14 +363,14 @@ class Batch(Reach):
         return false or inserted or self.brought('special', s, context)
 
     def pairs(self):
-        """"rule then id, ascending, no repeat"."""
+        # "rule then id, ascending, no repeat"
         return [(r, s) for r in range(len(self.book.rules)) for s in sorted(self.end.objects) if self.selected(r, s)]
 
     def occurring(self):
         """The event types that occur: what each event of the batch counts for."""
         changes = {(KINDS.index(k), t, 0) for k, _, entered, left in self.changes for t in entered | left}
         sets = {(2, t, k) for i, k in self.sets for t in self.book.above(self.end.type_of(i))}  # Reading 22
-        return changes | sets | {(3, link[0], 0) for link in self.joins} | {(4, link[0], 0) for link in self.parts}
+        return changes | sets | {(3, link[0], 0) for link in self.joined} | {(4, link[0], 0) for link in self.parted}
 
 
 # ---------------------------------------------------------------- quiet
@@ -380,7 +380,7 @@ def over_own_role(b):
 
 
 def quiet(b):
-    """"forall over a role of self; `and` of two quiet, `or` with one; `not` and `implies` likewise through the dual". Reading 17."""
+    # "forall over a role of self; `and` of two quiet, `or` with one; `not` and `implies` likewise through the dual". Reading 17
     if b[0] == 'forall':
         return over_own_role(b)
     if b[0] == 'and':
@@ -393,7 +393,7 @@ def quiet(b):
 
 
 def quietly_false(b):
-    """"the dual, where exists over a role of self is quietly false"."""
+    # "the dual, where exists over a role of self is quietly false"
     if b[0] == 'exists':
         return over_own_role(b)
     if b[0] == 'and':
@@ -408,7 +408,7 @@ def quietly_false(b):
 # ---------------------------------------------------------------- event lists
 
 class EventList(Reach):
-    """"The same rules without objects": an answer is a set of event types. Variable v has the type env[v]."""
+    # "The same rules without objects": an answer is a set of event types. Variable v has the type env[v]
 
     def __init__(self, book, rule):
         self.book = book
@@ -417,7 +417,7 @@ class EventList(Reach):
         self.types = sorted(self.moves(body, [context])[1] | inserts | self.parented(5, context))
 
     def parented(self, kind, t):
-        """"`special t` and `general t` are left out where t has no parent"."""
+        # "`special t` and `general t` are left out where t has no parent"
         return set() if self.book.types[t][0] is None else {(kind, t, 0)}
 
     def member_type(self, c):
@@ -431,7 +431,7 @@ class EventList(Reach):
         return {(3, role // 2, 0)}, {(4, role // 2, 0)}  # "role gain lists join, loss part"
 
     def all(self, t, env):
-        """"gain lists insert t and special t, loss delete t and general t"."""
+        # "gain lists insert t and special t, loss delete t and general t"
         return {(0, t, 0)} | self.parented(5, t), {(1, t, 0)} | self.parented(6, t)
 
     def num(self, n, env):
