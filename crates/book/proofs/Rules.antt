@@ -17,9 +17,9 @@ use Rattle.tables.specs.Columns.{ruleRow}
 use Rattle.tables.proofs.Readings.{is-truth}
 use Rattle.tables.proofs.Forms.{whole-ending, whole-body, body-ending, body-none, body-count}
 use Rattle.schema.proofs.Types.{type-known}
-use Rattle.book.specs.Marks.{bodyOf, mark}
+use Rattle.body_rows.specs.Marks.{bodyOf, mark}
 use Rattle.book.specs.Types.{typedPart}
-use Rattle.book.proofs.Marks.{reads-mark}
+use Rattle.body_rows.proofs.Marks.{reads-mark}
 use Rattle.book.proofs.Types.{lent}
 
 -- ---- whole bodies, by what the scan kept

@@ -23,10 +23,10 @@ use Rattle.tables.specs.Bodies.{BodyRow, Part, part, sortOf, sameSort, asTruth,
 use Rattle.tables.specs.Columns.{schemaOf}
 use Rattle.tables.proofs.Readings.{ending-start, node, only-fits, both-fit, code-of, sorted, sorted-parts, is-truth, is-number, is-collection}
 use Rattle.schema.proofs.Types.{type-known, relationship-known}
-use Rattle.book.specs.Marks.{firstSort, secondSort}
+use Rattle.body_rows.specs.Marks.{firstSort, secondSort}
 use Rattle.book.specs.Types.{typedPart, memberOf, summed, typedLeaf}
-use Rattle.book.proofs.Shapes.{coded-below}
-use Rattle.book.proofs.Marks.{result-sort}
+use Rattle.body_rows.proofs.Shapes.{coded-below}
+use Rattle.body_rows.proofs.Marks.{result-sort}
 
 -- ---- a row without parts, in lent tables
 

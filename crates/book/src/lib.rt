@@ -1,7 +1,7 @@
 // Refusal 4: each rule of lent tables has a known context type, and a body that is one whole form, well typed.
+use body_rows::body;
 use tables::Found;
 
-pub mod body;
 pub mod typing;
 
 use typing::Place;

@@ -1,10 +1,10 @@
 // Whether the forms of a body are well typed.
-use crate::body::COLLECTION;
-use crate::body::FIRST;
-use crate::body::NONE;
-use crate::body::SECOND;
-use crate::body::field;
-use crate::body::shape;
+use body_rows::body::COLLECTION;
+use body_rows::body::FIRST;
+use body_rows::body::NONE;
+use body_rows::body::SECOND;
+use body_rows::body::field;
+use body_rows::body::shape;
 ghost use mathlib.Core.Path.{_≡_};
 ghost use Prim.Native.Nat.{_+_, _≤_};
 ghost use lib.Dec.{T};
@@ -12,7 +12,7 @@ ghost use lib.ListN.{length, take};
 ghost use Rattle.meaning.specs.Forms.{collection};
 ghost use Rattle.tables.specs.Bodies.{reads, ending};
 ghost use Rattle.tables.specs.Columns.{relationshipsOf, schemaOf};
-ghost use Rattle.book.specs.Marks.{bodyOf, Starts};
+ghost use Rattle.body_rows.specs.Marks.{bodyOf, Starts};
 ghost use Rattle.book.specs.Types.{typedPart, memberOf, summed, typedLeaf};
 
 // The codes of operators.

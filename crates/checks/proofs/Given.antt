@@ -32,7 +32,7 @@ use Rattle.tables.specs.declared.Verdict.the-variants.{Clear}
 use Rattle.tables.proofs.Forms.{body-none}
 use Rattle.schema.proofs.Rows.{row-there}
 use Rattle.schema.proofs.Types.{type-known, cells-used}
-use Rattle.book.specs.Marks.{bodyOf}
+use Rattle.body_rows.specs.Marks.{bodyOf}
 use Rattle.checks.specs.Given.{Given, EventsLent, EventsKnown}
 use Rattle.checks.proofs.Stages.{over, torn, others-decide}
 use Rattle.known_events.proofs.Known.{kind-known}

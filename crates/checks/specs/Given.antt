@@ -12,7 +12,7 @@ use Rattle.tables.specs.Layouts.{Sheet}
 use Rattle.tables.specs.Bodies.{wholeBody}
 use Rattle.tables.specs.Columns.{bookOf, registerIn, eventRow}
 use Rattle.tables.specs.declared.Counts.{Counts}
-use Rattle.book.specs.Marks.{bodyOf}
+use Rattle.body_rows.specs.Marks.{bodyOf}
 
 -- limits are kept, used rows are lent, refusals 3 to 5 are not met; so bodies are whole forms, and objects have known types of few cells
 pub record Given (n : Counts) (s : Sheet) : Type 0 where

@@ -25,7 +25,7 @@ use Rattle.tables.specs.Refusals.{verdictOf, tableRefusal, refusalOf, lentRefus
 use Rattle.tables.specs.declared.Counts.{Counts}
 use Rattle.tables.specs.declared.Verdict.the-variants.{Clear, Refused}
 use Rattle.schema.proofs.Rows.{length-rows, row-there}
-use Rattle.book.specs.Marks.{bodyOf}
+use Rattle.body_rows.specs.Marks.{bodyOf}
 use Rattle.checks.specs.Given.{Given}
 use Rattle.checks.proofs.Given.{given, clear-none}
 use Rattle.checks.proofs.Stages.{first-assoc, first-none}

@@ -17,7 +17,7 @@ use Rattle.tables.specs.Bodies.{Part, part, asTruth, sameSort, sortOf, readBody
 use Rattle.tables.specs.Columns.{ruleRow}
 use Rattle.tables.proofs.Readings.{is-truth}
 use Rattle.tables.proofs.Forms.{whole-body, body-ending}
-use Rattle.book.specs.Marks.{bodyOf}
+use Rattle.body_rows.specs.Marks.{bodyOf}
 use Rattle.event_marks.specs.Marks.{wordsAt, marked}
 use Rattle.event_marks.specs.Lists.{partLists, markedBy, partMarks, typeLists}
 use Rattle.event_marks.proofs.Nodes.{marked-append}

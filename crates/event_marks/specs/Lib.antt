@@ -1,7 +1,5 @@
 -- A rule's event list as the code has it.
 --   Marks      a mark for each event type, in document 01's order
 --   Lists      what a form lists, by a set of directions
---   Quiet      when a form is quiet, by the code of its row
 pub mod Marks
 pub mod Lists
-pub mod Quiet

@@ -1,11 +1,11 @@
 // What the forms of a rule's body list.
 use crate::mark;
-use book::body::COLLECTION;
-use book::body::FIRST;
-use book::body::NONE;
-use book::body::SECOND;
-use book::body::field;
-use book::body::shape;
+use body_rows::body::COLLECTION;
+use body_rows::body::FIRST;
+use body_rows::body::NONE;
+use body_rows::body::SECOND;
+use body_rows::body::field;
+use body_rows::body::shape;
 use book::typing::Place;
 use book::typing::member_type;
 ghost use mathlib.Core.Path.{_≡_};
@@ -16,7 +16,7 @@ ghost use lib.ListN.{length, take};
 ghost use Rattle.meaning.specs.Forms.{collection};
 ghost use Rattle.tables.specs.Bodies.{reads, ending};
 ghost use Rattle.tables.specs.Columns.{relationshipsOf, schemaOf};
-ghost use Rattle.book.specs.Marks.{bodyOf, Starts};
+ghost use Rattle.body_rows.specs.Marks.{bodyOf, Starts};
 ghost use Rattle.event_marks.specs.Marks.{places, Added};
 ghost use Rattle.event_marks.specs.Lists.{partMarks, sumMarks};
 

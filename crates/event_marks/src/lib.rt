@@ -1,5 +1,4 @@
 // The event list of a rule as marks: document 01's reach rules without objects.
 mod body;
 pub mod mark;
-pub mod quiet;
 pub mod rule;

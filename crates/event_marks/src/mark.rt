@@ -1,6 +1,7 @@
 // Marks of event types, and those of forms without parts.
 use directions::DOWN;
 use directions::UP;
+use quietness::quiet::both;
 ghost use mathlib.Core.Path.{_≡_};
 ghost use mathlib.Core.Bool.{_&&_, _||_};
 ghost use mathlib.Core.List.{List, [], _∷_};
@@ -59,13 +60,6 @@ pub fn put(listed: bool, kind: u32, number: u32, cell: u32, marks: &mut [bool])
     }
     let at = ((kind * NUMBERS + number) * CELLS + cell) as usize;
     marks[at] = true;
-}
-
-// Whether both hold.
-pub fn both(a: bool, b: bool) -> bool
-    ensures { λ r. ⌜ r ≡ (a && b) ⌝ }
-{
-    if a { b } else { false }
 }
 
 // Marks what brings an object into a type, or takes one out, if it is listed: the one kind for a whole object, the other for one that

@@ -1,11 +1,11 @@
 // The marks of a rule's event list.
 use crate::body::mark_form;
 use crate::mark::put_members;
-use crate::quiet::quiet;
-use book::body::scan;
+use body_rows::body::scan;
 use book::typing::Place;
 use directions::DOWN;
 use directions::UP;
+use quietness::quiet::quiet;
 ghost use mathlib.Core.Path.{_≡_};
 ghost use lib.Dec.{T};
 ghost use lib.ListN.{length};
@@ -13,7 +13,7 @@ ghost use Rattle.meaning.specs.EventList.{eventList};
 ghost use Rattle.rows.specs.Rows.{wordAt};
 ghost use Rattle.tables.specs.Bodies.{wholeBody};
 ghost use Rattle.tables.specs.Columns.{ruleRow, schemaOf};
-ghost use Rattle.book.specs.Marks.{bodyOf};
+ghost use Rattle.body_rows.specs.Marks.{bodyOf};
 ghost use Rattle.event_marks.specs.Marks.{places, marked, Added};
 
 // Marks what a rule of lent tables lists: what may turn its body false, and what brings an object into its context type. An insert

@@ -19,7 +19,7 @@ use Rattle.tables.specs.declared.Counts.{Counts}
 use Rattle.schema.proofs.Rows.{length-rows, row-there}
 use Rattle.register.specs.Slots.{Indexable}
 use Rattle.register.proofs.Fits.{indexable}
-use Rattle.book.specs.Marks.{Starts}
+use Rattle.body_rows.specs.Marks.{Starts}
 use Rattle.checks.specs.Given.{Given}
 use Rattle.ocl.specs.Site.{Site, siteOf, rowsAt}
 use Rattle.ocl.specs.Ready.{BodyReady}

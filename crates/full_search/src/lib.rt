@@ -68,7 +68,7 @@ pub fn search(
     'search: while rule < n.rules {
         let context = rows::word(rules, 2, rule, 0);
         let size = rows::word(rules, 2, rule, 1);
-        let spans = book::body::scan(bodies, rule, size);
+        let spans = body_rows::body::scan(bodies, rule, size);
         let starts = spans.starts;
         let mut row: u32 = 0;
         while row < n.objects {
@@ -117,7 +117,7 @@ pub fn breaks_at(
         Found::At(row) => {
             let context = rows::word(rules, 2, rule, 0);
             let size = rows::word(rules, 2, rule, 1);
-            let spans = book::body::scan(bodies, rule, size);
+            let spans = body_rows::body::scan(bodies, rule, size);
             let starts = spans.starts;
             breaks(
                 n,

@@ -12,7 +12,7 @@ use Rattle.meaning.specs.Reach.{Change}
 use Rattle.tables.specs.Codes.{Operator, comparing, negating, connecting, quantifying, kindOf, literal, cellOf, sizeOf, sumOf, combining, roleOf, allOf, selecting, codeOf, shapeOf}
 use Rattle.tables.specs.Bodies.{BodyRow, Part, sortOf, sameSort, asCollection, formOf, reads, ending, firstPart, secondPart}
 use Rattle.tables.proofs.Readings.{ending-start, node, code-of}
-use Rattle.book.proofs.Marks.{result-sort}
+use Rattle.body_rows.proofs.Marks.{result-sort}
 use Rattle.book.proofs.Types.{select-row}
 use Rattle.going_back.specs.Back.{leadsInto, baseOf}
 

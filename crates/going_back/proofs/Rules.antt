@@ -21,7 +21,7 @@ use Rattle.tables.proofs.Readings.{is-truth}
 use Rattle.tables.proofs.Forms.{whole-body, body-ending}
 use Rattle.schema.proofs.Rows.{length-rows}
 use Rattle.register.specs.Slots.{Indexed}
-use Rattle.book.specs.Marks.{bodyOf, Starts}
+use Rattle.body_rows.specs.Marks.{bodyOf, Starts}
 use Rattle.book.specs.Types.{typedPart}
 use Rattle.ocl.specs.Site.{Site, siteOf, rowsAt, formAt, idIn}
 use Rattle.ocl.proofs.Bodies.{body-ready}

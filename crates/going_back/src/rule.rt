@@ -16,7 +16,7 @@ ghost use Rattle.meaning.specs.Reach.{Change, inserted, specialised};
 ghost use Rattle.rows.specs.Rows.{wordAt};
 ghost use Rattle.tables.specs.Bodies.{wholeBody};
 ghost use Rattle.tables.specs.Columns.{ruleRow};
-ghost use Rattle.book.specs.Marks.{bodyOf};
+ghost use Rattle.body_rows.specs.Marks.{bodyOf};
 ghost use Rattle.ocl.specs.Site.{siteOf, idIn};
 ghost use Rattle.trace.specs.Traces.{Traced, Traces};
 ghost use Rattle.going_back.specs.Back.{candidate};

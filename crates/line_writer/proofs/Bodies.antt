@@ -13,7 +13,7 @@ use Rattle.tables.specs.Bodies.{BodyRow, Part, formOf, wholeBody, ending, first
 use Rattle.tables.proofs.Readings.{node, code-of, sorted, sorted-parts, is-truth, is-number, is-collection}
 use Rattle.tables.specs.Columns.{ruleRow}
 use Rattle.tables.proofs.Forms.{whole-body, body-ending}
-use Rattle.book.specs.Marks.{bodyOf, sortCode, firstSort, secondSort}
+use Rattle.body_rows.specs.Marks.{bodyOf, sortCode, firstSort, secondSort}
 use Rattle.book.proofs.Types.{operatorHere, partsHere}
 use Rattle.text.specs.Names.{nameOf, firstOperator}
 use Rattle.text.specs.Tokens.{begin, item, end, spellToken, spellTokens, spellBracket}

@@ -11,7 +11,7 @@ use Rattle.tables.specs.Layouts.{Sheet, sectionCount}
 use Rattle.tables.specs.Columns.{ruleRow}
 use Rattle.tables.specs.Bodies.{BodyRow, Part, part, ending, wholeBody}
 use Rattle.tables.specs.declared.Counts.{Counts}
-use Rattle.book.specs.Marks.{bodyOf}
+use Rattle.body_rows.specs.Marks.{bodyOf}
 use Rattle.text.specs.Names.{typeName, relationshipName, ruleName, objectName, linkName, firstEvent}
 use Rattle.text.specs.Tokens.{item, end, spellTokens, spellBracket}
 use Rattle.text.specs.Bodies.{Written, closing, tokensOf, writtenOf}

@@ -5,11 +5,11 @@ use crate::pieces::open;
 use crate::pieces::open_inner;
 use crate::pieces::parent;
 use crate::pieces::row_line;
-use book::body::FIRST;
-use book::body::NONE;
-use book::body::SECOND;
-use book::body::field;
-use book::body::shape;
+use body_rows::body::FIRST;
+use body_rows::body::NONE;
+use body_rows::body::SECOND;
+use body_rows::body::field;
+use body_rows::body::shape;
 ghost use mathlib.Core.List.{[], _∷_};
 ghost use Prim.Native.Nat.{_+_, _*_, _≤_, _<_};
 ghost use lib.Dec.{T};
@@ -17,7 +17,7 @@ ghost use lib.ListN.{length, take};
 ghost use Rattle.meaning.specs.Limits.{cellCount, maxForms};
 ghost use Rattle.rows.specs.Rows.{wordAt};
 ghost use Rattle.tables.specs.Bodies.{ending, wholeBody};
-ghost use Rattle.book.specs.Marks.{bodyOf, Starts};
+ghost use Rattle.body_rows.specs.Marks.{bodyOf, Starts};
 ghost use Rattle.line_writer.specs.Put.{Put};
 ghost use Rattle.line_writer.specs.Lines.{spellClosing, spellForm, cellsFor, typeLine, relationshipLine, ruleLine, objectLine, linkLine, eventLine};
 
@@ -124,7 +124,7 @@ pub fn rule_line(out: &mut [u8], at: usize, rules: &[u32], bodies: &[u32], row: 
     ensures { λ r. ⌜ Put (now (out .entry)) at (ruleLine (now (rules .entry)) (now (bodies .entry)) row) (now (out .exit)) r ⌝ }
 {
     let size = rows::word(rules, 2, row, 1);
-    let spans = book::body::scan(bodies, row, size);
+    let spans = body_rows::body::scan(bodies, row, size);
     let starts = spans.starts;
     let a = open(&mut *out, at, 2);
     let b = number(&mut *out, a, row);

@@ -19,7 +19,7 @@ use Rattle.tables.specs.Bodies.{BodyRow, asCollection, asTruth}
 use Rattle.tables.specs.Columns.{objectRow}
 use Rattle.number.specs.Comparing.{comparisonOf}
 use Rattle.ocl.specs.Site.{Site, typesAt, registerAt, rowsAt, formAt, codeAt, idIn, idsOf}
-use Rattle.ocl.specs.Operators.{connectiveOf, quantifierOf, arithmeticOf, stopping}
+use Rattle.operators.specs.Operators.{connectiveOf, quantifierOf, arithmeticOf, stopping}
 use Rattle.ocl.specs.Values.{truthOf, numberOf, membersOf, cellIn, weightOf}
 use Rattle.ocl.specs.Walks.{Went, BegunIn, WalkedIn, Stepped, Anywhere, instancesFrom, farStep, leftIn, StandsIn, collectionAt, leftAt, Stands, Begun, Walked}
 use Rattle.ocl.specs.Ready.{Ready}

@@ -16,7 +16,7 @@ use Rattle.meaning.proofs.Registers.{RegisterFits}
 use Rattle.tables.specs.Bodies.{sortOf, sameSort, asTruth, wholeBody, readBody, ending}
 use Rattle.tables.proofs.Forms.{whole-body, body-ending, body-none}
 use Rattle.register.specs.Slots.{Indexed}
-use Rattle.book.specs.Marks.{Starts}
+use Rattle.body_rows.specs.Marks.{Starts}
 use Rattle.ocl.specs.Site.{Site, typesAt, registerAt, rowsAt, formAt, idIn}
 use Rattle.ocl.specs.Values.{truthOf}
 use Rattle.ocl.specs.Ready.{scoped, BodyReady}

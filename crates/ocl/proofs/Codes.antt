@@ -5,7 +5,7 @@ use mathlib.Core.Option.{some}
 use native.Mathlib.Omega.{arith}
 use Rattle.tables.specs.Codes.{Operator, comparing, connecting, quantifying, combining, operators, operatorOf}
 use Rattle.number.specs.Comparing.{comparisonOf}
-use Rattle.ocl.specs.Operators.{connectiveOf, quantifierOf, arithmeticOf}
+use Rattle.operators.specs.Operators.{connectiveOf, quantifierOf, arithmeticOf}
 
 pub comparing-at : (k : ℕ) → k < 6 → operatorOf k ≡ some (comparing (comparisonOf k))
 unfolding operatorOf operators comparisonOf

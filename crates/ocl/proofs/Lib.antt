@@ -3,7 +3,6 @@
 --   Steps         steps of a walk
 --   Variables     the ids of bound variables
 --   Objects       objects by their rows
---   Connectives   connectives by their codes
 --   Codes         operators by ranges of codes
 --   Steady        what a register that fits its schema gives
 --   Scopes        well-typed forms are in scope
@@ -16,7 +15,6 @@ pub mod Members
 pub mod Steps
 pub mod Variables
 pub mod Objects
-pub mod Connectives
 pub mod Codes
 pub mod Steady
 pub mod Scopes

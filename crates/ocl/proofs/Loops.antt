@@ -10,7 +10,7 @@ use lib.IntN.{ℤ, pos, _+ℤ_}
 use Rattle.meaning.specs.Register.{Register, cellAt}
 use Rattle.meaning.specs.Forms.{forall, exists}
 use Rattle.meaning.specs.Meaning.{quantified, total}
-use Rattle.ocl.specs.Operators.{quantifierOf, stopping}
+use Rattle.operators.specs.Operators.{quantifierOf, stopping}
 
 -- ---- quantifiers, by their codes
 

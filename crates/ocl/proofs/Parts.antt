@@ -24,13 +24,13 @@ use Rattle.tables.specs.Bodies.{BodyRow, Part, asTruth, asNumber, asCollection,
 use Rattle.tables.proofs.Readings.{sound-pos}
 use Rattle.number.specs.Comparing.{comparisonOf}
 use Rattle.ocl.specs.Site.{Site, typesAt, registerAt, rowsAt, formAt, codeAt, idIn, idsOf}
-use Rattle.ocl.specs.Operators.{connectiveOf, quantifierOf, arithmeticOf}
+use Rattle.operators.specs.Operators.{connectiveOf, quantifierOf, arithmeticOf}
 use Rattle.ocl.specs.Values.{truthOf, numberOf, membersOf}
 use Rattle.ocl.specs.Walks.{collectionAt}
 use Rattle.ocl.specs.Ready.{scoped, scopedAs, Ready}
 use Rattle.ocl.proofs.Variables.{bound-at, one-more}
 use Rattle.ocl.proofs.Loops.{weighed, ones}
-use Rattle.book.proofs.Nodes.{Made, made, truth-code, number-code, collection-code, read-sound, Two, two, one}
+use Rattle.body_rows.proofs.Nodes.{Made, made, truth-code, number-code, collection-code, read-sound, Two, two, one}
 use Rattle.ocl.proofs.Codes.{comparing-at, connecting-at, quantifying-at, combining-at}
 
 module _ {w : Site} {starts : List ℕ} {e : ℕ} {vars : List ℕ} {depth : ℕ} {s : Sort} (ready : Ready w starts e vars depth s) where

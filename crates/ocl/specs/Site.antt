@@ -7,7 +7,7 @@ use Rattle.meaning.specs.Register.{Register}
 use Rattle.tables.specs.Bodies.{BodyRow, Part, ending}
 use Rattle.tables.specs.Columns.{objectRow, typesOf, registerOf}
 use Rattle.tables.specs.declared.Counts.{Counts}
-use Rattle.book.specs.Marks.{bodyOf}
+use Rattle.body_rows.specs.Marks.{bodyOf}
 
 pub record Site : Type 0 where
   pub counts : Counts

@@ -1,11 +1,10 @@
 // The evaluators of rule bodies over an indexed register. Variables stand for objects by their rows.
-mod operators;
 mod walk;
 
-use book::body::field;
-use operators::decided;
-use operators::joined;
-use operators::stops;
+use body_rows::body::field;
+use operators::operators::decided;
+use operators::operators::joined;
+use operators::operators::stops;
 use register::slots;
 use tables::Counts;
 use walk::cell_value;

@@ -84,7 +84,7 @@ pub fn search(
         let rule = code(chosen, at) / 1024;
         let context = rows::word(rules, 2, rule, 0);
         let size = rows::word(rules, 2, rule, 1);
-        let spans = book::body::scan(bodies, rule, size);
+        let spans = body_rows::body::scan(bodies, rule, size);
         let starts = spans.starts;
         while in_rule(count, chosen, at, rule) {
             let row = code(chosen, at) % 1024;

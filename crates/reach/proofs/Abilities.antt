@@ -18,7 +18,7 @@ use Rattle.meaning.specs.Forms.{Sort, truth, number, collection, bind}
 use Rattle.tables.specs.Codes.{Operator, comparing, negating, connecting, quantifying, kindOf, literal, cellOf, sizeOf, sumOf, combining, roleOf, allOf, selecting, operatorOf, codeOf, shapeOf}
 use Rattle.tables.specs.Bodies.{Part, part, sortOf, sameSort, asTruth, asNumber, asCollection, reads, ending, firstPart, secondPart}
 use Rattle.tables.proofs.Readings.{ending-start, sound-pos, code-of}
-use Rattle.book.specs.Marks.{firstSort, secondSort}
+use Rattle.body_rows.specs.Marks.{firstSort, secondSort}
 use Rattle.book.specs.Types.{typedPart, memberOf, summed, typedLeaf}
 use Rattle.book.proofs.Types.{operatorHere, partsHere, coded-here, second-here, first-here, binds-here, leaf-here, one-here, plain-here, bound-here, fails-here}
 use Rattle.ocl.specs.Site.{Site, rowsAt, formAt, codeAt}

@@ -13,7 +13,7 @@ use Rattle.meaning.specs.Meaning.{meaning}
 use Rattle.meaning.specs.Reach.{Change, cellMoves}
 use Rattle.tables.specs.Bodies.{Part, asCollection, ending, firstPart, secondPart}
 use Rattle.directions.specs.Sets.{someOf}
-use Rattle.book.specs.Marks.{firstSort, secondSort}
+use Rattle.body_rows.specs.Marks.{firstSort, secondSort}
 use Rattle.event_marks.proofs.Nodes.{passTo}
 use Rattle.ocl.specs.Site.{Site, typesAt, registerAt, rowsAt, formAt, codeAt, idsOf}
 use Rattle.ocl.specs.Values.{membersOf}

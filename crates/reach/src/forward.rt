@@ -1,11 +1,11 @@
 // The forward rule: whether a form of a rule's body may move, at rows of the register at the end. "Members are always those at the end."
 use crate::ask;
-use book::body::COLLECTION;
-use book::body::FIRST;
-use book::body::NONE;
-use book::body::SECOND;
-use book::body::field;
-use book::body::shape;
+use body_rows::body::COLLECTION;
+use body_rows::body::FIRST;
+use body_rows::body::NONE;
+use body_rows::body::SECOND;
+use body_rows::body::field;
+use body_rows::body::shape;
 use directions::DOWN;
 use directions::UP;
 use ocl::Place;

@@ -21,7 +21,7 @@ use Rattle.tables.specs.Layouts.{Sheet, sheetOf}
 use Rattle.tables.specs.Bodies.{BodyRow, bodyRow, readBody}
 use Rattle.tables.specs.Columns.{noParent, typeRow, relationshipRow, ruleRow, objectRow, linkRow, eventOf, eventRow, bookOf, registerIn, batchIn}
 use Rattle.tables.specs.declared.Counts.{Counts}
-use Rattle.book.specs.Marks.{bodyOf}
+use Rattle.body_rows.specs.Marks.{bodyOf}
 use Rattle.text.specs.Names.{typeName, relationshipName, ruleName, objectName, linkName}
 use Rattle.text.specs.Entries.{Entry, eventSection, tableOf, bodiesOf}
 use Rattle.text.specs.Texts.{filled}

@@ -29,7 +29,7 @@ use Rattle.tables.proofs.Forms.{wordsFrom, whole-body, body-words, body-count, 
 use Rattle.tables.specs.Words.{eventWords}
 use Rattle.tables.proofs.Determined.{event-back}
 use Rattle.schema.proofs.Rows.{row-there, row-at}
-use Rattle.book.specs.Marks.{bodyOf}
+use Rattle.body_rows.specs.Marks.{bodyOf}
 use Rattle.checks.specs.Given.{Given, EventsLent, EventsKnown}
 use Rattle.text.specs.Names.{typeName, relationshipName, ruleName, objectName, linkName}
 use Rattle.text.specs.Tokens.{dash, isWord}

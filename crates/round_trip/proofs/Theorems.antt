@@ -26,7 +26,7 @@ use Rattle.tables.specs.Refusals.{notWhole, sheetRefusal}
 use Rattle.tables.specs.declared.Counts.{Counts}
 use Rattle.tables.proofs.Forms.{numsFit, wordsFrom, body-count, body-read, table-words}
 use Rattle.schema.proofs.Rows.{length-rows, row-there}
-use Rattle.book.specs.Marks.{bodyOf}
+use Rattle.body_rows.specs.Marks.{bodyOf}
 use Rattle.checks.specs.Given.{Given, EventsLent, EventsKnown}
 use Rattle.checks.proofs.Given.{any-off, lent, given-sheet}
 use Rattle.checks.proofs.Stages.{over}

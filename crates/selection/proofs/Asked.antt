@@ -14,7 +14,7 @@ use Rattle.rows.specs.Rows.{wordAt}
 use Rattle.tables.specs.Bodies.{wholeBody, readBody, part}
 use Rattle.tables.specs.Columns.{typesOf, objectRow, ruleRow}
 use Rattle.tables.specs.declared.Counts.{Counts}
-use Rattle.book.specs.Marks.{bodyOf}
+use Rattle.body_rows.specs.Marks.{bodyOf}
 use Rattle.ocl.specs.Site.{Site, siteOf, rowsAt, formAt, idIn}
 use Rattle.trace.specs.Questions.{asked, insertedInto}
 use Rattle.trace.specs.Traces.{Traced}

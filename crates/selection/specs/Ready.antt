@@ -12,7 +12,7 @@ use Rattle.rows.specs.Rows.{wordAt}
 use Rattle.tables.specs.Bodies.{wholeBody}
 use Rattle.tables.specs.Columns.{ruleRow}
 use Rattle.tables.specs.declared.Counts.{Counts}
-use Rattle.book.specs.Marks.{bodyOf}
+use Rattle.body_rows.specs.Marks.{bodyOf}
 use Rattle.ocl.specs.Site.{siteOf, idIn}
 use Rattle.trace.specs.Traces.{Traced}
 use Rattle.going_back.specs.Back.{candidate}

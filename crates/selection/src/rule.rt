@@ -1,9 +1,9 @@
 // The objects at which a rule is selected. The forward rule is asked at marked objects only.
-use book::body::scan;
+use body_rows::body::scan;
 use directions::DOWN;
-use event_marks::quiet::quiet;
 use going_back::rule::candidates;
 use ocl::Place;
+use quietness::quiet::quiet;
 use reach::ask;
 use reach::forward::moved;
 use tables::Counts;

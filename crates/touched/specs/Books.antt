@@ -11,7 +11,7 @@ use Rattle.rows.specs.Rows.{wordAt}
 use Rattle.tables.specs.Bodies.{wholeBody}
 use Rattle.tables.specs.Columns.{schemaOf, rulesOf}
 use Rattle.tables.specs.declared.Counts.{Counts}
-use Rattle.book.specs.Marks.{bodyOf}
+use Rattle.body_rows.specs.Marks.{bodyOf}
 
 -- the book of four tables
 abbrev pub lentBook : Counts → List ℕ → List ℕ → List ℕ → List ℕ → Book

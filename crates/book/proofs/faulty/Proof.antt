@@ -8,7 +8,7 @@ use borrow.Author.Needs.{needs}
 use Rattle.rows.specs.Rows.{wordAt}
 use Rattle.tables.specs.Bodies.{wholeBody}
 use Rattle.tables.proofs.Forms.{whole-body}
-use Rattle.book.specs.Marks.{bodyOf}
+use Rattle.body_rows.specs.Marks.{bodyOf}
 use Rattle.book.proofs.Rules.{too-long, no-truth, not-first, one-form, unknown-context, no-body, judged}
 use Rattle.book.proofs.faulty.Statement.{statement}
 use Rattle.book.proofs.faulty.Tie as tie

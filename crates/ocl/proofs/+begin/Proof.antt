@@ -14,7 +14,7 @@ use Rattle.ocl.proofs.Answers.{role-began, all-began, select-began}
 use Rattle.ocl.proofs.begin.Reads as begin
 use Rattle.ocl.proofs.begin.Kinds as begin-kinds
 use Rattle.ocl.proofs.+begin.Lts-begin as begin-lts
-use Rattle.book.proofs.body.field.Reads as field-reads
+use Rattle.body_rows.proofs.body.field.Reads as field-reads
 use Rattle.ocl.proofs.walk.start_of.Reads as start-of-reads
 use Rattle.ocl.proofs.walk.variable.Reads as variable-reads
 use Rattle.register.proofs.slots.first_slot.Reads as first-slot-reads

@@ -17,7 +17,7 @@ use Rattle.meaning.specs.Forms as Forms
 use Rattle.meaning.specs.Meaning.{quantified as quantifiedBy}
 use Rattle.meaning.specs.Lists.{keep}
 use Rattle.ocl.specs.Site.{Site, siteOf, codeAt, idIn}
-use Rattle.ocl.specs.Operators.{quantifierOf}
+use Rattle.operators.specs.Operators.{quantifierOf}
 use Rattle.ocl.specs.Values.{truthOf}
 use Rattle.ocl.specs.Walks.{leftAt, Stands, Went}
 use Rattle.ocl.specs.Ready.{Ready}
@@ -53,15 +53,15 @@ use Rattle.ocl.proofs.+combination+comparison+connection+next+next_sele
 use Rattle.ocl.proofs.value.Reads as value
 use Rattle.ocl.proofs.value.Kinds as value-kinds
 use Rattle.ocl.proofs.+combination+comparison+connection+next+next_selected+quantified+totalled+truth+value.Lts-value as value-lts
-use Rattle.book.proofs.body.field.Reads as field-reads
+use Rattle.body_rows.proofs.body.field.Reads as field-reads
 use Rattle.number.proofs.add.Reads as add-reads
 use Rattle.number.proofs.compare.Reads as compare-reads
 use Rattle.number.proofs.from_word.Reads as from-word-reads
 use Rattle.number.proofs.subtract.Reads as subtract-reads
 use Rattle.ocl.proofs.begin.Reads as begin-reads
-use Rattle.ocl.proofs.operators.decided.Reads as decided-reads
-use Rattle.ocl.proofs.operators.joined.Reads as joined-reads
-use Rattle.ocl.proofs.operators.stops.Reads as stops-reads
+use Rattle.operators.proofs.operators.decided.Reads as decided-reads
+use Rattle.operators.proofs.operators.joined.Reads as joined-reads
+use Rattle.operators.proofs.operators.stops.Reads as stops-reads
 use Rattle.ocl.proofs.walk.cell_value.Reads as cell-value-reads
 use Rattle.ocl.proofs.walk.next_far.Reads as next-far-reads
 use Rattle.ocl.proofs.walk.next_instance.Reads as next-instance-reads

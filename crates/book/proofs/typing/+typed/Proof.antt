@@ -16,15 +16,15 @@ use Rattle.meaning.specs.Forms.{Sort, collection, bind}
 use Rattle.tables.specs.Codes.{operatorOf}
 use Rattle.tables.specs.Bodies.{BodyRow, reads, ending, firstPart, secondPart}
 use Rattle.tables.proofs.Readings.{ending-start, sound-pos}
-use Rattle.book.specs.Marks.{bodyOf, firstSort, secondSort, Starts}
+use Rattle.body_rows.specs.Marks.{bodyOf, firstSort, secondSort, Starts}
 use Rattle.book.specs.Types.{typedPart, memberOf, summed, typedLeaf}
-use Rattle.book.proofs.Kept.{starts-less}
+use Rattle.body_rows.proofs.Kept.{starts-less}
 use Rattle.book.proofs.Types.{lent, operatorHere, partsHere, coded-here, code-here, second-here, first-here, binds-here, sums-here, leaf-here, one-here, plain-here, bound-here, fails-here, bind-take, scope-kept}
 use Rattle.book.proofs.typing.typed.Reads as typed
 use Rattle.book.proofs.typing.typed.Kinds as typed-kinds
 use Rattle.book.proofs.typing.+typed.Lts-typed as typed-lts
-use Rattle.book.proofs.body.field.Reads as field-reads
-use Rattle.book.proofs.body.shape.Reads as shape-reads
+use Rattle.body_rows.proofs.body.field.Reads as field-reads
+use Rattle.body_rows.proofs.body.shape.Reads as shape-reads
 use Rattle.book.proofs.typing.leaf.Reads as leaf-reads
 use Rattle.book.proofs.typing.member_type.Reads as member-type-reads
 use Rattle.book.proofs.typing.summable.Reads as summable-reads

@@ -7,7 +7,7 @@ use lib.ListN.{getD}
 use borrow.Author.Needs.{needs}
 use Rattle.meaning.specs.Schema.{farType}
 use Rattle.tables.specs.Columns.{relationshipsOf}
-use Rattle.book.specs.Marks.{bodyOf}
+use Rattle.body_rows.specs.Marks.{bodyOf}
 use Rattle.book.proofs.Types.{Members, members-none, members-more, members-all, members-role}
 use Rattle.book.proofs.typing.member_type.Statement.{statement}
 use Rattle.book.proofs.typing.member_type.Tie as tie

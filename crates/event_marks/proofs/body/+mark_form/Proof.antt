@@ -18,9 +18,9 @@ use Rattle.tables.specs.Codes.{Operator, operatorOf}
 use Rattle.tables.specs.Bodies.{BodyRow, Part, reads, ending, firstPart, secondPart}
 use Rattle.tables.proofs.Readings.{ending-start, sound-pos}
 use Rattle.directions.proofs.Passes.{pass-small}
-use Rattle.book.specs.Marks.{bodyOf, firstSort, secondSort, Starts}
+use Rattle.body_rows.specs.Marks.{bodyOf, firstSort, secondSort, Starts}
 use Rattle.book.specs.Types.{memberOf}
-use Rattle.book.proofs.Kept.{starts-less}
+use Rattle.body_rows.proofs.Kept.{starts-less}
 use Rattle.book.proofs.Types.{lent, operatorHere, partsHere, coded-here, code-here, second-here, first-here, binds-here, sums-here, bind-take}
 use Rattle.event_marks.specs.Marks.{places, Added}
 use Rattle.event_marks.specs.Lists.{markedBy, partMarks, leafLists, sumMarks}
@@ -29,8 +29,8 @@ use Rattle.event_marks.proofs.Nodes.{passTo, inner, leaf-here, one-here
 use Rattle.event_marks.proofs.body.mark_form.Reads as mark-form
 use Rattle.event_marks.proofs.body.mark_form.Kinds as mark-form-kinds
 use Rattle.event_marks.proofs.body.+mark_form.Lts-mark_form as lts
-use Rattle.book.proofs.body.field.Reads as field-reads
-use Rattle.book.proofs.body.shape.Reads as shape-reads
+use Rattle.body_rows.proofs.body.field.Reads as field-reads
+use Rattle.body_rows.proofs.body.shape.Reads as shape-reads
 use Rattle.book.proofs.typing.member_type.Reads as member-type-reads
 use Rattle.directions.proofs.pass.Reads as pass-reads
 use Rattle.event_marks.proofs.mark.put_leaf.Reads as put-leaf-reads

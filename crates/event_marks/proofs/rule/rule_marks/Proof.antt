@@ -9,7 +9,7 @@ use Rattle.meaning.specs.Schema.{Schema}
 use Rattle.tables.specs.Bodies.{BodyRow, wholeBody, readBody, ending}
 use Rattle.tables.specs.Columns.{ruleRow}
 use Rattle.tables.proofs.Forms.{WholeBody, whole-body}
-use Rattle.book.specs.Marks.{bodyOf}
+use Rattle.body_rows.specs.Marks.{bodyOf}
 use Rattle.book.proofs.Types.{lent}
 use Rattle.event_marks.proofs.Marks.{added-as, added-then}
 use Rattle.event_marks.proofs.Rules.{rule-marked}

@@ -11,7 +11,7 @@ use borrow.Fn.Kinds.{In}
 use borrow.Fn.PlainCycle.{Measures, is, falls, and}
 use Rattle.meaning.specs.Forms.{collection}
 use Rattle.tables.specs.Codes.{operatorOf}
-use Rattle.book.specs.Marks.{firstSort, secondSort}
+use Rattle.body_rows.specs.Marks.{firstSort, secondSort}
 use Rattle.book.proofs.Types.{code-here, sums-here}
 use Rattle.directions.proofs.Passes.{pass-small}
 use Rattle.event_marks.proofs.Nodes.{passTo}
@@ -29,8 +29,8 @@ use Rattle.going_back.proofs.back.+back+over.Lts-back as back-lts
 use Rattle.going_back.proofs.back.over.Reads as over
 use Rattle.going_back.proofs.back.over.Kinds as over-kinds
 use Rattle.going_back.proofs.back.+back+over.Lts-over as over-lts
-use Rattle.book.proofs.body.field.Reads as field-reads
-use Rattle.book.proofs.body.shape.Reads as shape-reads
+use Rattle.body_rows.proofs.body.field.Reads as field-reads
+use Rattle.body_rows.proofs.body.shape.Reads as shape-reads
 use Rattle.directions.proofs.pass.Reads as pass-reads
 use Rattle.going_back.proofs.back.image.Reads as image-reads
 use Rattle.going_back.proofs.back.leaf.Reads as leaf-reads

@@ -5,7 +5,7 @@ use native.Mathlib.Omega.{arith}
 use lib.ListN.{getD}
 use denote.Ref.{now}
 use Rattle.tables.specs.Bodies.{BodyRow}
-use Rattle.book.specs.Marks.{bodyOf}
+use Rattle.body_rows.specs.Marks.{bodyOf}
 use Rattle.going_back.proofs.Bases.{Bases, bases-none, bases-more, base-all, base-role}
 use Rattle.going_back.proofs.back.base_row.Statement.{statement}
 use Rattle.going_back.proofs.back.base_row.Tie as tie

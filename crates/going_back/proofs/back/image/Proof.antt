@@ -7,7 +7,7 @@ use borrow.Author.Needs.{needs}
 use Rattle.meaning.specs.Limits.{maxRelationships}
 use Rattle.meaning.specs.Forms.{collection, Form, role}
 use Rattle.tables.specs.Bodies.{BodyRow, asCollection, ending}
-use Rattle.book.specs.Marks.{bodyOf}
+use Rattle.body_rows.specs.Marks.{bodyOf}
 use Rattle.going_back.specs.Back.{baseOf, turned}
 use Rattle.going_back.proofs.Growth.{grown-none}
 use Rattle.going_back.proofs.Images.{role-bound, all-covered, role-covered}

@@ -12,8 +12,8 @@ use borrow.Fn.PlainCycle.{Measures, is, falls, and}
 use Rattle.tables.specs.Codes.{Operator, operatorOf, shapeOf}
 use Rattle.tables.specs.Bodies.{BodyRow, ending}
 use Rattle.tables.proofs.Readings.{ending-start, sound-pos}
-use Rattle.book.specs.Marks.{bodyOf, firstSort, secondSort, Starts}
-use Rattle.book.proofs.Kept.{starts-less}
+use Rattle.body_rows.specs.Marks.{bodyOf, firstSort, secondSort, Starts}
+use Rattle.body_rows.proofs.Kept.{starts-less}
 use Rattle.book.proofs.Types.{operatorHere, partsHere, coded-here, code-here, second-here, first-here}
 use Rattle.text.specs.Tokens.{begin, spellToken}
 use Rattle.line_writer.specs.Lines.{spellClosing, spellForm}
@@ -22,8 +22,8 @@ use Rattle.line_writer.proofs.Bodies.{few-fields, leaf-spelled, over-sp
 use Rattle.line_writer.proofs.lines.form.Reads as form
 use Rattle.line_writer.proofs.lines.form.Kinds as form-kinds
 use Rattle.line_writer.proofs.lines.+form.Lts-form as form-lts
-use Rattle.book.proofs.body.field.Reads as field-reads
-use Rattle.book.proofs.body.shape.Reads as shape-reads
+use Rattle.body_rows.proofs.body.field.Reads as field-reads
+use Rattle.body_rows.proofs.body.shape.Reads as shape-reads
 use Rattle.line_writer.proofs.lines.close.Reads as close-reads
 use Rattle.line_writer.proofs.pieces.open_inner.Reads as open-inner-reads
 use Rattle.line_writer.proofs.lines.+form.{statement}

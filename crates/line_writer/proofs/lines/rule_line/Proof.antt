@@ -5,7 +5,7 @@ use mathlib.Core.List.{[], _∷_, _++_}
 use lib.Dec.{T}
 use Rattle.tables.specs.Bodies.{ending}
 use Rattle.tables.proofs.Forms.{whole-body}
-use Rattle.book.specs.Marks.{bodyOf}
+use Rattle.body_rows.specs.Marks.{bodyOf}
 use Rattle.text.specs.Names.{nameOf}
 use Rattle.text.specs.Tokens.{spellToken, item}
 use Rattle.line_writer.specs.Lines.{spellForm}

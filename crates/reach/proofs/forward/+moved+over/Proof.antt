@@ -18,7 +18,7 @@ use Rattle.meaning.specs.Forms.{collection, bind}
 use Rattle.meaning.specs.Reach.{Change, cellMoves}
 use Rattle.tables.specs.Codes.{Operator, operatorOf}
 use Rattle.tables.specs.Bodies.{reads, ending}
-use Rattle.book.specs.Marks.{firstSort, secondSort}
+use Rattle.body_rows.specs.Marks.{firstSort, secondSort}
 use Rattle.book.proofs.Types.{code-here, sums-here}
 use Rattle.directions.proofs.Passes.{pass-small}
 use Rattle.event_marks.proofs.Nodes.{passTo}
@@ -39,8 +39,8 @@ use Rattle.reach.proofs.forward.+moved+over.Lts-moved as moved-lts
 use Rattle.reach.proofs.forward.over.Reads as over
 use Rattle.reach.proofs.forward.over.Kinds as over-kinds
 use Rattle.reach.proofs.forward.+moved+over.Lts-over as over-lts
-use Rattle.book.proofs.body.field.Reads as field-reads
-use Rattle.book.proofs.body.shape.Reads as shape-reads
+use Rattle.body_rows.proofs.body.field.Reads as field-reads
+use Rattle.body_rows.proofs.body.shape.Reads as shape-reads
 use Rattle.directions.proofs.pass.Reads as pass-reads
 use Rattle.ocl.proofs.begin.Reads as begin-reads
 use Rattle.ocl.proofs.next.Reads as next-reads

@@ -7,7 +7,7 @@ use Rattle.meaning.specs.Reach.{quiet}
 use Rattle.rows.specs.Rows.{wordAt}
 use Rattle.tables.specs.Bodies.{ending, asTruth}
 use Rattle.tables.specs.Columns.{ruleRow}
-use Rattle.book.specs.Marks.{bodyOf, Starts}
+use Rattle.body_rows.specs.Marks.{bodyOf, Starts}
 use Rattle.full_search.proofs.Given.{size-few}
 use Rattle.selection.specs.Ready.{RuleReady}
 use Rattle.selection.proofs.Given.{sound, quiet-is, typed-by, rule-ready}

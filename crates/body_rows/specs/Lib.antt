@@ -1,0 +1,3 @@
+-- The rows of a rule's body.
+--   Marks      what is kept of a body's rows
+pub mod Marks

@@ -1,0 +1,3 @@
+-- Operators as the evaluators have them.
+--   Operators   operators by the codes of their rows
+pub mod Operators

@@ -1,0 +1,2 @@
+// Connectives and quantifiers by the codes of their rows.
+pub mod operators;

@@ -1,0 +1,3 @@
+-- Laws of quiet bodies.
+--   Unlinked   when a form is quiet, by its row and its parts
+pub mod Unlinked

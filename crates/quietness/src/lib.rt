@@ -1,0 +1,2 @@
+// Whether a rule's body is quiet.
+pub mod quiet;
