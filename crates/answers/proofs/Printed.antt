@@ -1,0 +1,62 @@
+-- An answer and its pairs: the first line, a line for each pair, and how long they are.
+use Prim.Native.Nat.{ℕ, _+_, _*_, _^_, _≤_, _<_}
+use mathlib.Core.Path.{_≡_, refl, sym, ap, _∙_}
+use mathlib.Core.List.{List, [], _∷_, _++_, flatMap}
+use native.Mathlib.Nat.{add-zero}
+use native.Mathlib.Omega.{arith}
+use lib.ListN.{length, getD, length-append}
+use Rattle.meaning.specs.Reach.{pairKey}
+use Rattle.meaning.specs.Answers as Meaning
+use Rattle.rows.specs.Rows.{wordAt}
+use Rattle.lexical.specs.Decimals.{digitsOf}
+use Rattle.tables.specs.Answers.{answerOf}
+use Rattle.tables.specs.declared.Answer.{Answer}
+use Rattle.tables.specs.declared.Answer.the-variants.{Accepted, Broken, Refused}
+use Rattle.answers.specs.Lines.{lineOf}
+use Rattle.answers.specs.Printed.{acceptedName, brokenName, refusedName, pairName, answerLine, pairLine, pairLines, pairsShown, printed, meant, pairIn, pairsIn, countShown, roomFor}
+use Rattle.answers.proofs.Numbers.{few-digits}
+use Rattle.answers.proofs.Lines.{line-none, line-size, spaced-none, two-size}
+use Rattle.answers.proofs.Rows.{flat-more, flat-short}
+
+-- an answer of the code says what it is the `answerOf` of
+pub meant-back : (a : Meaning.Answer) → meant (answerOf a) ≡ a
+meant-back Meaning.accepted = refl
+meant-back (Meaning.brokenAt rule id) = refl
+meant-back (Meaning.refused number place) = refl
+
+-- ---- the first line
+
+module _ {answer : Answer} where
+  pub accepted-line : answer ≡ Accepted → acceptedName ++ 10 ∷ [] ≡ answerLine (meant answer)
+  unfolding answerLine
+  accepted-line e = line-none acceptedName ∙ ap (λ a. answerLine (meant a)) (sym e)
+
+  pub broken-line : {rule id : ℕ} → answer ≡ Broken rule id → lineOf brokenName (rule ∷ id ∷ []) ≡ answerLine (meant answer)
+  unfolding answerLine
+  broken-line e = ap (λ a. answerLine (meant a)) (sym e)
+
+  pub refused-line : {number place : ℕ} → answer ≡ Refused number place → lineOf refusedName (number ∷ place ∷ []) ≡ answerLine (meant answer)
+  unfolding answerLine
+  refused-line e = ap (λ a. answerLine (meant a)) (sym e)
+
+-- ---- the pairs
+
+module _ (list : List ℕ) where
+  pub no-pairs : pairLines (pairsIn list 0) ≡ []
+  unfolding pairLines flatMap
+  no-pairs = refl
+
+  -- a turn of the loop
+  pub more-pairs : (i : ℕ) {name : List ℕ} {rule id : ℕ} → name ≡ pairName → rule ≡ getD list (i * 2) 0 → id ≡ getD list (i * 2 + 1) 0
+      → pairLines (pairsIn list i) ++ lineOf name (rule ∷ id ∷ []) ≡ pairLines (pairsIn list (i + 1))
+  unfolding pairLines pairLine
+  more-pairs i p q r =
+      let first = q ∙ ap (λ k. getD list k 0) (sym (add-zero (i * 2))) in
+      ap (λ l. pairLines (pairsIn list i) ++ l) (λ j. lineOf (p j) (first j ∷ r j ∷ [])) ∙ flat-more pairLine (pairIn list) i
+
+  -- those that are shown
+  pub shown-lines : (answer : Answer) (count : ℕ) → answerLine (meant answer) ++ pairLines (pairsIn list (countShown answer count)) ≡ printed (meant answer) (pairsIn list count)
+  unfolding printed pairsShown
+  shown-lines Accepted count = refl
+  shown-lines (Broken rule id) count = refl
+  shown-lines (Refused number place) count = refl
