@@ -1,16 +1,19 @@
 -- The line of an event type by its words.
-use Prim.Native.Nat.{ℕ, zero, suc, _+_, _*_, _≤_, _<_}
+use Prim.Native.Nat.{ℕ, zero, suc, _+_, _*_, _^_, _≤_, _<_}
 use mathlib.Core.Path.{_≡_, refl, sym, ap, _∙_}
 use mathlib.Core.List.{List, [], _∷_, _++_, append-assoc, flatMap}
 use native.Mathlib.Nat.{add-zero}
 use native.Mathlib.Omega.{arith}
 use borrow.Author.Tests.{eq-eqb, ne-eqb}
-use lib.ListN.{length, getD}
+use lib.Dec.{lit≤}
+use lib.ListN.{length, getD, length-append}
+use Rattle.rows.specs.Rows.{wordAt}
 use Rattle.lexical.specs.Decimals.{digitsOf}
-use Rattle.text.specs.Names.{nameOf, firstEvent}
+use Rattle.text.specs.Names.{names, nameOf, firstEvent}
 use Rattle.answers.specs.Lines.{spaced, lineOf}
 use Rattle.answers.specs.Events.{eventName, kindLine, eventLine, cellShown, eventLines, eventTypeOf, eventTypeIn, eventTypesIn, roomForEvents}
-use Rattle.answers.proofs.Lines.{spaced-one, line-none, line-number, line-ending}
+use Rattle.answers.proofs.Numbers.{ten-digits, five-digits}
+use Rattle.answers.proofs.Lines.{spaced-one, line-none, line-number, line-ending, line-size, spaced-size}
 use Rattle.answers.proofs.Rows.{flat-more, flat-short}
 
 -- ---- the end of the line
@@ -46,3 +49,61 @@ event-line rule kind x cell h =
     ∙ line-number ((eventName ++ 32 ∷ digitsOf rule) ++ name) x cells
     ∙ ap (λ l. lineOf ((eventName ++ l) ++ name) (x ∷ cells)) (spaced-one rule)
     ∙ by-kind rule kind x cell h
+
+-- ---- the event types of a list
+
+module _ (rule : ℕ) (list : List ℕ) where
+  pub no-events : eventLines rule (eventTypesIn list 0) ≡ []
+  unfolding eventLines flatMap
+  no-events = refl
+
+  -- a turn of the loop
+  pub more-events : (i : ℕ) {kind x cell : ℕ} → kind ≡ getD list (i * 3) 0 → x ≡ getD list (i * 3 + 1) 0 → cell ≡ getD list (i * 3 + 2) 0
+      → eventLines rule (eventTypesIn list i) ++ eventLine rule (eventTypeOf kind x cell) ≡ eventLines rule (eventTypesIn list (i + 1))
+  unfolding eventLines
+  more-events i p q r =
+      let first = p ∙ ap (λ k. getD list k 0) (sym (add-zero (i * 3))) in
+      ap (λ l. eventLines rule (eventTypesIn list i) ++ l) (λ j. eventLine rule (eventTypeOf (first j) (q j) (r j))) ∙ flat-more (eventLine rule) (eventTypeIn list) i
+
+pub kind-known : (list : List ℕ) (i : ℕ) {kind : ℕ} → kind ≡ getD list (i * 3) 0 → wordAt list 3 i 0 < 7 → kind < 7
+kind-known list i e h = omega (arith, ap (λ k. getD list k 0) (add-zero (i * 3)))
+
+-- ---- how long the lines are
+
+-- a set's name is short, and the others name no cell
+name-size : (kind cell : ℕ) → kind < 7 → length (digitsOf cell) ≤ 5 → length (nameOf (firstEvent + kind)) + length (spaced (cellShown kind cell)) ≤ 9
+unfolding names cellShown spaced
+name-size zero cell h d = lit≤ tt
+name-size (suc zero) cell h d = lit≤ tt
+name-size (suc (suc zero)) cell h d = omega (arith, length-append (32 ∷ digitsOf cell) [])
+name-size (suc (suc (suc zero))) cell h d = lit≤ tt
+name-size (suc (suc (suc (suc zero)))) cell h d = lit≤ tt
+name-size (suc (suc (suc (suc (suc zero))))) cell h d = lit≤ tt
+name-size (suc (suc (suc (suc (suc (suc zero)))))) cell h d = lit≤ tt
+name-size (suc (suc (suc (suc (suc (suc (suc kind))))))) cell h d = absurd (omega arith)
+
+event-size : (rule kind x cell : ℕ) → kind < 7 → rule < 2 ^ 32 → x < 2 ^ 16 → cell < 2 ^ 16 → length (eventLine rule (eventTypeOf kind x cell)) ≤ 33
+unfolding kindLine
+event-size rule kind x cell h r n c =
+    let cells : List ℕ = cellShown kind cell in
+    let first : List ℕ = eventName ++ spaced (rule ∷ []) in
+    let name : List ℕ = 32 ∷ nameOf (firstEvent + kind) in
+    omega (
+      arith,
+      ap length (by-kind rule kind x cell h),
+      line-size (first ++ name) (x ∷ cells),
+      spaced-size x cells,
+      length-append first name,
+      length-append eventName (spaced (rule ∷ [])),
+      ap length (spaced-one rule),
+      ten-digits rule r,
+      five-digits x n,
+      name-size kind cell h (five-digits cell c)
+    )
+
+module _ (rule : ℕ) (list : List ℕ) (fits : rule < 2 ^ 32) (words : (k : ℕ) → getD list k 0 < 2 ^ 16) where
+  pub events-size : (count : ℕ) → ((i : ℕ) → i < count → wordAt list 3 i 0 < 7) → length (eventLines rule (eventTypesIn list count)) ≤ roomForEvents count
+  unfolding eventLines
+  events-size count known =
+      flat-short (eventLine rule) (eventTypeIn list) 33 count
+      (λ i h. event-size rule (wordAt list 3 i 0) (wordAt list 3 i 1) (wordAt list 3 i 2) (known i h) fits (words (i * 3 + 1)) (words (i * 3 + 2)))

@@ -11,7 +11,6 @@ use Rattle.lexical.specs.Writing.{written, placeAfter}
 use Rattle.lexical.proofs.Writing.{fits-place, text-is}
 use Rattle.line_writer.specs.Put.{Put}
 use Rattle.answers.specs.Lines.{spaced, lineOf}
-use Rattle.answers.proofs.Numbers.{few-digits}
 
 -- what is put at the front, where it fits
 pub put-front : {d s e : List ℕ} {p : ℕ} → Put d 0 s e p → length s ≤ length d → (e ≡ inFront s d) × (p ≡ length s)
@@ -56,6 +55,6 @@ pub spaced-none : length (spaced []) ≡ 0
 unfolding spaced
 spaced-none = refl
 
--- two numbers of at most k + 1 digits
+-- two numbers of at most k digits
 pub two-size : (k : ℕ) (name : List ℕ) (x y : ℕ) → length (digitsOf x) ≤ k → length (digitsOf y) ≤ k → length (lineOf name (x ∷ y ∷ [])) ≤ length name + (k + k) + 3
 two-size k name x y p q = omega (arith, line-size name (x ∷ y ∷ []), spaced-size x (y ∷ []), spaced-size y [], spaced-none)

@@ -29,6 +29,12 @@ number-high n h k =
     ap (λ l. 32 ∷ l) (ap₂ _++_ (decimal-low (n / 10) (omega arith) ∙ tenth n h) (decimal-low (n % 10) (omega arith) ∙ last n))
 
 -- below a power of ten there are at most so many digits
-pub few-digits : (k n : ℕ) → n / 10 < 10 ^ k → length (digitsOf n) ≤ k + 1
+few-digits : (k n : ℕ) → n / 10 < 10 ^ k → length (digitsOf n) ≤ k + 1
 unfolding digitsOf
 few-digits k n h = omega (arith, length-append (lead (n / 10)) ((48 + n % 10) ∷ []), short-lead k (n / 10) h)
+
+pub ten-digits : (n : ℕ) → n < 2 ^ 32 → length (digitsOf n) ≤ 10
+ten-digits n h = few-digits 9 n (omega arith)
+
+pub five-digits : (n : ℕ) → n < 2 ^ 16 → length (digitsOf n) ≤ 5
+five-digits n h = few-digits 4 n (omega arith)

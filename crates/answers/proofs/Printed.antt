@@ -14,7 +14,7 @@ use Rattle.tables.specs.declared.Answer.{Answer}
 use Rattle.tables.specs.declared.Answer.the-variants.{Accepted, Broken, Refused}
 use Rattle.answers.specs.Lines.{lineOf}
 use Rattle.answers.specs.Printed.{acceptedName, brokenName, refusedName, pairName, answerLine, pairLine, pairLines, pairsShown, printed, meant, pairIn, pairsIn, countShown, roomFor}
-use Rattle.answers.proofs.Numbers.{few-digits}
+use Rattle.answers.proofs.Numbers.{ten-digits, five-digits}
 use Rattle.answers.proofs.Lines.{line-none, line-size, spaced-none, two-size}
 use Rattle.answers.proofs.Rows.{flat-more, flat-short}
 
@@ -31,13 +31,24 @@ module _ {answer : Answer} where
   unfolding answerLine
   accepted-line e = line-none acceptedName ∙ ap (λ a. answerLine (meant a)) (sym e)
 
+  pub accepted-size : answer ≡ Accepted → length (answerLine (meant answer)) ≤ roomFor 0
+  accepted-size e = omega (arith, ap length (accepted-line e))
+
   pub broken-line : {rule id : ℕ} → answer ≡ Broken rule id → lineOf brokenName (rule ∷ id ∷ []) ≡ answerLine (meant answer)
   unfolding answerLine
   broken-line e = ap (λ a. answerLine (meant a)) (sym e)
 
+  pub broken-size : {rule id : ℕ} → answer ≡ Broken rule id → rule < 2 ^ 32 → id < 2 ^ 32 → length (answerLine (meant answer)) ≤ roomFor 0
+  broken-size {rule} {id} e h k =
+      omega (arith, ap length (broken-line e), two-size 10 brokenName rule id (ten-digits rule h) (ten-digits id k))
+
   pub refused-line : {number place : ℕ} → answer ≡ Refused number place → lineOf refusedName (number ∷ place ∷ []) ≡ answerLine (meant answer)
   unfolding answerLine
   refused-line e = ap (λ a. answerLine (meant a)) (sym e)
+
+  pub refused-size : {number place : ℕ} → answer ≡ Refused number place → number < 2 ^ 32 → place < 2 ^ 32 → length (answerLine (meant answer)) ≤ roomFor 0
+  refused-size {number} {place} e h k =
+      omega (arith, ap length (refused-line e), two-size 10 refusedName number place (ten-digits number h) (ten-digits place k))
 
 -- ---- the pairs
 
@@ -60,3 +71,21 @@ module _ (list : List ℕ) where
   shown-lines Accepted count = refl
   shown-lines (Broken rule id) count = refl
   shown-lines (Refused number place) count = refl
+
+  pub few-shown : (answer : Answer) (count : ℕ) → countShown answer count ≤ count
+  few-shown Accepted count = omega arith
+  few-shown (Broken rule id) count = omega arith
+  few-shown (Refused number place) count = omega arith
+
+  -- words of 16 bits
+  module _ (words : (k : ℕ) → getD list k 0 < 2 ^ 16) where
+    pub pairs-size : (count : ℕ) → length (pairLines (pairsIn list count)) ≤ 17 * count
+    unfolding pairLines pairLine
+    pairs-size count =
+        flat-short pairLine (pairIn list) 17 count
+        (λ i h. two-size 5 pairName (wordAt list 2 i 0) (wordAt list 2 i 1) (five-digits (wordAt list 2 i 0) (words (i * 2 + 0))) (five-digits (wordAt list 2 i 1) (words (i * 2 + 1))))
+
+    pub printed-size : (answer : Answer) (count : ℕ) → length (answerLine (meant answer)) ≤ roomFor 0 → length (printed (meant answer) (pairsIn list count)) ≤ roomFor count
+    printed-size answer count h =
+        let shown = countShown answer count in
+        omega (arith, ap length (shown-lines answer count), length-append (answerLine (meant answer)) (pairLines (pairsIn list shown)), pairs-size shown, few-shown answer count)

@@ -12,9 +12,9 @@ ghost use Rattle.answers.specs.Printed.{answerLine, pairLines, printed, 
 pub mod events;
 mod pieces;
 
-// The first line, at the front.
+// The first line, at the front, and how long it is at most.
 fn answer_line(out: &mut [u8], answer: Answer) -> usize
-    ensures { λ r. ⌜ Put (now (out .entry)) 0 (answerLine (meant answer)) (now (out .exit)) r ⌝ }
+    ensures { λ r. ⌜ (Put (now (out .entry)) 0 (answerLine (meant answer)) (now (out .exit)) r) × (length (answerLine (meant answer)) ≤ roomFor 0) ⌝ }
 {
     match answer {
         Answer::Accepted => lexical::write_bytes(out, 0, b"answer accepted\n"),

@@ -1,6 +1,7 @@
 -- `answers::answer_line` meets its contract.
+use native.Mathlib.Omega.{arith}
 use Rattle.line_writer.proofs.Puts.{put-of, put-as}
-use Rattle.answers.proofs.Printed.{accepted-line, broken-line, refused-line}
+use Rattle.answers.proofs.Printed.{accepted-line, accepted-size, broken-line, broken-size, refused-line, refused-size}
 use borrow.Author.Needs.{needs}
 use Rattle.answers.proofs.answer_line.Statement.{statement}
 use Rattle.answers.proofs.answer_line.Tie as tie
@@ -37,23 +38,24 @@ same-length c = search needs
 
 returns : tie.Need-returns
 returns c =
-    put-as (put-of (c .before .before .write-bytes .ensures)) (accepted-line (c .before .before .before .before .before .enum-told .given .1))
+    let told = c .before .before .before .before .before .enum-told .given .1 in
+    (put-as (put-of (c .before .before .write-bytes .ensures)) (accepted-line told), accepted-size told)
 
 same-length-2 : tie.Need-same-length-2
 same-length-2 c = search needs
 
 returns-2 : tie.Need-returns-2
 returns-2 c =
-    let at-answer = c .before .before .before .before .before .before in
-    put-as (c .before .before .line .ensures) (broken-line (at-answer .answer .given .1))
+    let told = c .before .before .before .before .before .before .answer .given .1 in
+    (put-as (c .before .before .line .ensures) (broken-line told), broken-size told (omega arith) (omega arith))
 
 same-length-3 : tie.Need-same-length-3
 same-length-3 c = search needs
 
 returns-3 : tie.Need-returns-3
 returns-3 c =
-    let at-answer = c .before .before .before .before .before .before in
-    put-as (c .before .before .line2 .ensures) (refused-line (at-answer .answer2 .given .1))
+    let told = c .before .before .before .before .before .before .answer2 .given .1 in
+    (put-as (c .before .before .line2 .ensures) (refused-line told), refused-size told (omega arith) (omega arith))
 
 pub answer-line-spec : {M : Type 1} → statement M
 answer-line-spec =
