@@ -5,16 +5,17 @@ use mathlib.Core.List.{List, [], _∷_, _++_, append-assoc, flatMap}
 use native.Mathlib.Nat.{add-zero}
 use native.Mathlib.Omega.{arith}
 use borrow.Author.Tests.{eq-eqb, ne-eqb}
-use lib.Dec.{lit≤}
+use lib.Dec.{lit<, lit≤}
 use lib.ListN.{length, getD, length-append}
-use Rattle.rows.specs.Rows.{wordAt}
+use Rattle.meaning.specs.EventList.{EventType, insertOf, deleteOf, setOf, joinOf, partOf, specialOf, generalOf, eventTypeWords}
+use Rattle.rows.specs.Rows.{wordAt, inFront}
 use Rattle.lexical.specs.Decimals.{digitsOf}
 use Rattle.text.specs.Names.{names, nameOf, firstEvent}
 use Rattle.answers.specs.Lines.{spaced, lineOf}
 use Rattle.answers.specs.Events.{eventName, kindLine, eventLine, cellShown, eventLines, eventTypeOf, eventTypeIn, eventTypesIn, roomForEvents}
 use Rattle.answers.proofs.Numbers.{ten-digits, five-digits}
 use Rattle.answers.proofs.Lines.{spaced-one, line-none, line-number, line-ending, line-size, spaced-size}
-use Rattle.answers.proofs.Rows.{flat-more, flat-short}
+use Rattle.answers.proofs.Rows.{flat-more, flat-short, rows-back, each-row}
 
 -- ---- the end of the line
 
@@ -98,7 +99,7 @@ event-size rule kind x cell h r n c =
       ap length (spaced-one rule),
       ten-digits rule r,
       five-digits x n,
-      name-size kind cell h (five-digits cell c)
+      name-size kind cell h (five-digits cell c),
     )
 
 module _ (rule : ℕ) (list : List ℕ) (fits : rule < 2 ^ 32) (words : (k : ℕ) → getD list k 0 < 2 ^ 16) where
@@ -107,3 +108,45 @@ module _ (rule : ℕ) (list : List ℕ) (fits : rule < 2 ^ 32) (words : (k : ℕ
   events-size count known =
       flat-short (eventLine rule) (eventTypeIn list) 33 count
       (λ i h. event-size rule (wordAt list 3 i 0) (wordAt list 3 i 1) (wordAt list 3 i 2) (known i h) fits (words (i * 3 + 1)) (words (i * 3 + 2)))
+
+-- ---- event types whose words are at the front of a list are its first event types
+
+three : (e : EventType) → length (eventTypeWords e) ≡ 3
+unfolding eventTypeWords
+three (insertOf t) = refl
+three (deleteOf t) = refl
+three (setOf t k) = refl
+three (joinOf r) = refl
+three (partOf r) = refl
+three (specialOf t) = refl
+three (generalOf t) = refl
+
+type-back : (e : EventType) → eventTypeOf (getD (eventTypeWords e) 0 0) (getD (eventTypeWords e) 1 0) (getD (eventTypeWords e) 2 0) ≡ e
+unfolding eventTypeWords eventTypeOf
+type-back (insertOf t) = refl
+type-back (deleteOf t) = refl
+type-back (setOf t k) = refl
+type-back (joinOf r) = refl
+type-back (partOf r) = refl
+type-back (specialOf t) = refl
+type-back (generalOf t) = refl
+
+type-kind : (e : EventType) → getD (eventTypeWords e) 0 0 < 7
+unfolding eventTypeWords
+type-kind (insertOf t) = lit< tt
+type-kind (deleteOf t) = lit< tt
+type-kind (setOf t k) = lit< tt
+type-kind (joinOf r) = lit< tt
+type-kind (partOf r) = lit< tt
+type-kind (specialOf t) = lit< tt
+type-kind (generalOf t) = lit< tt
+
+module _ (es : List EventType) (list before : List ℕ) (e : list ≡ inFront (flatMap eventTypeWords es) before) where
+  pub types-back : eventTypesIn list (length es) ≡ es
+  types-back =
+      rows-back 3 eventTypeWords three list (eventTypeIn list)
+      (λ j e s. (λ k. eventTypeOf (s 0 (lit< tt) k) (s 1 (lit< tt) k) (s 2 (lit< tt) k)) ∙ type-back e)
+      es before e
+
+  pub kinds-known : (i : ℕ) → i < length es → wordAt list 3 i 0 < 7
+  kinds-known = each-row 3 eventTypeWords three list (λ i. wordAt list 3 i 0 < 7) (λ j e s. omega (arith, s 0 (lit< tt), type-kind e)) es before e

@@ -4,10 +4,11 @@ use mathlib.Core.Path.{_≡_, refl, sym, ap, _∙_}
 use mathlib.Core.List.{List, [], _∷_, _++_, flatMap}
 use native.Mathlib.Nat.{add-zero}
 use native.Mathlib.Omega.{arith}
+use lib.Dec.{lit<}
 use lib.ListN.{length, getD, length-append}
-use Rattle.meaning.specs.Reach.{pairKey}
+use Rattle.meaning.specs.Reach.{Pair, pairOf, pairKey}
 use Rattle.meaning.specs.Answers as Meaning
-use Rattle.rows.specs.Rows.{wordAt}
+use Rattle.rows.specs.Rows.{wordAt, inFront}
 use Rattle.lexical.specs.Decimals.{digitsOf}
 use Rattle.tables.specs.Answers.{answerOf}
 use Rattle.tables.specs.declared.Answer.{Answer}
@@ -16,7 +17,7 @@ use Rattle.answers.specs.Lines.{lineOf}
 use Rattle.answers.specs.Printed.{acceptedName, brokenName, refusedName, pairName, answerLine, pairLine, pairLines, pairsShown, printed, meant, pairIn, pairsIn, countShown, roomFor}
 use Rattle.answers.proofs.Numbers.{ten-digits, five-digits}
 use Rattle.answers.proofs.Lines.{line-none, line-size, spaced-none, two-size}
-use Rattle.answers.proofs.Rows.{flat-more, flat-short}
+use Rattle.answers.proofs.Rows.{flat-more, flat-short, rows-back}
 
 -- an answer of the code says what it is the `answerOf` of
 pub meant-back : (a : Meaning.Answer) → meant (answerOf a) ≡ a
@@ -89,3 +90,8 @@ module _ (list : List ℕ) where
     printed-size answer count h =
         let shown = countShown answer count in
         omega (arith, ap length (shown-lines answer count), length-append (answerLine (meant answer)) (pairLines (pairsIn list shown)), pairs-size shown, few-shown answer count)
+
+-- pairs whose words are at the front of a list are its first pairs
+pub pairs-back : (ps : List Pair) (list before : List ℕ) → list ≡ inFront (flatMap pairKey ps) before → pairsIn list (length ps) ≡ ps
+pairs-back ps list before e =
+    rows-back 2 pairKey (λ p. refl) list (pairIn list) (λ j p s k. pairOf (s 0 (lit< tt) k) (s 1 (lit< tt) k)) ps before e
