@@ -5,9 +5,11 @@
 --   KindNames the names of the kinds of events
 --   Printed   an answer and its pairs
 --   EventLines  the line of an event type by its words
+--   Checking  a batch check and a read, by what they leave
 pub mod Numbers
 pub mod Lines
 pub mod Rows
 pub mod KindNames
 pub mod Printed
 pub mod EventLines
+pub mod Checking

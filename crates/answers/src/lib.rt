@@ -1,63 +1,105 @@
-// What the program prints: an answer and its pairs, and the event list of a rule.
-use crate::pieces::line;
-use tables::Answer;
-ghost use mathlib.Core.Path.{_≡_};
-ghost use mathlib.Core.List.{[], _∷_};
-ghost use Prim.Native.Nat.{_+_, _*_, _≤_};
-ghost use lib.ListN.{length};
-ghost use Rattle.rows.specs.Rows.{inFront};
-ghost use Rattle.line_writer.specs.Put.{Put};
-ghost use Rattle.answers.specs.Printed.{answerLine, pairLines, printed, meant, pairsIn, countShown, roomFor};
-
-pub mod events;
+// What the program prints of a text; of an answer and its pairs; and of a rule's event list.
+mod outcome;
 mod pieces;
+pub mod rule_events;
 
-// The first line, at the front, and how long it is at most.
-fn answer_line(out: &mut [u8], answer: Answer) -> usize
-    ensures { λ r. ⌜ (Put (now (out .entry)) 0 (answerLine (meant answer)) (now (out .exit)) r) × (length (answerLine (meant answer)) ≤ roomFor 0) ⌝ }
+pub use outcome::print;
+use reader::Outcome;
+use tables::Answer;
+use tables::Counts;
+ghost use mathlib.Core.Path.{_≡_};
+ghost use mathlib.Core.Bool.{false};
+ghost use mathlib.Core.List.{[]};
+ghost use Prim.Native.Nat.{_≤_};
+ghost use lib.ListN.{length};
+ghost use Rattle.meaning.specs.Answers.{refused};
+ghost use Rattle.rows.specs.Rows.{inFront};
+ghost use Rattle.tables.specs.Layouts.{sheetOf};
+ghost use Rattle.batch.specs.Checked.{lentOutcome};
+ghost use Rattle.answers.specs.Printed.{printed, roomFor};
+ghost use Rattle.answers.specs.Checks.{outcomePrinted, listWords, checkPrints};
+
+// A refusal of the text.
+fn refuse(number: u32, line: u32, out: &mut [u8]) -> usize
+    requires { ⌜ roomFor 0 ≤ length (now out) ⌝ }
+    ensures { λ r. ⌜ (now (out .exit) ≡ inFront (printed (refused number line) []) (now (out .entry))) × (r ≡ length (printed (refused number line) [])) ⌝ }
 {
-    match answer {
-        Answer::Accepted => lexical::write_bytes(out, 0, b"answer accepted\n"),
-        Answer::Broken(rule, id) => line(out, 0, b"answer broken", rule, id),
-        Answer::Refused(number, place) => line(out, 0, b"answer refused", number, place),
-    }
+    let none = [0u16; 1];
+    print(Answer::Refused(number, line), 0, &none, out)
 }
 
-// How many pairs are shown: none after a refusal.
-fn shown(answer: Answer, pairs: u32) -> u32
-    ensures { λ r. ⌜ r ≡ countShown answer pairs ⌝ }
-{
-    match answer {
-        Answer::Accepted => pairs,
-        Answer::Broken(_, _) => pairs,
-        Answer::Refused(_, _) => 0,
-    }
-}
-
-// A line for each of the first pairs of the list.
-fn pair_lines(out: &mut [u8], at: usize, pairs: u32, list: &[u16]) -> usize
-    requires { ⌜ (2 * pairs ≤ length (now list)) × (at ≤ length (now out) + 1) ⌝ }
-    ensures { λ r. ⌜ Put (now (out .entry)) at (pairLines (pairsIn (now (list .entry)) pairs)) (now (out .exit)) r ⌝ }
-{
-    let mut next = at;
-    let mut i: u32 = 0;
-    while i < pairs {
-        let place = (i as usize) * 2;
-        let rule = rows::wide(list[place]);
-        let id = rows::wide(list[place + 1]);
-        next = line(&mut *out, next, b"pair", rule, id);
-        i += 1;
-    }
-    next
-}
-
-// Prints an answer and the first pairs of its list at the front of the lent bytes, and answers how many bytes that is; those past them keep what they held.
-pub fn print(answer: Answer, pairs: u32, list: &[u16], out: &mut [u8]) -> usize
-    requires { ⌜ (2 * pairs ≤ length (now list)) × (roomFor pairs ≤ length (now out)) ⌝ }
-    ensures { λ r. ⌜ (let bytes = printed (meant answer) (pairsIn (now (list .entry)) pairs) in
+// The batch check of tables that were read.
+fn check_tables(
+    n: Counts,
+    types: &[u32],
+    relationships: &[u32],
+    rules: &[u32],
+    bodies: &[u32],
+    objects: &mut [u32],
+    links: &mut [u32],
+    events: &[u32],
+    out: &mut [u8],
+) -> usize
+    requires { ⌜ (length (now objects) ≤ 1280) × (length (now links) ≤ 1536) × (roomFor 1024 ≤ length (now out)) ⌝ }
+    ensures { λ r. ⌜ (let s = sheetOf (now (types .entry)) (now (relationships .entry)) (now (rules .entry)) (now (bodies .entry)) (now (objects .entry)) (now (links .entry)) (now (events .entry)) in
+        let bytes = outcomePrinted (lentOutcome n s false listWords) in
         (now (out .exit) ≡ inFront bytes (now (out .entry))) × (r ≡ length bytes)) ⌝ }
 {
-    let at = answer_line(&mut *out, answer);
-    let count = shown(answer, pairs);
-    pair_lines(out, at, count, list)
+    let mut scratch_objects = [0u32; 1280];
+    let mut scratch_links = [0u32; 1536];
+    let mut list = [0u16; 2048];
+    let checked = batch::check(
+        n,
+        types,
+        relationships,
+        rules,
+        bodies,
+        objects,
+        links,
+        events,
+        &mut scratch_objects,
+        &mut scratch_links,
+        &mut list,
+    );
+    let answer = checked.answer;
+    print(answer, checked.pairs, &list, out)
+}
+
+// Reads a text, checks its batch, and prints what the check says at the front of the lent bytes; answers how many bytes that is.
+pub fn check(text: &[u8], out: &mut [u8; 32768]) -> usize
+    ensures { λ r. ⌜ (now (out .exit) ≡ inFront (checkPrints (now (text .entry))) (now (out .entry))) × (r ≡ length (checkPrints (now (text .entry)))) ⌝ }
+{
+    if 8192 < text.len() {
+        return refuse(2, 0, out);
+    }
+    let mut types = [0u32; 64];
+    let mut relationships = [0u32; 64];
+    let mut rules = [0u32; 16];
+    let mut bodies = [0u32; 2048];
+    let mut objects = [0u32; 1280];
+    let mut links = [0u32; 1536];
+    let mut events = [0u32; 256];
+    match reader::read(
+        text,
+        &mut types,
+        &mut relationships,
+        &mut rules,
+        &mut bodies,
+        &mut objects,
+        &mut links,
+        &mut events,
+    ) {
+        Outcome::Refused(number, line) => refuse(number, line, out),
+        Outcome::Done(n) => check_tables(
+            n,
+            &types,
+            &relationships,
+            &rules,
+            &bodies,
+            &mut objects,
+            &mut links,
+            &events,
+            out,
+        ),
+    }
 }

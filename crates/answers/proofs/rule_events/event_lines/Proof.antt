@@ -1,4 +1,4 @@
--- `answers::events::event_lines` meets its contract. The invariant: the lines of the first i event types are put.
+-- `answers::rule_events::event_lines` meets its contract. The invariant: the lines of the first i event types are put.
 use Prim.Native.Nat.{_-_, _≤_}
 use mathlib.Core.Path.{_≡_, sym, ap}
 use native.Mathlib.Omega.{arith}
@@ -7,8 +7,8 @@ use Rattle.line_writer.specs.Put.{Put}
 use Rattle.line_writer.proofs.Puts.{put-nothing, put-then, put-as}
 use Rattle.answers.specs.Events.{eventLines, eventTypesIn}
 use Rattle.answers.proofs.EventLines.{no-events, more-events, kind-known}
-use Rattle.answers.proofs.events.event_lines.Statement.{statement}
-use Rattle.answers.proofs.events.event_lines.Tie as tie
+use Rattle.answers.proofs.rule_events.event_lines.Statement.{statement}
+use Rattle.answers.proofs.rule_events.event_lines.Tie as tie
 
 abbrev Inv-loop : tie.InvT-loop
 Inv-loop out₀ rule count list next₀ i₀ out next i = (i ≤ count) × Put out₀ 0 (eventLines rule (eventTypesIn list i)) out next

@@ -1,9 +1,9 @@
--- `answers::events::event_line` meets its contract.
+-- `answers::rule_events::event_line` meets its contract.
 use Rattle.line_writer.proofs.Puts.{put-of, put-then, put-as}
 use Rattle.answers.proofs.EventLines.{event-line}
 use borrow.Author.Needs.{needs}
-use Rattle.answers.proofs.events.event_line.Statement.{statement}
-use Rattle.answers.proofs.events.event_line.Tie as tie
+use Rattle.answers.proofs.rule_events.event_line.Statement.{statement}
+use Rattle.answers.proofs.rule_events.event_line.Tie as tie
 
 slice-aggregate-write-bytes : tie.Need-slice-aggregate-write-bytes
 slice-aggregate-write-bytes c = search needs

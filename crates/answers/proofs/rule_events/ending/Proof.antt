@@ -1,9 +1,9 @@
--- `answers::events::ending` meets its contract.
+-- `answers::rule_events::ending` meets its contract.
 use Rattle.line_writer.proofs.Puts.{put-of, put-then, put-as}
 use Rattle.answers.proofs.EventLines.{cell-line, no-cell-line}
 use borrow.Author.Needs.{needs}
-use Rattle.answers.proofs.events.ending.Statement.{statement}
-use Rattle.answers.proofs.events.ending.Tie as tie
+use Rattle.answers.proofs.rule_events.ending.Statement.{statement}
+use Rattle.answers.proofs.rule_events.ending.Tie as tie
 
 number-requires : tie.Need-number-requires
 number-requires c κs = search needs

@@ -1,10 +1,10 @@
--- `answers::events::print` meets its contract.
+-- `answers::rule_events::print` meets its contract.
 use native.Mathlib.Omega.{arith}
 use borrow.Author.Needs.{needs}
 use Rattle.answers.proofs.Lines.{put-front}
 use Rattle.answers.proofs.EventLines.{events-size}
-use Rattle.answers.proofs.events.print.Statement.{statement}
-use Rattle.answers.proofs.events.print.Tie as tie
+use Rattle.answers.proofs.rule_events.print.Statement.{statement}
+use Rattle.answers.proofs.rule_events.print.Tie as tie
 
 event-lines-requires : tie.Need-event-lines-requires
 event-lines-requires c κs = search needs

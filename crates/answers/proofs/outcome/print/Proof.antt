@@ -1,4 +1,4 @@
--- `answers::print` meets its contract.
+-- `answers::outcome::print` meets its contract.
 use native.Mathlib.Omega.{arith}
 use mathlib.Core.Path.{ap, _∙_}
 use mathlib.Core.List.{_++_}
@@ -7,8 +7,8 @@ use Rattle.line_writer.proofs.Puts.{put-then, put-as, put-within}
 use Rattle.answers.specs.Printed.{answerLine, pairLines, meant, pairsIn}
 use Rattle.answers.proofs.Lines.{put-front}
 use Rattle.answers.proofs.Printed.{shown-lines, few-shown, printed-size}
-use Rattle.answers.proofs.print.Statement.{statement}
-use Rattle.answers.proofs.print.Tie as tie
+use Rattle.answers.proofs.outcome.print.Statement.{statement}
+use Rattle.answers.proofs.outcome.print.Tie as tie
 
 answer-line-requires : tie.Need-answer-line-requires
 answer-line-requires c κs = search needs
