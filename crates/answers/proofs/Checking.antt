@@ -1,14 +1,13 @@
 -- What is printed of a batch check, and of a read, by what they leave.
-use Prim.Native.Nat.{ℕ, _+_, _*_, _≤_, _<_}
-use mathlib.Core.Path.{_≡_, refl, sym, ap, ap₂, _∙_}
-use mathlib.Core.Bool.{Bool, true, false, cond}
-use mathlib.Core.List.{List, [], _∷_, _++_, flatMap}
+use Prim.Native.Nat.{ℕ, _*_, _≤_, _<_}
+use mathlib.Core.Path.{_≡_, sym, ap, ap₂, _∙_}
+use mathlib.Core.Bool.{Bool, false}
+use mathlib.Core.List.{List, []}
 use native.Mathlib.Omega.{arith}
 use borrow.Author.Tests.{lt-ltb, le-ltb}
 use lib.ListN.{length, drop, replicate, length-append}
 use Rattle.meaning.specs.Answers as Meaning
 use Rattle.meaning.specs.Answers.{Outcome}
-use Rattle.rows.specs.Rows.{inFront}
 use Rattle.tables.specs.Layouts.{Sheet}
 use Rattle.tables.specs.declared.Counts.{Counts}
 use Rattle.text.specs.Texts.{Reading}

@@ -1,13 +1,12 @@
 -- Lines by their pieces, and how long they are.
-use Prim.Native.Nat.{ℕ, _+_, _^_, _≤_, _<_}
+use Prim.Native.Nat.{ℕ, _+_, _≤_}
 use mathlib.Core.Path.{_≡_, refl, sym, ap, _∙_}
 use mathlib.Core.List.{List, [], _∷_, _++_, append-assoc, append-nil}
 use native.Mathlib.Nat.{zero-add}
 use native.Mathlib.Omega.{arith}
-use lib.ListN.{length, take, drop, length-append}
+use lib.ListN.{length, drop, length-append}
 use Rattle.rows.specs.Rows.{inFront}
 use Rattle.lexical.specs.Decimals.{digitsOf}
-use Rattle.lexical.specs.Writing.{written, placeAfter}
 use Rattle.lexical.proofs.Writing.{fits-place, text-is}
 use Rattle.line_writer.specs.Put.{Put}
 use Rattle.answers.specs.Lines.{spaced, lineOf}

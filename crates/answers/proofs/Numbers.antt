@@ -1,11 +1,11 @@
 -- The digits of a number after a space, as they are put, and how many there are.
-use Prim.Native.Nat.{ℕ, zero, suc, _+_, _/_, _%_, _^_, _≤_, _<_}
-use mathlib.Core.Path.{_≡_, refl, sym, ap, ap₂, _∙_}
-use mathlib.Core.List.{List, [], _∷_, _++_}
+use Prim.Native.Nat.{ℕ, _+_, _/_, _%_, _^_, _≤_, _<_}
+use mathlib.Core.Path.{_≡_, sym, ap, ap₂, _∙_}
+use mathlib.Core.List.{[], _∷_, _++_}
 use native.Mathlib.Omega.{arith}
 use lib.ListN.{length, length-append}
 use Rattle.rows.specs.Rows.{signed}
-use Rattle.lexical.specs.Decimals.{leading, digitsOf, decimalOf}
+use Rattle.lexical.specs.Decimals.{digitsOf, decimalOf}
 use Rattle.lexical.proofs.Spelling.{lead, lead-zero, lead-step, short-lead, decimal-low}
 
 pub number-low : (n : ℕ) → n < 2 ^ 31 → (32 ∷ []) ++ decimalOf (signed n) ≡ 32 ∷ digitsOf n

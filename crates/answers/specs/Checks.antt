@@ -4,7 +4,6 @@ use mathlib.Core.Bool.{false, cond}
 use mathlib.Core.List.{List, []}
 use lib.Dec.{ltb}
 use lib.ListN.{length, replicate}
-use Rattle.meaning.specs.Answers as Meaning
 use Rattle.meaning.specs.Answers.{Outcome, refused}
 use Rattle.tables.specs.Layouts.{Sheet, sheetOf}
 use Rattle.text.specs.Texts.{Reading}
@@ -18,7 +17,7 @@ use Rattle.answers.specs.Printed.{printed}
 abbrev pub maxBytes : ℕ
 maxBytes = 8192
 
--- "and lends tables for 128 objects, 512 links, 8 rules and 64 events", and for every type and relationship that there can be; nothing stands in them yet
+-- "and lends tables for 128 objects, 512 links, 8 rules and 64 events", and for every type and relationship that there can be, each rows times the words of a row; nothing stands in them yet
 unfoldable pub lentSheet : Sheet
 lentSheet =
     sheetOf (replicate (32 * 2) 0) (replicate (32 * 2) 0) (replicate (8 * 2) 0) (replicate (8 * 64 * 4) 0) (replicate (128 * 10) 0) (replicate (512 * 3) 0) (replicate (64 * 4) 0)

@@ -1,6 +1,5 @@
 -- `answers::check` meets its contract.
-use native.Mathlib.Omega.{arith}
-use mathlib.Core.Path.{_≡_, sym, ap, _∙_}
+use mathlib.Core.Path.{sym, ap, _∙_}
 use lib.ListN.{length}
 use Rattle.rows.specs.Rows.{inFront}
 use Rattle.answers.specs.Checks.{lentSheet}
