@@ -1,0 +1,105 @@
+// What the program prints of a text; of an answer and its pairs; and of a rule's event list.
+mod outcome;
+mod pieces;
+pub mod rule_events;
+
+pub use outcome::print;
+use reader::Outcome;
+use tables::Answer;
+use tables::Counts;
+ghost use mathlib.Core.Path.{_≡_};
+ghost use mathlib.Core.Bool.{false};
+ghost use mathlib.Core.List.{[]};
+ghost use Prim.Native.Nat.{_≤_};
+ghost use lib.ListN.{length};
+ghost use Rattle.meaning.specs.Answers.{refused};
+ghost use Rattle.rows.specs.Rows.{inFront};
+ghost use Rattle.tables.specs.Layouts.{sheetOf};
+ghost use Rattle.batch.specs.Checked.{lentOutcome};
+ghost use Rattle.answers.specs.Printed.{printed, roomFor};
+ghost use Rattle.answers.specs.Checks.{outcomePrinted, listWords, checkPrints};
+
+// A refusal of the text.
+fn refuse(number: u32, line: u32, out: &mut [u8]) -> usize
+    requires { ⌜ roomFor 0 ≤ length (now out) ⌝ }
+    ensures { λ r. ⌜ (now (out .exit) ≡ inFront (printed (refused number line) []) (now (out .entry))) × (r ≡ length (printed (refused number line) [])) ⌝ }
+{
+    let none = [0u16; 1];
+    print(Answer::Refused(number, line), 0, &none, out)
+}
+
+// The batch check of tables that were read.
+fn check_tables(
+    n: Counts,
+    types: &[u32],
+    relationships: &[u32],
+    rules: &[u32],
+    bodies: &[u32],
+    objects: &mut [u32],
+    links: &mut [u32],
+    events: &[u32],
+    out: &mut [u8],
+) -> usize
+    requires { ⌜ (length (now objects) ≤ 1280) × (length (now links) ≤ 1536) × (roomFor 1024 ≤ length (now out)) ⌝ }
+    ensures { λ r. ⌜ (let s = sheetOf (now (types .entry)) (now (relationships .entry)) (now (rules .entry)) (now (bodies .entry)) (now (objects .entry)) (now (links .entry)) (now (events .entry)) in
+        let bytes = outcomePrinted (lentOutcome n s false listWords) in
+        (now (out .exit) ≡ inFront bytes (now (out .entry))) × (r ≡ length bytes)) ⌝ }
+{
+    let mut scratch_objects = [0u32; 1280];
+    let mut scratch_links = [0u32; 1536];
+    let mut list = [0u16; 2048];
+    let checked = batch::check(
+        n,
+        types,
+        relationships,
+        rules,
+        bodies,
+        objects,
+        links,
+        events,
+        &mut scratch_objects,
+        &mut scratch_links,
+        &mut list,
+    );
+    let answer = checked.answer;
+    print(answer, checked.pairs, &list, out)
+}
+
+// Reads a text, checks its batch, and prints what the check says at the front of the lent bytes; answers how many bytes that is.
+pub fn check(text: &[u8], out: &mut [u8; 32768]) -> usize
+    ensures { λ r. ⌜ (now (out .exit) ≡ inFront (checkPrints (now (text .entry))) (now (out .entry))) × (r ≡ length (checkPrints (now (text .entry)))) ⌝ }
+{
+    if 8192 < text.len() {
+        return refuse(2, 0, out);
+    }
+    let mut types = [0u32; 64];
+    let mut relationships = [0u32; 64];
+    let mut rules = [0u32; 16];
+    let mut bodies = [0u32; 2048];
+    let mut objects = [0u32; 1280];
+    let mut links = [0u32; 1536];
+    let mut events = [0u32; 256];
+    match reader::read(
+        text,
+        &mut types,
+        &mut relationships,
+        &mut rules,
+        &mut bodies,
+        &mut objects,
+        &mut links,
+        &mut events,
+    ) {
+        Outcome::Refused(number, line) => refuse(number, line, out),
+        Outcome::Done(n) => check_tables(
+            n,
+            &types,
+            &relationships,
+            &rules,
+            &bodies,
+            &mut objects,
+            &mut links,
+            &events,
+            out,
+        ),
+    }
+}
