@@ -117,8 +117,8 @@ fn settle(
     let answer = judged.answer;
     match answer {
         Answer::Accepted => {
-            bring_back(objects, scratch_objects, 10, after.objects);
-            bring_back(links, scratch_links, 3, after.links);
+            bring_back(objects, scratch_objects, tables::OBJECT_WIDTH, after.objects);
+            bring_back(links, scratch_links, tables::LINK_WIDTH, after.links);
             Checked {
                 answer: Answer::Accepted,
                 pairs: judged.pairs,

@@ -25,11 +25,11 @@ fn faulty(
         (schemaOf «type_count» (now (types .entry)) «relationship_count» (now (relationships .entry)))
         rule p (ruleRow (now (rules .entry)) (now (bodies .entry)) rule)) ⌝ }
 {
-    let context = rows::word(rules, 2, rule, 0);
+    let context = rows::word(rules, tables::RULE_WIDTH, rule, 0);
     if type_count <= context {
         return true;
     }
-    let n = rows::word(rules, 2, rule, 1);
+    let n = rows::word(rules, tables::RULE_WIDTH, rule, 1);
     if 64 < n {
         return true;
     }

@@ -160,10 +160,10 @@ pub fn row_effect(
         (held .objects) (now (objects .entry)) (held .links) (now (links .entry))
         (r .objects) (now (objects .exit)) (r .links) (now (links .exit))) ⌝ }
 {
-    let kind = rows::word(events, 4, row, 0);
-    let x = rows::word(events, 4, row, 1);
-    let y = rows::word(events, 4, row, 2);
-    let z = rows::word(events, 4, row, 3);
+    let kind = rows::word(events, tables::EVENT_WIDTH, row, 0);
+    let x = rows::word(events, tables::EVENT_WIDTH, row, 1);
+    let y = rows::word(events, tables::EVENT_WIDTH, row, 2);
+    let z = rows::word(events, tables::EVENT_WIDTH, row, 3);
     effect(
         type_count,
         types,

@@ -33,8 +33,8 @@ pub fn rule_marks(
         (schemaOf «type_count» (now (types .entry)) «relationship_count» (now (relationships .entry)))
         (ruleRow (now (rules .entry)) (now (bodies .entry)) rule))) ⌝ }
 {
-    let context = rows::word(rules, 2, rule, 0);
-    let end = rows::word(rules, 2, rule, 1);
+    let context = rows::word(rules, tables::RULE_WIDTH, rule, 0);
+    let end = rows::word(rules, tables::RULE_WIDTH, rule, 1);
     let spans = scan(bodies, rule, end);
     let starts = spans.starts;
     let mut env = [0u32; 64];

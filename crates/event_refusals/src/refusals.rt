@@ -647,10 +647,10 @@ pub fn refusal(
         (registerOf «object_count» (now (objects .entry)) «link_count» (now (links .entry)))
         (eventRow (now (events .entry)) row))) ⌝ }
 {
-    let kind = rows::word(events, 4, row, 0);
-    let x = rows::word(events, 4, row, 1);
-    let y = rows::word(events, 4, row, 2);
-    let z = rows::word(events, 4, row, 3);
+    let kind = rows::word(events, tables::EVENT_WIDTH, row, 0);
+    let x = rows::word(events, tables::EVENT_WIDTH, row, 1);
+    let y = rows::word(events, tables::EVENT_WIDTH, row, 2);
+    let z = rows::word(events, tables::EVENT_WIDTH, row, 3);
     of_event(
         type_count,
         types,

@@ -34,14 +34,14 @@ fn met_type(count: u32, objects: &[u32], events: &[u32], row: u32) -> u32
     ensures { λ r. ⌜ ((eventRow (now (events .entry)) row ≡ noEvent → ⊥) → (ls : List Link) →
         r ≡ metType (objectsWith count (now (objects .entry)) ls) (eventRow (now (events .entry)) row)) ⌝ }
 {
-    let kind = rows::word(events, 4, row, 0);
+    let kind = rows::word(events, tables::EVENT_WIDTH, row, 0);
     if kind == 3 {
         return NO_TYPE;
     }
     if kind == 4 {
         return NO_TYPE;
     }
-    type_in(count, objects, rows::word(events, 4, row, 1))
+    type_in(count, objects, rows::word(events, tables::EVENT_WIDTH, row, 1))
 }
 
 // The events on tables that fit, up to the first that is refused.

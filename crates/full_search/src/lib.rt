@@ -66,8 +66,8 @@ pub fn search(
     let mut answer = Answer::Accepted;
     let mut rule: u32 = 0;
     'search: while rule < n.rules {
-        let context = rows::word(rules, 2, rule, 0);
-        let size = rows::word(rules, 2, rule, 1);
+        let context = rows::word(rules, tables::RULE_WIDTH, rule, 0);
+        let size = rows::word(rules, tables::RULE_WIDTH, rule, 1);
         let spans = body_rows::body::scan(bodies, rule, size);
         let starts = spans.starts;
         let mut row: u32 = 0;
@@ -115,8 +115,8 @@ pub fn breaks_at(
 {
     match register::object_row(n.objects, objects, id) {
         Found::At(row) => {
-            let context = rows::word(rules, 2, rule, 0);
-            let size = rows::word(rules, 2, rule, 1);
+            let context = rows::word(rules, tables::RULE_WIDTH, rule, 0);
+            let size = rows::word(rules, tables::RULE_WIDTH, rule, 1);
             let spans = body_rows::body::scan(bodies, rule, size);
             let starts = spans.starts;
             breaks(

@@ -95,9 +95,9 @@ fn put_candidates(
     if n.objects == 0 {
         return false;
     }
-    let context = rows::word(rules, 2, rule, 0);
+    let context = rows::word(rules, tables::RULE_WIDTH, rule, 0);
     put_brought(n, types, objects, links, events, trace, context, sets);
-    let body = Place(rule, rows::word(rules, 2, rule, 1), 1);
+    let body = Place(rule, rows::word(rules, tables::RULE_WIDTH, rule, 1), 1);
     back(
         n,
         types,

@@ -33,8 +33,8 @@ pub fn type_line(out: &mut [u8], at: usize, types: &[u32], row: u32) -> usize
 {
     let a = open(&mut *out, at, 0);
     let b = number(&mut *out, a, row);
-    let c = parent(&mut *out, b, rows::word(types, 2, row, 0));
-    let d = number(&mut *out, c, rows::word(types, 2, row, 1));
+    let c = parent(&mut *out, b, rows::word(types, tables::TYPE_WIDTH, row, 0));
+    let d = number(&mut *out, c, rows::word(types, tables::TYPE_WIDTH, row, 1));
     end_line(out, d)
 }
 
@@ -42,8 +42,8 @@ pub fn type_line(out: &mut [u8], at: usize, types: &[u32], row: u32) -> usize
 pub fn relationship_line(out: &mut [u8], at: usize, relationships: &[u32], row: u32) -> usize
     ensures { λ r. ⌜ Put (now (out .entry)) at (relationshipLine (now (relationships .entry)) row) (now (out .exit)) r ⌝ }
 {
-    let source = rows::word(relationships, 2, row, 0);
-    let target = rows::word(relationships, 2, row, 1);
+    let source = rows::word(relationships, tables::RELATIONSHIP_WIDTH, row, 0);
+    let target = rows::word(relationships, tables::RELATIONSHIP_WIDTH, row, 1);
     let items = [row, source, target];
     row_line(out, at, 1, &items, 0, 3)
 }
@@ -53,8 +53,8 @@ pub fn object_line(out: &mut [u8], at: usize, types: &[u32], objects: &[u32], ro
     requires { ⌜ (cellsFor (now types) (now objects) row ≤ cellCount) × (row * 10 + 10 ≤ length (now objects)) ⌝ }
     ensures { λ r. ⌜ Put (now (out .entry)) at (objectLine (now (types .entry)) (now (objects .entry)) row) (now (out .exit)) r ⌝ }
 {
-    let t = rows::word(objects, 10, row, 1);
-    let cells = rows::word(types, 2, t, 1) as usize;
+    let t = rows::word(objects, tables::OBJECT_WIDTH, row, 1);
+    let cells = rows::word(types, tables::TYPE_WIDTH, t, 1) as usize;
     let from = (row as usize) * 10;
     row_line(out, at, 3, objects, from, 2 + cells)
 }
@@ -73,7 +73,7 @@ pub fn event_line(out: &mut [u8], at: usize, events: &[u32], row: u32) -> usize
     requires { ⌜ (wordAt (now events) 4 row 0 < 7) × (row * 4 + 4 ≤ length (now events)) ⌝ }
     ensures { λ r. ⌜ Put (now (out .entry)) at (eventLine (now (events .entry)) row) (now (out .exit)) r ⌝ }
 {
-    let kind = rows::word(events, 4, row, 0);
+    let kind = rows::word(events, tables::EVENT_WIDTH, row, 0);
     let k = kind as usize;
     let fields = EVENT_FIELDS[k];
     let from = (row as usize) * 4 + 1;
@@ -123,12 +123,12 @@ pub fn rule_line(out: &mut [u8], at: usize, rules: &[u32], bodies: &[u32], row: 
     requires { ⌜ T (wholeBody (bodyOf (now bodies) row) (wordAt (now rules) 2 row 1)) ⌝ }
     ensures { λ r. ⌜ Put (now (out .entry)) at (ruleLine (now (rules .entry)) (now (bodies .entry)) row) (now (out .exit)) r ⌝ }
 {
-    let size = rows::word(rules, 2, row, 1);
+    let size = rows::word(rules, tables::RULE_WIDTH, row, 1);
     let spans = body_rows::body::scan(bodies, row, size);
     let starts = spans.starts;
     let a = open(&mut *out, at, 2);
     let b = number(&mut *out, a, row);
-    let c = number(&mut *out, b, rows::word(rules, 2, row, 0));
+    let c = number(&mut *out, b, rows::word(rules, tables::RULE_WIDTH, row, 0));
     let d = form(&mut *out, c, bodies, &starts, row, size);
     end_line(out, d)
 }

@@ -82,8 +82,8 @@ pub fn search(
     let mut at: u32 = 0;
     'search: while at < count {
         let rule = code(chosen, at) / 1024;
-        let context = rows::word(rules, 2, rule, 0);
-        let size = rows::word(rules, 2, rule, 1);
+        let context = rows::word(rules, tables::RULE_WIDTH, rule, 0);
+        let size = rows::word(rules, tables::RULE_WIDTH, rule, 1);
         let spans = body_rows::body::scan(bodies, rule, size);
         let starts = spans.starts;
         while in_rule(count, chosen, at, rule) {

@@ -120,10 +120,10 @@ pub fn answered(
         (place % 2) (metWord (now (trace .entry)) (place / 2)) (eqb (thereWord (now (trace .entry)) (place / 2)) 1) ⌝ }
 {
     let i = place / 2;
-    let kind = rows::word(events, 4, i, 0);
-    let a = rows::word(events, 4, i, 1);
-    let b = rows::word(events, 4, i, 2);
-    let z = rows::word(events, 4, i, 3);
+    let kind = rows::word(events, tables::EVENT_WIDTH, i, 0);
+    let a = rows::word(events, tables::EVENT_WIDTH, i, 1);
+    let b = rows::word(events, tables::EVENT_WIDTH, i, 2);
+    let z = rows::word(events, tables::EVENT_WIDTH, i, 3);
     if question == CELL_SET {
         return of_kind(kind, SET, 0, b == x);
     }

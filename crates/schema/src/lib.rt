@@ -32,7 +32,7 @@ fn parent_of(type_count: u32, types: &[u32], t: u32) -> Found
     ensures { λ r. ⌜ r ≡ foundOf (parentOf (typesOf «type_count» (now (types .entry))) t) ⌝ }
 {
     if t < type_count {
-        let p = rows::word(types, 2, t, 0);
+        let p = rows::word(types, tables::TYPE_WIDTH, t, 0);
         if p == NO_PARENT {
             Found::Nothing
         } else {
@@ -120,11 +120,11 @@ fn faulty_type(type_count: u32, types: &[u32], t: u32) -> bool
     ensures { λ r. ⌜ ((previous : Option ObjectType) →
         r ≡ faultyType (typesOf «type_count» (now (types .entry))) t previous (typeRow (now (types .entry)) t)) ⌝ }
 {
-    let cells = rows::word(types, 2, t, 1);
+    let cells = rows::word(types, tables::TYPE_WIDTH, t, 1);
     if cells > meaning::CELLS {
         return true;
     }
-    let parent = rows::word(types, 2, t, 0);
+    let parent = rows::word(types, tables::TYPE_WIDTH, t, 0);
     if parent == NO_PARENT {
         return false;
     }
@@ -154,11 +154,11 @@ fn faulty_relationship(type_count: u32, relationships: &[u32], relationship: u32
     ensures { λ r. ⌜ ((types : List ℕ) (previous : Option Relationship) →
         r ≡ faultyRelationship (typesOf «type_count» types) relationship previous (relationshipRow (now (relationships .entry)) relationship)) ⌝ }
 {
-    let source = rows::word(relationships, 2, relationship, 0);
+    let source = rows::word(relationships, tables::RELATIONSHIP_WIDTH, relationship, 0);
     if source >= type_count {
         return true;
     }
-    rows::word(relationships, 2, relationship, 1) >= type_count
+    rows::word(relationships, tables::RELATIONSHIP_WIDTH, relationship, 1) >= type_count
 }
 
 // The first faulty relationship, if there is one.

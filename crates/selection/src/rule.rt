@@ -87,7 +87,7 @@ fn selected_at(
     ensures { λ r. ⌜ ((c : Change) → Traced c n (now (types .entry)) (now (objects .entry)) (now (links .entry)) (now (events .entry)) (now (trace .entry))
         → r ≡ selected c (ruleRow (now (rules .entry)) (now (bodies .entry)) rule) (idIn (now (objects .entry)) row)) ⌝ }
 {
-    let context = rows::word(rules, 2, rule, 0);
+    let context = rows::word(rules, tables::RULE_WIDTH, rule, 0);
     if !schema::under(n.types, types, register::type_of(objects, row), context) {
         return false;
     }
@@ -96,7 +96,7 @@ fn selected_at(
     }
     let mut vs = [0u32; 64];
     vs[0] = row;
-    let body = Place(rule, rows::word(rules, 2, rule, 1), 1);
+    let body = Place(rule, rows::word(rules, tables::RULE_WIDTH, rule, 1), 1);
     moved(
         n,
         types,
@@ -248,7 +248,7 @@ pub fn select_rule(
         → c .schema ≡ schemaOf (n .types) (now (types .entry)) (n .relationships) (now (relationships .entry))
         → take r (now (chosen .exit)) ≡ take at (now (chosen .entry)) ++ ruleCodes c (now (rules .entry)) (now (bodies .entry)) (now (objects .entry)) (n .objects) rule) ⌝ }
 {
-    let size = rows::word(rules, 2, rule, 1);
+    let size = rows::word(rules, tables::RULE_WIDTH, rule, 1);
     let spans = scan(bodies, rule, size);
     let starts = spans.starts;
     let still = quiet(bodies, &starts, rule, size);

@@ -21,10 +21,10 @@ fn is_there(link_count: u32, links: &[u32], events: &[u32], i: u32) -> bool
     ensures { λ r. ⌜ ((os : List Object) (n a b : ℕ) → eventRow (now (events .entry)) i ≡ join n a b
         → r ≡ hasLink (linksWith os «link_count» (now (links .entry))) (linkOf n a b)) ⌝ }
 {
-    let kind = rows::word(events, 4, i, 0);
-    let x = rows::word(events, 4, i, 1);
-    let y = rows::word(events, 4, i, 2);
-    let z = rows::word(events, 4, i, 3);
+    let kind = rows::word(events, tables::EVENT_WIDTH, i, 0);
+    let x = rows::word(events, tables::EVENT_WIDTH, i, 1);
+    let y = rows::word(events, tables::EVENT_WIDTH, i, 2);
+    let z = rows::word(events, tables::EVENT_WIDTH, i, 3);
     if kind != JOIN {
         return false;
     }

@@ -156,10 +156,10 @@ fn put_event(
     ensures { λ _. ⌜ ((ls : List Link) → SetsWith (now (trace .entry)) (now (trace .exit))
         (eventMoves (typesOf «type_count» (now (types .entry))) (objectsWith «object_count» (now (objects .entry)) ls) (eventRow (now (events .entry)) i) met) maxTypes) ⌝ }
 {
-    let kind = rows::word(events, 4, i, 0);
-    let x = rows::word(events, 4, i, 1);
-    let y = rows::word(events, 4, i, 2);
-    let z = rows::word(events, 4, i, 3);
+    let kind = rows::word(events, tables::EVENT_WIDTH, i, 0);
+    let x = rows::word(events, tables::EVENT_WIDTH, i, 1);
+    let y = rows::word(events, tables::EVENT_WIDTH, i, 2);
+    let z = rows::word(events, tables::EVENT_WIDTH, i, 3);
     if kind >= SET {
         if kind <= PART {
             return;

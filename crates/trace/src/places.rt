@@ -65,10 +65,10 @@ fn first_row(object_count: u32, objects: &[u32], events: &[u32], i: u32) -> u32
     requires { ⌜ ObjectsAscend «object_count» (now objects) ⌝ }
     ensures { λ r. ⌜ r ≡ rowNamed «object_count» (now (objects .entry)) (namedAt (eventRow (now (events .entry)) i) 0) ⌝ }
 {
-    let kind = rows::word(events, 4, i, 0);
-    let x = rows::word(events, 4, i, 1);
-    let y = rows::word(events, 4, i, 2);
-    let z = rows::word(events, 4, i, 3);
+    let kind = rows::word(events, tables::EVENT_WIDTH, i, 0);
+    let x = rows::word(events, tables::EVENT_WIDTH, i, 1);
+    let y = rows::word(events, tables::EVENT_WIDTH, i, 2);
+    let z = rows::word(events, tables::EVENT_WIDTH, i, 3);
     let id = first_id(kind, x, y, z);
     end_row(object_count, objects, id)
 }
@@ -78,8 +78,8 @@ fn second_row(object_count: u32, objects: &[u32], events: &[u32], i: u32) -> u32
     requires { ⌜ ObjectsAscend «object_count» (now objects) ⌝ }
     ensures { λ r. ⌜ r ≡ rowNamed «object_count» (now (objects .entry)) (namedAt (eventRow (now (events .entry)) i) 1) ⌝ }
 {
-    let kind = rows::word(events, 4, i, 0);
-    let z = rows::word(events, 4, i, 3);
+    let kind = rows::word(events, tables::EVENT_WIDTH, i, 0);
+    let z = rows::word(events, tables::EVENT_WIDTH, i, 3);
     if kind == JOIN {
         return end_row(object_count, objects, z);
     }

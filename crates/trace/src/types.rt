@@ -47,7 +47,7 @@ pub fn above(type_count: u32, types: &[u32], t: u32) -> [bool; 32]
         if !schema::has_parent(type_count, types, at) {
             return truths;
         }
-        at = rows::word(types, 2, at, 0);
+        at = rows::word(types, tables::TYPE_WIDTH, at, 0);
         left -= 1;
     }
     put(at, &mut truths);
