@@ -117,7 +117,12 @@ fn settle(
     let answer = judged.answer;
     match answer {
         Answer::Accepted => {
-            bring_back(objects, scratch_objects, tables::OBJECT_WIDTH, after.objects);
+            bring_back(
+                objects,
+                scratch_objects,
+                tables::OBJECT_WIDTH,
+                after.objects,
+            );
             bring_back(links, scratch_links, tables::LINK_WIDTH, after.links);
             Checked {
                 answer: Answer::Accepted,

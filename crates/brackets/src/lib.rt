@@ -414,7 +414,7 @@ fn put_rows(line: &[u8], at: usize, table: &mut [u32])
                 }
                 depth -= 1;
                 words[0] = codes[depth];
-                rows::write_row(table, 4, row, &words);
+                rows::write_row(table, tables::BODY_WIDTH, row, &words);
                 words = [0u32; 4];
                 column = 1;
                 row += 1;

@@ -17,10 +17,10 @@ fn put_object(count: u32, objects: &mut [u32], id: u32, t: u32) -> u32
     ensures { λ r. ⌜ ((S : Schema) → ObjectsApplied S (insert id t) count (now (objects .entry)) r (now (objects .exit))) ⌝ }
 {
     let key = [id];
-    let at = rows::place(&*objects, 10, count, 1, &key);
-    rows::open_gap(&mut *objects, 10, at, count);
+    let at = rows::place(&*objects, tables::OBJECT_WIDTH, count, 1, &key);
+    rows::open_gap(&mut *objects, tables::OBJECT_WIDTH, at, count);
     let words = [id, t, 0, 0, 0, 0, 0, 0, 0, 0];
-    rows::write_row(&mut *objects, 10, at, &words);
+    rows::write_row(&mut *objects, tables::OBJECT_WIDTH, at, &words);
     count + 1
 }
 
@@ -31,7 +31,7 @@ fn take_object(count: u32, objects: &mut [u32], id: u32) -> u32
 {
     match register::object_row(count, &*objects, id) {
         Found::At(row) => {
-            rows::close_gap(&mut *objects, 10, row, count);
+            rows::close_gap(&mut *objects, tables::OBJECT_WIDTH, row, count);
             count - 1
         }
         Found::Nothing => count,
@@ -44,7 +44,7 @@ fn put_cell(count: u32, objects: &mut [u32], id: u32, cell: u32, word: u32)
     ensures { λ _. ⌜ ((S : Schema) → ObjectsApplied S (set id cell (signed word)) count (now (objects .entry)) count (now (objects .exit))) ⌝ }
 {
     match register::object_row(count, &*objects, id) {
-        Found::At(row) => rows::put_word(&mut *objects, 10, row, 2 + cell, word),
+        Found::At(row) => rows::put_word(&mut *objects, tables::OBJECT_WIDTH, row, 2 + cell, word),
         Found::Nothing => {}
     }
 }
@@ -55,7 +55,7 @@ fn put_type(count: u32, objects: &mut [u32], id: u32, t: u32)
     ensures { λ _. ⌜ ((S : Schema) → ObjectsApplied S (special id t) count (now (objects .entry)) count (now (objects .exit))) ⌝ }
 {
     match register::object_row(count, &*objects, id) {
-        Found::At(row) => rows::put_word(&mut *objects, 10, row, 1, t),
+        Found::At(row) => rows::put_word(&mut *objects, tables::OBJECT_WIDTH, row, 1, t),
         Found::Nothing => {}
     }
 }
@@ -69,9 +69,9 @@ fn put_higher_type(type_count: u32, types: &[u32], count: u32, objects: &mut [u3
 {
     match register::object_row(count, &*objects, id) {
         Found::At(row) => {
-            rows::put_word(&mut *objects, 10, row, 1, t);
+            rows::put_word(&mut *objects, tables::OBJECT_WIDTH, row, 1, t);
             let cells = schema::cells_of(type_count, types, t);
-            rows::clear_columns(&mut *objects, 10, row, 2 + cells);
+            rows::clear_columns(&mut *objects, tables::OBJECT_WIDTH, row, 2 + cells);
         }
         Found::Nothing => {}
     }
@@ -84,9 +84,9 @@ fn put_link(count: u32, links: &mut [u32], relationship: u32, source: u32, targe
         LinksApplied S (join relationship source target) count (now (links .entry)) r (now (links .exit))) ⌝ }
 {
     let key = [relationship, source, target];
-    let at = rows::place(&*links, 3, count, 3, &key);
-    rows::open_gap(&mut *links, 3, at, count);
-    rows::write_row(&mut *links, 3, at, &key);
+    let at = rows::place(&*links, tables::LINK_WIDTH, count, 3, &key);
+    rows::open_gap(&mut *links, tables::LINK_WIDTH, at, count);
+    rows::write_row(&mut *links, tables::LINK_WIDTH, at, &key);
     count + 1
 }
 
@@ -98,7 +98,7 @@ fn take_link(count: u32, links: &mut [u32], relationship: u32, source: u32, targ
 {
     match register::link_row(count, &*links, relationship, source, target) {
         Found::At(row) => {
-            rows::close_gap(&mut *links, 3, row, count);
+            rows::close_gap(&mut *links, tables::LINK_WIDTH, row, count);
             count - 1
         }
         Found::Nothing => count,

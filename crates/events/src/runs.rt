@@ -41,7 +41,11 @@ fn met_type(count: u32, objects: &[u32], events: &[u32], row: u32) -> u32
     if kind == 4 {
         return NO_TYPE;
     }
-    type_in(count, objects, rows::word(events, tables::EVENT_WIDTH, row, 1))
+    type_in(
+        count,
+        objects,
+        rows::word(events, tables::EVENT_WIDTH, row, 1),
+    )
 }
 
 // The events on tables that fit, up to the first that is refused.
@@ -139,8 +143,8 @@ pub fn run(
         types,
         relationship_count,
         relationships,
-        rows::rows_lent(objects, 10),
-        rows::rows_lent(links, 3),
+        rows::rows_lent(objects, tables::OBJECT_WIDTH),
+        rows::rows_lent(links, tables::LINK_WIDTH),
         from,
         scratch_objects,
         scratch_links,

@@ -79,7 +79,10 @@ fn put_event(
     ensures { λ _. ⌜ ((ls : List Link) → Counted (now (marks .entry)) (now (marks .exit))
         (counts (typesOf «type_count» (now (types .entry))) (objectsWith «object_count» (now (objects .entry)) ls) (eventRow (now (events .entry)) i) met)) ⌝ }
 {
-    let kind = read_kind(rows::word(events, tables::EVENT_WIDTH, i, 0), rows::word(events, tables::EVENT_WIDTH, i, 3));
+    let kind = read_kind(
+        rows::word(events, tables::EVENT_WIDTH, i, 0),
+        rows::word(events, tables::EVENT_WIDTH, i, 3),
+    );
     let x = rows::word(events, tables::EVENT_WIDTH, i, 1);
     let y = rows::word(events, tables::EVENT_WIDTH, i, 2);
     if kind == JOIN {
