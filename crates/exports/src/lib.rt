@@ -1,5 +1,6 @@
 // What Rust and C programs link: the checker's entries over pointers and numbers.
 mod batches;
+mod lists;
 mod runs;
 
 use reader::Outcome;
