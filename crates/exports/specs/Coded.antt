@@ -11,6 +11,8 @@ use Rattle.event_list.specs.declared.Listed.the-variants as Listeds
 use Rattle.text.specs.Names.{typeName, relationshipName, ruleName, objectName, linkName}
 use Rattle.text.specs.Entries.{eventSection, countOf}
 use Rattle.text.specs.Texts.{Reading, taken, refused}
+use Rattle.writer.specs.declared.Written.{Written}
+use Rattle.writer.specs.declared.Written.the-variants as Writtens
 
 -- the used rows of a book and a register
 abbrev pub usedRows : ℕ → ℕ → ℕ → ℕ → ℕ → Counts
@@ -39,3 +41,8 @@ readWords (refused number line) = 1 ∷ number ∷ line ∷ 0 ∷ 0 ∷ 0 ∷ 0 
 abbrev pub listedWords : Listed → List ℕ
 listedWords (Listeds.Types count) = 0 ∷ count ∷ 0 ∷ []
 listedWords (Listeds.Refused number place) = 1 ∷ number ∷ place ∷ []
+
+-- a writer's answer as three words: 0, how many bytes, 0; or 1, number, place
+abbrev pub writtenWords : Written → List ℕ
+writtenWords (Writtens.Done size) = 0 ∷ size ∷ 0 ∷ []
+writtenWords (Writtens.Refused number place) = 1 ∷ number ∷ place ∷ []

@@ -2,6 +2,7 @@
 mod batches;
 mod lists;
 mod runs;
+mod texts;
 
 use reader::Outcome;
 use tables::Answer;
