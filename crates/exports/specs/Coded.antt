@@ -6,9 +6,13 @@ use Rattle.meaning.specs.Events.{Refusal}
 use Rattle.meaning.specs.Answers as Answers
 use Rattle.meaning.specs.Answers.{Answer, accepted, brokenAt}
 use Rattle.tables.specs.declared.Counts.{Counts}
+use Rattle.event_list.specs.declared.Listed.{Listed}
+use Rattle.event_list.specs.declared.Listed.the-variants as Listeds
 use Rattle.text.specs.Names.{typeName, relationshipName, ruleName, objectName, linkName}
 use Rattle.text.specs.Entries.{eventSection, countOf}
 use Rattle.text.specs.Texts.{Reading, taken, refused}
+use Rattle.writer.specs.declared.Written.{Written}
+use Rattle.writer.specs.declared.Written.the-variants as Writtens
 
 -- the used rows of a book and a register
 abbrev pub usedRows : ℕ → ℕ → ℕ → ℕ → ℕ → Counts
@@ -32,3 +36,13 @@ readWords (taken es) =
     0 ∷ countOf typeName es ∷ countOf relationshipName es ∷ countOf ruleName es ∷ countOf objectName es ∷ countOf linkName es
     ∷ countOf eventSection es ∷ []
 readWords (refused number line) = 1 ∷ number ∷ line ∷ 0 ∷ 0 ∷ 0 ∷ 0 ∷ []
+
+-- an event list's answer as three words: 0, how many event types, 0; or 1, number, place
+abbrev pub listedWords : Listed → List ℕ
+listedWords (Listeds.Types count) = 0 ∷ count ∷ 0 ∷ []
+listedWords (Listeds.Refused number place) = 1 ∷ number ∷ place ∷ []
+
+-- a writer's answer as three words: 0, how many bytes, 0; or 1, number, place
+abbrev pub writtenWords : Written → List ℕ
+writtenWords (Writtens.Done size) = 0 ∷ size ∷ 0 ∷ []
+writtenWords (Writtens.Refused number place) = 1 ∷ number ∷ place ∷ []

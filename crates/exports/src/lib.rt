@@ -1,6 +1,8 @@
 // What Rust and C programs link: the checker's entries over pointers and numbers.
 mod batches;
+mod lists;
 mod runs;
+mod texts;
 
 use reader::Outcome;
 use tables::Answer;
