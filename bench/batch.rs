@@ -22,7 +22,7 @@ use visits::{Event, Visit};
 // Two sizes of the park, with the rows lent in proportion.
 const SIZES: [(&[usize], (usize, usize)); 2] = [(&visits::SMALL, (256, 1024)), (&visits::LARGE, (1024, 4096))];
 const LIST_WORDS: usize = 8192;
-const DRAWN: u32 = 3000;
+const DRAWN: u32 = 10_000;
 
 // Lent tables with a batch's scratch and list, and the register to start from.
 #[derive(Clone)]

@@ -27,9 +27,9 @@ impl Drawer<'_> {
     }
 
     fn truth(&mut self, depth: u32, scope: &mut Vec<u32>) -> Form {
-        let pick = self.draw.below(if depth == 0 { 4 } else { 14 });
+        let pick = self.draw.below(if depth == 0 { 4 } else { 15 });
         match pick {
-            0 => {
+            0 | 14 => {
                 let v = self.variable(scope);
                 Form::Kind(v, self.draw.below(self.types.len() as u32))
             }
@@ -128,7 +128,7 @@ fn types(d: &mut Draw) -> Vec<(Option<u32>, u32)> {
 fn objects(d: &mut Draw, types: &[(Option<u32>, u32)]) -> Vec<(u32, u32, [i32; 8])> {
     let mut out = std::collections::BTreeMap::new();
     for _ in 0..d.below(12) {
-        let (id, t) = (1 + d.below(20), d.below(types.len() as u32));
+        let (id, t) = (1 + d.below(14), d.below(types.len() as u32));
         let mut cells = [0; 8];
         for c in &mut cells[..types[t as usize].1 as usize] {
             *c = d.below(7) as i32 - 3;
@@ -194,17 +194,21 @@ fn pick<T: Copy>(d: &mut Draw, of: &[T]) -> Option<T> {
 
 // An event of some kind that names what may be there.
 fn event(d: &mut Draw, p: &Park) -> [u32; 4] {
-    let id = |d: &mut Draw| pick(d, &p.objects).map_or(1, |o| o.0);
+    // every other time one of the first three, so that events meet at an object
+    let id = |d: &mut Draw| {
+        let of = if d.below(2) == 0 { &p.objects[..p.objects.len().min(3)] } else { &p.objects[..] };
+        pick(d, of).map_or(1, |o| o.0)
+    };
     let (t, r) = (d.below(p.types.len() as u32), d.below(p.relationships.len() as u32));
-    match d.below(16) {
-        0 | 1 => [0, 1 + d.below(24), t, 0],
+    match d.below(20) {
+        0 | 1 => [0, 1 + d.below(14), t, 0],
         2 | 3 => [1, id(d), 0, 0],
         4..=7 => [2, id(d), d.below(4), d.below(7).wrapping_sub(3)],
         8 | 9 => [3, r, id(d), id(d)],
         10..=12 => pick(d, &p.links).map_or([9, 0, 0, 0], |l| [4, l.0, l.1, l.2]),
-        13 => [5, id(d), t, 0],
-        14 => [6, id(d), t, 0],
-        _ => [d.below(8), d.below(26), d.below(9), d.below(2)],
+        13..=16 => [5, id(d), t, 0],
+        17 | 18 => [6, id(d), t, 0],
+        _ => [d.below(8), d.below(16), d.below(9), d.below(2)],
     }
 }
 
@@ -213,7 +217,7 @@ pub fn batch(p: &Park, seed: u32) -> Vec<[u32; 4]> {
     let mut d = Draw(seed);
     let count = d.below(13) as usize;
     let (mut now, mut out) = (literal::copy(p), vec![]);
-    for _ in 0..100 {
+    for _ in 0..200 {
         let e = event(&mut d, &now);
         let refused = literal::refusal(&now, ROOM, e).is_some();
         if out.len() == count || refused && d.below(150) > 0 {
