@@ -1,26 +1,22 @@
 -- What the checks of a lent book say about the answer, and what no refusal gives.
 use Prim.Native.Nat.{ℕ, _*_, _≤_, _<_}
 use mathlib.Core.Path.{_≡_, refl, sym, ap, _∙_}
-use mathlib.Core.Bool.{Bool, true, false, _&&_, _||_, cond}
-use mathlib.Core.List.{List, [], _∷_}
+use mathlib.Core.Bool.{Bool, true, false, _||_, cond}
+use mathlib.Core.List.{List, []}
 use mathlib.Core.Option.{Option, none, some}
 use native.Mathlib.Omega.{arith}
 use borrow.Author.Tests.{lt-ltb, le-ltb, ltb-true}
-use lib.Dec.{T, ltb, leb}
+use lib.Dec.{T, ltb}
 use lib.ListN.{length, getD, replicate, getElem?, getD-replicate}
-use mir.Facts.{and-yes, T-not-not}
 use Rattle.meaning.specs.Lists.{firstOf, _∈_}
-use Rattle.meaning.specs.Limits.{maxForms}
-use Rattle.meaning.specs.Schema.{Schema, knownType, typeFault, relationshipFault}
+use Rattle.meaning.specs.Schema.{Schema}
 use Rattle.meaning.specs.Register.{objectFault, linkFault}
-use Rattle.meaning.specs.Forms.{wellTyped, formCount, Rule, Book, faultyRule, ruleFault}
+use Rattle.meaning.specs.Forms.{Rule, Book}
 use Rattle.meaning.specs.Events.{Refusal}
 use Rattle.meaning.specs.EventList.{EventType, eventList}
 use Rattle.meaning.specs.Answers.{refusalAt, bookRefusal, registerRefusal, refusal, lackedRule}
 use Rattle.meaning.proofs.Lists.{first-of-none}
-use Rattle.meaning.proofs.Order.{fault-none}
 use Rattle.meaning.proofs.Touched.{event-list-ascends}
-use Rattle.meaning.proofs.Agreement.{Checked, checked, refusal-at-none}
 use Rattle.rows.specs.Rows.{wordAt}
 use Rattle.tables.specs.Layouts.{Sheet, sheetOf, bookTables}
 use Rattle.tables.specs.Bodies.{wholeBody}
@@ -34,12 +30,12 @@ use Rattle.checks.specs.Given.{Given}
 use Rattle.checks.proofs.Given.{given, clear-none}
 use Rattle.checks.proofs.Stages.{first-assoc, first-none}
 use Rattle.event_marks.specs.Marks.{places, marked, Added}
+use Rattle.event_marks.proofs.Bounds.{placed, book-placed}
 use Rattle.event_list.specs.Places.{markedBelow, placeWords}
 use Rattle.rows.specs.Rows.{inFront}
 use Rattle.event_list.specs.Answers.{ruleTables, ruleRefusal, listIn, listOf, listWords, roomRefusal, listRefusal, listedOf, answer, wordsAfter, listAfter}
 use Rattle.event_list.specs.declared.Listed.the-variants as Listed
 use Rattle.event_list.proofs.Places.{words-length}
-use Rattle.event_list.proofs.Bounds.{placed, rule-placed}
 use Rattle.event_list.proofs.Read.{read-length, read-words}
 
 -- ---- a refusal that is met first
@@ -141,26 +137,18 @@ module _ (n : Counts) (types relationships rules bodies : List ℕ) (rule : ℕ)
     found : getElem? (k .rules) rule ≡ some r
     found = row-there (ruleRow rules bodies) (n .rules) rule there
 
-    fits : Checked k (registerIn m s)
-    fits = checked k (registerIn m s) (known .clear)
-
-    context-known : T (knownType (S .types) (r .context))
-    unfolding bookRefusal ruleFault faultyRule
-    context-known =
-        let parts = first-of-none (refusalAt 3 (firstOf (typeFault (S .types)) (relationshipFault S))) (refusalAt 4 (ruleFault k)) (fits .book) in
-        let typed = knownType (S .types) (r .context) && wellTyped S (r .context ∷ []) (r .body) in
-        let good = T-not-not (typed && leb (formCount (r .body)) maxForms) (fault-none (faultyRule S) (k .rules) (refusal-at-none 4 (ruleFault k) (parts .1)) rule r found .1) in
-        and-yes (knownType (S .types) (r .context)) (wellTyped S (r .context ∷ []) (r .body)) (and-yes typed (leb (formCount (r .body)) maxForms) good .0) .0
+    book-clear : bookRefusal k ≡ none
+    unfolding refusal
+    book-clear = first-of-none (bookRefusal k) (registerRefusal S (registerIn m s)) (known .clear) .0
 
     in-place : (e : EventType) → e ∈ es → T (placed e)
     in-place =
-        rule-placed S
+        book-placed k book-clear
         (omega (arith, known .few-types, length-rows (typeRow types) (n .types)))
         (omega (arith, known .few-relationships, length-rows (relationshipRow relationships) (n .relationships)))
-        (fits .types .cells-bound)
+        rule
         r
-        context-known
-        (fits .typed rule r found)
+        found
 
     list-is : listOf k rule ≡ es
     unfolding listOf

@@ -1,5 +1,5 @@
 -- The list read off the marks of a rule is its event list: both ascend by their words, and have the same ones.
-use Prim.Native.Nat.{ℕ, zero, suc, _+_, _*_, _/_, _%_, _<_}
+use Prim.Native.Nat.{ℕ, zero, suc, _+_, _/_, _%_, _<_}
 use mathlib.Core.Path.{_≡_, refl, sym, ap, subst, _∙_}
 use mathlib.Core.Logic.{⊎-elim}
 use mathlib.Core.Bool.{Bool, true, false, cond}
@@ -7,18 +7,16 @@ use mathlib.Core.List.{List, [], _∷_, _++_, map, flatMap, List·Memᴰ·head, 
 use native.Mathlib.Nat.{eq-or-lt-of-le}
 use native.Mathlib.Omega.{arith}
 use denote.Floats.{is-true}
-use lib.Dec.{T, ltb}
+use lib.Dec.{T}
 use lib.ListN.{length, getD, length-map}
-use mir.Facts.{and-yes, ltb-yes}
 use Rattle.meaning.specs.Lists.{_∈_, before, sameList, Ascending, Before}
 use Rattle.meaning.specs.EventList.{EventType, eventTypeWords}
 use Rattle.meaning.proofs.Lists.{any-of, any-cases, ascending-append, ascending-map, ascending-unique}
 use Rattle.meaning.proofs.Order.{before-head, before-tail, before-irreflexive, before-transitive, same-list-refl, same-list-eq}
-use Rattle.meaning.proofs.Touched.{three-words}
 use Rattle.event_marks.specs.Marks.{places, wordsAt, marked}
+use Rattle.event_marks.proofs.Bounds.{placed, placeOf, place-found}
 use Rattle.event_list.specs.Places.{markedBelow, placeWords}
 use Rattle.event_list.specs.Answers.{listWords}
-use Rattle.event_list.proofs.Bounds.{placed}
 
 -- ---- places and their words
 
@@ -39,31 +37,6 @@ words-ascend p q h =
 
     cell : ℕ → List ℕ
     cell place = place % 8 ∷ []
-
-three : (w : List ℕ) → length w ≡ 3 → w ≡ getD w 0 0 ∷ getD w 1 0 ∷ getD w 2 0 ∷ []
-three [] e = absurd (omega arith)
-three (a ∷ []) e = absurd (omega arith)
-three (a ∷ b ∷ []) e = absurd (omega arith)
-three (a ∷ b ∷ c ∷ []) e = refl
-three (a ∷ b ∷ c ∷ d ∷ w) e = absurd (omega arith)
-
--- the place of an event type
-placeOf : List ℕ → ℕ
-placeOf w = (getD w 0 0 * 32 + getD w 1 0) * 8 + getD w 2 0
-
-place-found : (e : EventType) → T (placed e) → (placeOf (eventTypeWords e) < places) × (eventTypeWords e ≡ wordsAt (placeOf (eventTypeWords e)))
-unfolding placeOf
-place-found e h =
-    let w = eventTypeWords e in
-    let a = and-yes (ltb (getD w 0 0) 7) _ h in
-    let b = and-yes (ltb (getD w 1 0) 32) (ltb (getD w 2 0) 8) (a .1) in
-    let kind : getD w 0 0 < 7 = ltb-yes (a .0) in
-    let number : getD w 1 0 < 32 = ltb-yes (b .0) in
-    let cell : getD w 2 0 < 8 = ltb-yes (b .1) in
-    let k : getD w 0 0 ≡ placeOf w / 256 = omega arith in
-    let n : getD w 1 0 ≡ placeOf w / 8 % 32 = omega arith in
-    let c : getD w 2 0 ≡ placeOf w % 8 = omega arith in
-    (omega arith, three w (three-words e) ∙ (λ i. k i ∷ n i ∷ c i ∷ []))
 
 -- ---- the marked places
 

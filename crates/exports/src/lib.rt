@@ -1,4 +1,5 @@
 // What Rust and C programs link: the checker's entries over pointers and numbers.
+mod batches;
 mod runs;
 
 use reader::Outcome;

@@ -6,7 +6,7 @@ use native.Mathlib.Nat.{le-refl}
 use native.Mathlib.Omega.{arith}
 use lib.Dec.{T, eqb}
 use mir.Facts.{and-yes}
-use borrow.Author.Tests.{eq-eqb, ne-eqb}
+use borrow.Author.Tests.{ne-eqb}
 use Rattle.meaning.specs.Forms.{collection, Form, role, all, select}
 use Rattle.meaning.specs.Reach.{Change}
 use Rattle.tables.specs.Codes.{Operator, comparing, negating, connecting, quantifying, kindOf, literal, cellOf, sizeOf, sumOf, combining, roleOf, allOf, selecting, codeOf, shapeOf}

@@ -2,11 +2,10 @@
 use Prim.Native.Nat.{ℕ, suc, _+_, _*_, _≤_, _<_}
 use mathlib.Core.Path.{_≡_, refl, sym, ap, subst, _∙_}
 use mathlib.Core.Logic.{_⊎_, inl, inr, ⊎-elim}
-use mathlib.Core.Bool.{Bool, true, false}
+use mathlib.Core.Bool.{Bool, true}
 use mathlib.Core.List.{List, [], _∷_, List·Memᴰ·not-nil, List·Memᴰ·cases-cons}
-use mathlib.Core.Option.{some, Option·some-injective}
-use native.Mathlib.Omega.{arith}
-use lib.ListN.{getD, length}
+use mathlib.Core.Option.{Option·some-injective}
+use lib.ListN.{getD}
 use Rattle.meaning.specs.Lists.{_∈_, Ascending}
 use Rattle.meaning.specs.Register.{farEnds}
 use Rattle.meaning.specs.Forms.{role}
@@ -16,7 +15,6 @@ use Rattle.register.proofs.Rows.{own-place}
 use Rattle.register.specs.Tables.{objectPlace}
 use Rattle.ocl.specs.Site.{Site, registerAt, idIn, idsOf}
 use Rattle.ocl.specs.Walks.{leftIn, StandsIn, Went}
-use Rattle.ocl.specs.declared.Step.the-variants.{At, Done}
 use Rattle.ocl.proofs.Walks.{role-begun, role-walked, word-low}
 
 module _ (w : Site) (r row : ℕ) where

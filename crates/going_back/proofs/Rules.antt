@@ -1,5 +1,5 @@
 -- A rule of lent tables: its body is able at the row of any object, and what is covered of the body and of what was brought in are its candidates.
-use Prim.Native.Nat.{ℕ, _+_, _*_, _^_, _≤_, _<_}
+use Prim.Native.Nat.{ℕ, _+_, _^_, _≤_, _<_}
 use mathlib.Core.Path.{_≡_, refl, sym, ap, subst, _∙_}
 use mathlib.Core.Logic.{⊎-elim}
 use mathlib.Core.Bool.{Bool, true, false, _&&_, _||_, not}
@@ -14,7 +14,7 @@ use Rattle.meaning.specs.Forms.{truth, wellTyped, Rule}
 use Rattle.meaning.specs.Reach.{Change, down, quiet, inserted, specialised, broughtIn}
 use Rattle.meaning.proofs.Registers.{RegisterFits}
 use Rattle.rows.specs.Rows.{wordAt}
-use Rattle.tables.specs.Bodies.{sortOf, sameSort, wholeBody, readBody, ending, asTruth, part}
+use Rattle.tables.specs.Bodies.{sortOf, sameSort, wholeBody, readBody, ending, part}
 use Rattle.tables.specs.Columns.{typeRow, relationshipRow, ruleRow, schemaOf, registerOf}
 use Rattle.tables.specs.declared.Counts.{Counts}
 use Rattle.tables.proofs.Readings.{is-truth}

@@ -1,13 +1,13 @@
 -- A role turned round leads back: from the far end to the near one.
 use Prim.Native.Nat.{ℕ, _+_, _-_, _/_, _%_}
-use mathlib.Core.Path.{_≡_, refl, sym, ap, subst, _∙_}
-use mathlib.Core.Bool.{Bool, true, false, _&&_, cond}
+use mathlib.Core.Path.{_≡_, refl, sym, subst, _∙_}
+use mathlib.Core.Bool.{Bool, true, false, cond}
 use native.Mathlib.Omega.{arith}
 use lib.Dec.{T, eqb}
 use mir.Facts.{and-yes, yes-and, eqb-yes, yes-eqb}
 use borrow.Author.Tests.{eq-eqb, ne-eqb, eqb-true, eqb-false}
 use Rattle.meaning.specs.Lists.{_∈_}
-use Rattle.meaning.specs.Schema.{relationshipOf, forward}
+use Rattle.meaning.specs.Schema.{relationshipOf}
 use Rattle.meaning.specs.Register.{Link, Register, nearEnd, farEnd, startsAt, farEnds}
 use Rattle.meaning.proofs.Registers.{far-in, far-from}
 use Rattle.going_back.specs.Back.{turned}

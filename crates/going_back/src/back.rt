@@ -95,7 +95,8 @@ fn image(
         return has_some(n, depth, sets);
     }
     let v = field(bodies, rule, row, 1);
-    let back = turned(field(bodies, rule, row, 2));
+    let role = field(bodies, rule, row, 2);
+    let back = turned(role);
     put_back(n, objects, links, index, back, depth, v, sets);
     false
 }
@@ -362,16 +363,16 @@ fn over(
     events: &[u32],
     trace: &[u16; 2593],
     at: Place,
-    set: u32,
+    dirs: u32,
     sets: &mut [bool],
 ) -> bool
     requires { ⌜ (OverWalkable (siteOf n (now types) (now objects) (now links) (now index) (now bodies) (at .0)) (now spans) (at .1) (at .2))
-        × (Traces n (now types) (now objects) (now links) (now events) (now trace)) × (set < 4) × (length (now sets) ≡ 65536) ⌝ }
+        × (Traces n (now types) (now objects) (now links) (now events) (now trace)) × (dirs < 4) × (length (now sets) ≡ 65536) ⌝ }
     ensures { λ r. ⌜ (GrownBelow (at .2) (now (sets .entry)) (now (sets .exit)))
         × ((c : Change) → Traced c n (now (types .entry)) (now (objects .entry)) (now (links .entry)) (now (events .entry)) (now (trace .entry))
         → Covered (throughMembers c
         (asCollection (formAt (siteOf n (now (types .entry)) (now (objects .entry)) (now (links .entry)) (now (index .entry)) (now (bodies .entry)) (at .0)) (getD (now (spans .entry)) (at .1 - 1) 0)))
-        (at .2) (reachedBy c (formAt (siteOf n (now (types .entry)) (now (objects .entry)) (now (links .entry)) (now (index .entry)) (now (bodies .entry)) (at .0)) (at .1 - 1)) (at .2 + 1) set))
+        (at .2) (reachedBy c (formAt (siteOf n (now (types .entry)) (now (objects .entry)) (now (links .entry)) (now (index .entry)) (now (bodies .entry)) (at .0)) (at .1 - 1)) (at .2 + 1) dirs))
         (now (objects .entry)) (n .objects) (at .2) r (now (sets .exit))) ⌝ }
 {
     let rule = at.0;
@@ -390,7 +391,7 @@ fn over(
         events,
         trace,
         inner,
-        set,
+        dirs,
         sets,
     ) {
         return true;

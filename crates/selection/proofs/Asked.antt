@@ -1,10 +1,11 @@
 -- Whether a rule is selected at the object in a row, by what the code asks.
 use Prim.Native.Nat.{ℕ, _<_}
 use mathlib.Core.Path.{_≡_, refl, sym, ap, ap₂, _∙_}
-use mathlib.Core.Bool.{Bool, true, false, _&&_, _||_, not}
+use mathlib.Core.Logic.{⊎-elim}
+use mathlib.Core.Bool.{Bool, true, false, _&&_, _||_, not, false≢true}
 use mathlib.Core.List.{List, [], _∷_, map}
 use lib.Dec.{T}
-use lib.ListN.{take}
+use lib.ListN.{getD, take}
 use Rattle.meaning.specs.Schema.{under}
 use Rattle.meaning.specs.Register.{isUnder}
 use Rattle.meaning.specs.Forms.{truth, Rule}
@@ -19,7 +20,12 @@ use Rattle.trace.specs.Questions.{asked, insertedInto}
 use Rattle.trace.specs.Traces.{Traced}
 use Rattle.reach.specs.Moves.{partMoves, movesAt}
 use Rattle.reach.proofs.Leaves.{asked-inserted, under-end}
+use Rattle.meaning.proofs.Lists.{decide}
+use Rattle.going_back.specs.Back.{candidate}
+use Rattle.going_back.proofs.Tests.{so-true}
+use Rattle.going_back.proofs.Coverage.{selected-candidate}
 use Rattle.going_back.proofs.Rules.{body-form}
+use Rattle.selection.specs.Ready.{TypedBy, Marked}
 
 -- ---- two parts, of which the first decides or not
 
@@ -36,6 +42,10 @@ or-second false e = e
 or-none : (a : Bool) {b : Bool} → b ≡ false → (a || b) ≡ a
 or-none true e = refl
 or-none false e = e
+
+off-true : (b : Bool) → T (not b) → b ≡ false
+off-true true h = absurd h
+off-true false h = refl
 
 swapped : (s i : Bool) → (not s && (true && i)) ≡ (i && not s)
 swapped true true = refl
@@ -83,3 +93,16 @@ module _ {c : Change} {n : Counts} {types objects links events trace : List ℕ}
         q
         ∙ ap₂ (λ p l. partMoves c p (map (idIn objects) l) down) (sym (body-form n types rules bodies objects links index rule whole)) self
         ∙ sym (is-selected ∙ or-none (moves c (r .body) (u ∷ []) down) e)
+
+-- ---- a row that is not marked
+
+pub unmarked : {c : Change} {n : Counts} {types objects links events trace : List ℕ} (traced : Traced c n types objects links events trace) (rules bodies : List ℕ) (rule : ℕ) (marks : List Bool)
+    → Marked n types objects links events trace rules bodies rule marks → TypedBy c rules bodies rule
+    → (row : ℕ) → row < n .objects → getD marks row false ≡ false → false ≡ selected c (ruleRow rules bodies rule) (idIn objects row)
+unmarked {c} {objects = objects} traced rules bodies rule marks marked typed row h off =
+    let r = ruleRow rules bodies rule in
+    let u = idIn objects row in
+    ⊎-elim
+    (λ (yes : T (selected c r u)). absurd (false≢true (sym off ∙ marked c traced row h (so-true (candidate c r u) (selected-candidate c r u typed yes)))))
+    (λ no. sym (off-true (selected c r u) no))
+    (decide (selected c r u))

@@ -27,17 +27,18 @@ use Rattle.selection.specs.Selected.{selectedRows, ruleCodes}
 
 -- ---- lists
 
-module _ {A : Type 0} {B : Type 0} where
-  -- what gives nothing need not be passed
-  pub flat-keep : (f : A → List B) (p : A → Bool) (l : List A) → ((x : A) → p x ≡ false → f x ≡ []) → flatMap f (keep p l) ≡ flatMap f l
-  unfolding flatMap
-  flat-keep f p [] none = refl
-  flat-keep f p (x ∷ l) none = step (p x) refl (flat-keep f p l none)
-    where
-      step : (b : Bool) → p x ≡ b → flatMap f (keep p l) ≡ flatMap f l → flatMap f (cond b (x ∷ keep p l) (keep p l)) ≡ f x ++ flatMap f l
-      step true e rest = ap (λ m. f x ++ m) rest
-      step false e rest = rest ∙ sym (ap (λ m. m ++ flatMap f l) (none x e))
+-- numbers that give nothing need not be passed
+flat-keep : {B : Type 0} (f : ℕ → List B) (p : ℕ → Bool) (i q : ℕ) → ((x : ℕ) → x < i + q → p x ≡ false → f x ≡ []) → flatMap f (keep p (rowsFrom (λ x. x) i q)) ≡ flatMap f (rowsFrom (λ x. x) i q)
+unfolding flatMap
+flat-keep f p i zero none = refl
+flat-keep f p i (suc q) none = step (p i) refl (flat-keep f p (suc i) q (λ x h. none x (omega arith)))
+  where
+    step : (b : Bool) → p i ≡ b → flatMap f (keep p (rowsFrom (λ x. x) (suc i) q)) ≡ flatMap f (rowsFrom (λ x. x) (suc i) q)
+        → flatMap f (cond b (i ∷ keep p (rowsFrom (λ x. x) (suc i) q)) (keep p (rowsFrom (λ x. x) (suc i) q))) ≡ f i ++ flatMap f (rowsFrom (λ x. x) (suc i) q)
+    step true e rest = ap (λ m. f i ++ m) rest
+    step false e rest = rest ∙ sym (ap (λ m. m ++ flatMap f (rowsFrom (λ x. x) (suc i) q)) (none i (omega arith) e))
 
+module _ {A : Type 0} {B : Type 0} where
   pub map-flat : {C : Type 0} (g : B → C) (f : A → List B) (l : List A) → map g (flatMap f l) ≡ flatMap (λ x. map g (f x)) l
   unfolding flatMap
   map-flat g f [] = refl
@@ -143,11 +144,11 @@ module _ (k : Book) (c : Change) (count : ℕ) (rules bodies : List ℕ) (object
       ∙ sym (keep-append (pairSelected k c) (map (pairOf i) ids) (pairsFrom (c .schema .types) (c .end) (suc i) (rowsFrom (ruleRow rules bodies) (suc i) q)))
 
   -- The codes of the rules that may have a pair are the selected pairs.
-  pub all-pairs : (may : ℕ → Bool) → ((i : ℕ) → may i ≡ false → ruleCodes c rules bodies objects m i ≡ [])
+  pub all-pairs : (may : ℕ → Bool) → ((i : ℕ) → i < count → may i ≡ false → ruleCodes c rules bodies objects m i ≡ [])
       → map (pairAt objects) (flatMap (ruleCodes c rules bodies objects m) (keep may (readRows (λ x. x) count))) ≡ selectedPairs k c
   unfolding selectedPairs contextPairs
   all-pairs may none =
-      ap (map (pairAt objects)) (flat-keep (ruleCodes c rules bodies objects m) may (readRows (λ x. x) count) none)
+      ap (map (pairAt objects)) (flat-keep (ruleCodes c rules bodies objects m) may 0 count (λ i h. none i (omega arith)))
       ∙ map-flat (pairAt objects) (ruleCodes c rules bodies objects m) (readRows (λ x. x) count)
       ∙ rules-from 0 count (omega arith)
       ∙ ap₂ (λ ts rs. keep (pairSelected k c) (pairsFrom ts (c .end) 0 rs)) (sym types-are) (sym rules-are)

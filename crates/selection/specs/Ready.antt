@@ -1,5 +1,5 @@
 -- What the selection is given of a rule: the refusal checks and the index give it.
-use Prim.Native.Nat.{ℕ, _+_, _<_}
+use Prim.Native.Nat.{ℕ, _<_}
 use mathlib.Core.Path.{_≡_}
 use mathlib.Core.Bool.{Bool, true, false}
 use mathlib.Core.List.{List, [], _∷_}
@@ -18,12 +18,15 @@ use Rattle.trace.specs.Traces.{Traced}
 use Rattle.going_back.specs.Back.{candidate}
 use Rattle.going_back.specs.Walkable.{BodyAble}
 
--- its body is whole and well typed, and the reach rules can be asked at each object's row
+-- its body is whole, and the reach rules can be asked of it at each object's row
 pub record RuleReady (n : Counts) (types objects links index rules bodies starts : List ℕ) (rule : ℕ) : Type 0 where
   pub schema : Schema
   pub whole : T (wholeBody (bodyOf bodies rule) (wordAt rules 2 rule 1))
-  pub typed : T (wellTyped schema ((ruleRow rules bodies rule) .context ∷ []) ((ruleRow rules bodies rule) .body))
   pub able : BodyAble schema (siteOf n types objects links index bodies rule) starts (wordAt rules 2 rule 1)
+
+-- it is well typed by the schema of a batch
+abbrev pub TypedBy : Change → List ℕ → List ℕ → ℕ → Type 0
+TypedBy c rules bodies rule = T (wellTyped (c .schema) ((ruleRow rules bodies rule) .context ∷ []) ((ruleRow rules bodies rule) .body))
 
 -- the marks have every candidate of the rule
 abbrev pub Marked : Counts → List ℕ → List ℕ → List ℕ → List ℕ → List ℕ → List ℕ → List ℕ → ℕ → List Bool → Type 0

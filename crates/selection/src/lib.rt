@@ -1,2 +1,71 @@
 // Which pairs of a rule and an object a batch selects.
 mod rule;
+
+use rule::select_rule;
+use tables::Counts;
+ghost use mathlib.Core.Path.{_≡_};
+ghost use mathlib.Core.Bool.{Bool};
+ghost use mathlib.Core.List.{[], flatMap};
+ghost use Prim.Native.Nat.{ℕ, _*_, _≤_};
+ghost use lib.ListN.{length, take};
+ghost use Rattle.meaning.specs.Lists.{keep};
+ghost use Rattle.meaning.specs.Reach.{Change};
+ghost use Rattle.rows.specs.Rows.{readRows};
+ghost use Rattle.tables.specs.Columns.{schemaOf};
+ghost use Rattle.tables.specs.Layouts.{sheetOf};
+ghost use Rattle.trace.specs.Traces.{Traced, Traces};
+ghost use Rattle.bits.specs.Bits.{bitsIn};
+ghost use Rattle.full_search.specs.Search.{Clear};
+ghost use Rattle.selection.specs.Selected.{ruleCodes};
+
+// The codes of the selected pairs of the touched rules, which are the bits of a word: trailing zeros give the next rule, and the count of ones says how many
+// remain. The answer is how many codes there are.
+pub fn select(
+    n: Counts,
+    types: &[u32],
+    relationships: &[u32],
+    rules: &[u32],
+    bodies: &[u32],
+    objects: &[u32],
+    links: &[u32],
+    index: &[u16; 81920],
+    events: &[u32],
+    trace: &[u16; 2593],
+    touched: u32,
+    chosen: &mut [u16],
+) -> u32
+    requires { ⌜ (Clear n (sheetOf (now types) (now relationships) (now rules) (now bodies) (now objects) (now links) []) (now index))
+        × (Traces n (now types) (now objects) (now links) (now events) (now trace))
+        × ((may : ℕ → Bool) × (bitsIn touched ≡ keep may (readRows (λ i. i) (n .rules)))) × (length (now chosen) ≡ 32768) ⌝ }
+    ensures { λ r. ⌜ (length (now (chosen .exit)) ≡ length (now (chosen .entry))) × (r ≤ n .rules * 1024)
+        × ((c : Change) → Traced c n (now (types .entry)) (now (objects .entry)) (now (links .entry)) (now (events .entry)) (now (trace .entry))
+        → c .schema ≡ schemaOf (n .types) (now (types .entry)) (n .relationships) (now (relationships .entry))
+        → take r (now (chosen .exit)) ≡ flatMap (ruleCodes c (now (rules .entry)) (now (bodies .entry)) (now (objects .entry)) (n .objects)) (bitsIn touched)) ⌝ }
+{
+    let mut sets = [false; 65536];
+    let mut left = touched;
+    let mut remaining = bits::count(touched);
+    let mut count: u32 = 0;
+    while 0 < remaining {
+        let rule = bits::lowest(left);
+        count = select_rule(
+            n,
+            types,
+            relationships,
+            rules,
+            bodies,
+            objects,
+            links,
+            index,
+            events,
+            trace,
+            rule,
+            &mut sets,
+            count,
+            chosen,
+        );
+        left = bits::rest(left);
+        remaining -= 1;
+    }
+    count
+}

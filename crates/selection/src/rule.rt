@@ -8,18 +8,18 @@ use reach::ask;
 use reach::forward::moved;
 use tables::Counts;
 ghost use mathlib.Core.Path.{_≡_};
-ghost use mathlib.Core.Bool.{Bool, false, _&&_, _||_, not};
+ghost use mathlib.Core.Bool.{_&&_, _||_, not};
 ghost use mathlib.Core.List.{[], _++_};
 ghost use Prim.Native.Nat.{ℕ, _+_, _*_, _≤_, _<_};
-ghost use lib.ListN.{length, getD, take};
+ghost use lib.ListN.{length, take, set};
 ghost use Rattle.meaning.specs.Reach.{Change, quiet, inserted, specialised, selected};
-ghost use Rattle.tables.specs.Columns.{ruleRow};
+ghost use Rattle.tables.specs.Columns.{ruleRow, schemaOf};
 ghost use Rattle.tables.specs.Layouts.{sheetOf};
 ghost use Rattle.ocl.specs.Site.{idIn};
 ghost use Rattle.trace.specs.Traces.{Traced, Traces};
 ghost use Rattle.full_search.specs.Search.{Clear};
 ghost use Rattle.selection.specs.Selected.{ruleCodes};
-ghost use Rattle.selection.specs.Ready.{RuleReady, Marked};
+ghost use Rattle.selection.specs.Ready.{RuleReady, TypedBy, Marked};
 
 // Whether an insert or a special brought the object in a row into a type; an insert does not count where the body is quiet.
 fn brought_in(
@@ -91,17 +91,7 @@ fn selected_at(
     if !schema::under(n.types, types, register::type_of(objects, row), context) {
         return false;
     }
-    if brought_in(
-        n,
-        types,
-        objects,
-        links,
-        events,
-        trace,
-        context,
-        still,
-        row,
-    ) {
+    if brought_in(n, types, objects, links, events, trace, context, still, row) {
         return true;
     }
     let mut vs = [0u32; 64];
@@ -120,5 +110,177 @@ fn selected_at(
         &vs,
         body,
         DOWN,
+    )
+}
+
+// The same, asked only where the row is marked.
+fn chosen_at(
+    n: Counts,
+    types: &[u32],
+    objects: &[u32],
+    links: &[u32],
+    index: &[u16; 81920],
+    rules: &[u32],
+    bodies: &[u32],
+    spans: &[u32; 65],
+    events: &[u32],
+    trace: &[u16; 2593],
+    rule: u32,
+    still: bool,
+    marks: &[bool; 1024],
+    row: u32,
+) -> bool
+    requires { ⌜ (RuleReady n (now types) (now objects) (now links) (now index) (now rules) (now bodies) (now spans) rule)
+        × (Traces n (now types) (now objects) (now links) (now events) (now trace))
+        × (still ≡ quiet ((ruleRow (now rules) (now bodies) rule) .body))
+        × (Marked n (now types) (now objects) (now links) (now events) (now trace) (now rules) (now bodies) rule (now marks)) × (row < n .objects) ⌝ }
+    ensures { λ r. ⌜ ((c : Change) → Traced c n (now (types .entry)) (now (objects .entry)) (now (links .entry)) (now (events .entry)) (now (trace .entry))
+        → TypedBy c (now (rules .entry)) (now (bodies .entry)) rule → r ≡ selected c (ruleRow (now (rules .entry)) (now (bodies .entry)) rule) (idIn (now (objects .entry)) row)) ⌝ }
+{
+    let at = row as usize;
+    if !marks[at] {
+        return false;
+    }
+    selected_at(
+        n,
+        types,
+        objects,
+        links,
+        index,
+        rules,
+        bodies,
+        spans,
+        events,
+        trace,
+        rule,
+        still,
+        row,
+    )
+}
+
+// A code at its place.
+fn put(chosen: &mut [u16], at: u32, code: u32)
+    requires { ⌜ (at < length (now chosen)) × (code < 65536) ⌝ }
+    ensures { λ _. ⌜ now (chosen .exit) ≡ set (now (chosen .entry)) at code ⌝ }
+{
+    let place = at as usize;
+    chosen[place] = code as u16;
+}
+
+// Puts the codes of the rows at which a rule is selected after those that are there; the answer is how many there are then.
+fn choose(
+    n: Counts,
+    types: &[u32],
+    objects: &[u32],
+    links: &[u32],
+    index: &[u16; 81920],
+    rules: &[u32],
+    bodies: &[u32],
+    spans: &[u32; 65],
+    events: &[u32],
+    trace: &[u16; 2593],
+    rule: u32,
+    still: bool,
+    marks: &[bool; 1024],
+    at: u32,
+    chosen: &mut [u16],
+) -> u32
+    requires { ⌜ (RuleReady n (now types) (now objects) (now links) (now index) (now rules) (now bodies) (now spans) rule)
+        × (Traces n (now types) (now objects) (now links) (now events) (now trace))
+        × (still ≡ quiet ((ruleRow (now rules) (now bodies) rule) .body))
+        × (Marked n (now types) (now objects) (now links) (now events) (now trace) (now rules) (now bodies) rule (now marks))
+        × (rule < 32) × (at ≤ rule * 1024) × (length (now chosen) ≡ 32768) ⌝ }
+    ensures { λ r. ⌜ (length (now (chosen .exit)) ≡ length (now (chosen .entry))) × (r ≤ at + n .objects)
+        × ((c : Change) → Traced c n (now (types .entry)) (now (objects .entry)) (now (links .entry)) (now (events .entry)) (now (trace .entry))
+        → TypedBy c (now (rules .entry)) (now (bodies .entry)) rule
+        → take r (now (chosen .exit)) ≡ take at (now (chosen .entry)) ++ ruleCodes c (now (rules .entry)) (now (bodies .entry)) (now (objects .entry)) (n .objects) rule) ⌝ }
+{
+    let mut count = at;
+    let mut row: u32 = 0;
+    while row < n.objects {
+        if chosen_at(
+            n,
+            types,
+            objects,
+            links,
+            index,
+            rules,
+            bodies,
+            spans,
+            events,
+            trace,
+            rule,
+            still,
+            marks,
+            row,
+        ) {
+            put(chosen, count, rule * 1024 + row);
+            count += 1;
+        }
+        row += 1;
+    }
+    count
+}
+
+// Puts the codes of a rule's selected pairs after those that are there; the answer is how many there are then. The sets are room for going back, whatever
+// they hold.
+pub fn select_rule(
+    n: Counts,
+    types: &[u32],
+    relationships: &[u32],
+    rules: &[u32],
+    bodies: &[u32],
+    objects: &[u32],
+    links: &[u32],
+    index: &[u16; 81920],
+    events: &[u32],
+    trace: &[u16; 2593],
+    rule: u32,
+    sets: &mut [bool],
+    at: u32,
+    chosen: &mut [u16],
+) -> u32
+    requires { ⌜ (Clear n (sheetOf (now types) (now relationships) (now rules) (now bodies) (now objects) (now links) []) (now index))
+        × (Traces n (now types) (now objects) (now links) (now events) (now trace))
+        × (rule < n .rules) × (at ≤ rule * 1024) × (length (now chosen) ≡ 32768) × (length (now sets) ≡ 65536) ⌝ }
+    ensures { λ r. ⌜ (length (now (chosen .exit)) ≡ length (now (chosen .entry))) × (length (now (sets .exit)) ≡ length (now (sets .entry))) × (r ≤ at + 1024)
+        × ((c : Change) → Traced c n (now (types .entry)) (now (objects .entry)) (now (links .entry)) (now (events .entry)) (now (trace .entry))
+        → c .schema ≡ schemaOf (n .types) (now (types .entry)) (n .relationships) (now (relationships .entry))
+        → take r (now (chosen .exit)) ≡ take at (now (chosen .entry)) ++ ruleCodes c (now (rules .entry)) (now (bodies .entry)) (now (objects .entry)) (n .objects) rule) ⌝ }
+{
+    let size = rows::word(rules, 2, rule, 1);
+    let spans = scan(bodies, rule, size);
+    let starts = spans.starts;
+    let still = quiet(bodies, &starts, rule, size);
+    let marks = candidates(
+        n,
+        types,
+        objects,
+        links,
+        index,
+        rules,
+        bodies,
+        &starts,
+        events,
+        trace,
+        rule,
+        sets,
+    );
+    choose(
+        n,
+        types,
+        objects,
+        links,
+        index,
+        rules,
+        bodies,
+        &starts,
+        events,
+        trace,
+        rule,
+        still,
+        &marks,
+        at,
+        chosen,
     )
 }

@@ -2,16 +2,13 @@
 -- other call is of a part, which ends before.
 use Prim.Native.Nat.{ℕ, _+_, _-_, _≤_, _<_}
 use mathlib.Core.Path.{_≡_, refl, sym, ap, subst, _∙_}
-use mathlib.Core.Bool.{Bool, false}
-use mathlib.Core.List.{List}
 use mathlib.Core.Option.{some}
 use native.Mathlib.Omega.{arith}
-use lib.ListN.{length, getD, set}
+use lib.ListN.{getD, set}
 use denote.Ref.{now}
 use borrow.Author.Needs.{needs}
 use borrow.Fn.Kinds.{In}
 use borrow.Fn.PlainCycle.{Measures, is, falls, and}
-use Rattle.meaning.specs.Schema.{Schema}
 use Rattle.meaning.specs.Forms.{collection}
 use Rattle.tables.specs.Codes.{operatorOf}
 use Rattle.book.specs.Marks.{firstSort, secondSort}
@@ -394,7 +391,8 @@ module _ (t : ℕ) where
       let s = two-start two in (
         below-then (call .back2 .ensures .0) (last .back3 .ensures .0),
         λ k traced.
-            plain-covers (able s) k (s .args .set) (some-set (asked-of (two-pass two))) (small s) (now (s .args .objects)) (s .args .n .objects) (second-some (two-pass two .before)) (to-second (two-pass two)) (first-some two) refl (to-first (call .before .before)) (few s) (shape .before .if6 .left) (call .back2 .ensures .1 k traced) (last .back3 .ensures .0) (λ q. last .before .before .if7 .taken (binds shape ∙ q)) (last .back3 .ensures .1 k traced),
+            plain-covers (able s) k (s .args .set) (some-set (asked-of (two-pass two))) (small s) (now (s .args .objects)) (s .args .n .objects)
+            (second-some (two-pass two .before)) (to-second (two-pass two)) (first-some two) refl (to-first (call .before .before)) (few s) (shape .before .if6 .left) (call .back2 .ensures .1 k traced) (last .back3 .ensures .0) (λ q. last .before .before .if7 .taken (binds shape ∙ q)) (last .back3 .ensures .1 k traced),
       )
 
   back-over-requires : back-lts.Need-over-requires (back-calls t) (back-at t) back.Post
@@ -419,7 +417,8 @@ module _ (t : ℕ) where
       let s = two-start two in (
         below-then (call .back2 .ensures .0) (last .over .ensures .0),
         λ k traced.
-            over-covers (able s) k (s .args .set) (some-set (asked-of (two-pass two))) (small s) (now (s .args .objects)) (s .args .n .objects) (second-some (two-pass two .before)) (to-second (two-pass two)) (first-some two) refl (to-first (call .before .before)) (few s) (shape .before .if6 .left) (call .back2 .ensures .1 k traced) (last .over .ensures .0) (sym (binds shape) ∙ last .before .before .if7 .left) (last .over .ensures .1 k traced),
+            over-covers (able s) k (s .args .set) (some-set (asked-of (two-pass two))) (small s) (now (s .args .objects)) (s .args .n .objects)
+            (second-some (two-pass two .before)) (to-second (two-pass two)) (first-some two) refl (to-first (call .before .before)) (few s) (shape .before .if6 .left) (call .back2 .ensures .1 k traced) (last .over .ensures .0) (sym (binds shape) ∙ last .before .before .if7 .left) (last .over .ensures .1 k traced),
       )
 
   -- ---- places of `over`
@@ -474,7 +473,7 @@ module _ (t : ℕ) where
       let h = oable s .positive in
       let part = oable s .inner row (set vars (s .args .at .2) row) refl (oable s .first .there 0 (s .pre .1 .0 .self)) in
       let walkable : Walkable (osite s) (now (s .args .spans)) (s .args .at .1 - 1) (s .args .at .2 + 1) = record { schema = s .pre .1 .0 .schema; vars = set vars (s .args .at .2) row; able = part; self = omega arith } in
-      (omega (arith, s .pre .0), (walkable, s .pre .1 .1, s .pre .1 .2, at .clear .ensures .long ∙ s .pre .1 .3))
+      (omega (arith, s .pre .0), (walkable, s .pre .1 .1, omega (arith, s .pre .1 .2), at .clear .ensures .long ∙ s .pre .1 .3))
 
   over-same-length : over-lts.Need-same-length (over-calls t) (over-at t) over.Post
   over-same-length c = search needs
@@ -514,13 +513,19 @@ module _ (t : ℕ) where
         λ k traced.
             let inner = call .back .ensures .1 k traced in
             covered-then (ofew s) (left .if1 .left) (covered-less inner) grown
-            (led .image .ensures .1 k (traced .seen .end-is) (reachedBy k (formAt (osite s) (s .args .at .1 - 1)) (depth + 1) (s .args .set) depth) (λ row h e. inner .each (left .if1 .left) depth (omega arith) row h e)),
+            (led .image .ensures .1 k (traced .seen .end-is) (reachedBy k (formAt (osite s) (s .args .at .1 - 1)) (depth + 1) (s .args .dirs) depth) (λ row h e. inner .each (left .if1 .left) depth (omega arith) row h e)),
       )
 
 pub +back+over-spec : {M : Type 1} → statement M
 +back+over-spec =
     close μ-back μ-over
     (λ t. back-lts.spec (back-calls t) (back-at t) back.Post
-    (back-returns t) (back-sub-row t) (back-field-requires t) (back-field-requires-2 t) (back-shape-requires t) (back-field-requires-3 t) (back-leaf-requires t) (back-same-length t) (back-returns-2 t) (back-pass-requires t) (back-shape-requires-2 t) (back-back-requires t) (back-same-length-2 t) (back-returns-3 t) (back-same-length-3 t) (back-returns-4 t) (back-members-requires t) (back-same-length-4 t) (back-returns-5 t) (back-cast-from t) (back-mul-if7 t) (back-element-copy-out-if7 t) (back-pass-requires-2 t) (back-back-requires-2 t) (back-same-length-5 t) (back-returns-6 t) (back-shape-requires-3 t) (back-back-requires-3 t) (back-same-length-6 t) (back-returns-7 t) (back-over-requires t) (back-same-length-7 t) (back-returns-8 t))
+    (back-returns t) (back-sub-row t) (back-field-requires t) (back-field-requires-2 t) (back-shape-requires t) (back-field-requires-3 t)
+    (back-leaf-requires t) (back-same-length t) (back-returns-2 t) (back-pass-requires t) (back-shape-requires-2 t) (back-back-requires t)
+    (back-same-length-2 t) (back-returns-3 t) (back-same-length-3 t) (back-returns-4 t) (back-members-requires t) (back-same-length-4 t)
+    (back-returns-5 t) (back-cast-from t) (back-mul-if7 t) (back-element-copy-out-if7 t) (back-pass-requires-2 t) (back-back-requires-2 t)
+    (back-same-length-5 t) (back-returns-6 t) (back-shape-requires-3 t) (back-back-requires-3 t) (back-same-length-6 t) (back-returns-7 t)
+    (back-over-requires t) (back-same-length-7 t) (back-returns-8 t))
     (λ t. over-lts.spec (over-calls t) (over-at t) over.Post
-    (over-sub-row t) (over-clear-requires t) (over-add-t22 t) (over-back-requires t) (over-same-length t) (over-returns t) (over-cast-from t) (over-mul-t26 t) (over-element-copy-out-t22 t) (over-image-requires t) (over-same-length-2 t) (over-returns-2 t))
+    (over-sub-row t) (over-clear-requires t) (over-add-t22 t) (over-back-requires t) (over-same-length t) (over-returns t) (over-cast-from t)
+    (over-mul-t26 t) (over-element-copy-out-t22 t) (over-image-requires t) (over-same-length-2 t) (over-returns-2 t))

@@ -70,8 +70,8 @@ put-back-requires c κs =
     let v = turn .before .before in
     let s = begin (v .before .before) in
     let ready = s .pre .0 .2 in
-    let low = bound (v .before) .0 in
-    (ready .indexed, ready .steady, turn .turned .ensures .1, omega (arith, v .field2 .ensures, s .pre .1), s .pre .2, s .pre .1)
+    let low = bound (v .before) in
+    (ready .indexed, ready .steady, omega (arith, turn .turned .ensures .1, turn .before .field3 .ensures), omega (arith, v .field2 .ensures, s .pre .1), s .pre .2, s .pre .1)
 
 same-length-2 : tie.Need-same-length-2
 same-length-2 c = search needs

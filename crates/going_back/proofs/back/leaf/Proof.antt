@@ -1,7 +1,6 @@
 -- `going_back::back::leaf` meets its contract, by the laws of Leaves.
 use Prim.Native.Nat.{_<_}
 use native.Mathlib.Omega.{arith}
-use denote.Ref.{now}
 use borrow.Author.Needs.{needs}
 use Rattle.going_back.proofs.Growth.{grown-none}
 use Rattle.going_back.proofs.Leaves.{leaf-all, leaf-num, leaf-cell, leaf-role, leaf-kind}

@@ -1,6 +1,19 @@
 -- `selection::rule::selected_at` meets its contract.
-use mathlib.Core.Path.{refl, sym, _∙_}
+use mathlib.Core.Path.{_≡_, refl, ap, ap₂, _∙_}
+use denote.Ref.{now}
 use borrow.Author.Tests.{not-true, not-false}
+use Prim.Native.Nat.{ℕ}
+use mathlib.Core.List.{List, _∷_}
+use lib.Dec.{lit<}
+use lib.ListN.{replicate}
+use mathlib.Core.Bool.{_&&_, _||_, not}
+use Rattle.meaning.specs.Schema.{under}
+use Rattle.meaning.specs.Reach.{Change, inserted, specialised, broughtIn}
+use Rattle.rows.specs.Rows.{wordAt}
+use Rattle.tables.specs.Columns.{typesOf, objectRow, ruleRow}
+use Rattle.ocl.specs.Site.{siteOf, idIn}
+use Rattle.trace.specs.Traces.{Traced}
+use Rattle.reach.specs.Moves.{movesAt}
 use Rattle.selection.proofs.Asked.{not-under, was-brought, body-moved}
 use borrow.Author.Needs.{needs}
 use Rattle.selection.proofs.rule.selected_at.Statement.{statement}
@@ -15,14 +28,43 @@ type-of-requires c κs = search needs
 under-requires : tie.Need-under-requires
 under-requires c κs = search needs
 
+-- whether the object is under the context type, as it is asked
+inside : (c : tie.After-under)
+    → let a = c .before .before .before .before .before .before .before .before .before .args in
+    c .under .result ≡ under (typesOf (a .n .types) (now (a .types))) ((objectRow (now (a .objects)) (a .row)) .type) (wordAt (now (a .rules)) 2 (a .rule) 0)
+inside c =
+    let a = c .before .before .before .before .before .before .before .before .before .args in
+    c .under .ensures ∙ ap₂ (λ t u. under (typesOf (a .n .types) (now (a .types))) t u) (c .before .type-of .ensures) (c .before .before .word .ensures)
+
 returns : tie.Need-returns
-returns c = ?
+returns c = λ k traced.
+    let s = c .before .before .before .before .before .before .before .before .before .before in
+    let a = s .args in
+    not-under traced (now (a .index)) (now (a .rules)) (now (a .bodies)) (a .rule) (s .pre .3) (inside (c .before)) (not-true (c .before .under .result) (c .if1 .taken))
 
 brought-in-requires : tie.Need-brought-in-requires
 brought-in-requires c κs = search needs
 
+-- whether it was brought in, as it is asked
+brought : (c : tie.After-brought-in) (k : Change)
+    → let s = c .before .before .before .before .before .before .before .before .before .before .before in
+    let a = s .args in
+    Traced k (a .n) (now (a .types)) (now (a .objects)) (now (a .links)) (now (a .events)) (now (a .trace))
+    → c .brought-in .result ≡ broughtIn k (ruleRow (now (a .rules)) (now (a .bodies)) (a .rule)) (idIn (now (a .objects)) (a .row))
+unfolding broughtIn ruleRow
+brought c k traced =
+    let word = c .before .before .before .before in
+    let s = word .before .before .before .before .before .before .before in
+    let u = idIn (now (s .args .objects)) (s .args .row) in
+    c .brought-in .ensures k traced ∙ ap₂ (λ t q. (inserted k u t && not q) || specialised k u t) (word .word .ensures) (s .pre .2)
+
 returns-2 : tie.Need-returns-2
-returns-2 c = ?
+returns-2 c = λ k traced.
+    let tested = c .before .before .before in
+    let s = tested .before .before .before .before .before .before .before .before .before in
+    let a = s .args in
+    was-brought traced (now (a .index)) (now (a .rules)) (now (a .bodies)) (a .rule) (s .pre .3) (inside tested) (not-false (tested .under .result) (c .before .before .if1 .left))
+    (brought (c .before) k traced) (c .if2 .taken)
 
 array-write-vs : tie.Need-array-write-vs
 array-write-vs c = search needs
@@ -31,10 +73,20 @@ word-requires-2 : tie.Need-word-requires-2
 word-requires-2 c κs = search needs
 
 moved-requires : tie.Need-moved-requires
-moved-requires c κs = ?
+moved-requires c κs =
+    let s = c .before .before .before .before .before .before .before .before .before .before .before .before .before .before in
+    ((s .pre .0 .schema, rw (c .before .word2 .ensures) (s .pre .0 .able (s .args .row) (s .pre .3) _ refl refl)), s .pre .1, lit< tt)
 
 returns-3 : tie.Need-returns-3
-returns-3 c = ?
+returns-3 c = λ k traced.
+    let judged = c .before .before .before in
+    let tested = judged .before .before .before in
+    let s = tested .before .before .before .before .before .before .before .before .before in
+    let a = s .args in
+    let vars : List ℕ = a .row ∷ replicate 63 0 in
+    body-moved traced (now (a .index)) (now (a .rules)) (now (a .bodies)) (a .rule) (s .pre .3) (inside tested) (not-false (tested .under .result) (judged .before .before .if1 .left))
+    (brought (judged .before) k traced) (judged .if2 .left) (s .pre .0 .whole) vars refl
+    (c .moved .ensures k traced ∙ ap (λ e. movesAt k (siteOf (a .n) (now (a .types)) (now (a .objects)) (now (a .links)) (now (a .index)) (now (a .bodies)) (a .rule)) e vars 1 2) (c .before .before .word2 .ensures))
 
 pub selected-at-spec : {M : Type 1} → statement M
 selected-at-spec =

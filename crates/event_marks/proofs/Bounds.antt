@@ -1,22 +1,27 @@
 -- Each event type that a well-typed rule lists has a place among the marks: its type or relationship is one of 32, its cell one of 8.
-use Prim.Native.Nat.{ℕ, _≤_, _<_}
-use mathlib.Core.Path.{_≡_, ap}
+use Prim.Native.Nat.{ℕ, _+_, _*_, _/_, _%_, _≤_, _<_}
+use mathlib.Core.Path.{_≡_, refl, ap, _∙_}
 use mathlib.Core.Logic.{⊎-elim}
 use mathlib.Core.Bool.{Bool, true, false, _&&_, cond}
 use mathlib.Core.List.{List, [], _∷_, _++_, foldr, List·Memᴰ·head, List·Memᴰ·tail}
-use mathlib.Core.Option.{none}
+use mathlib.Core.Option.{none, some}
 use native.Mathlib.Omega.{arith}
-use lib.Dec.{T, ltb}
-use lib.ListN.{length, getD, List·getD-eq-default}
-use mir.Facts.{and-yes, yes-and, ltb-yes, yes-ltb, ltb-no}
-use Rattle.meaning.specs.Lists.{every, putInOrder, _∈_}
-use Rattle.meaning.specs.Limits.{maxTypes, maxRelationships, cellCount}
-use Rattle.meaning.specs.Schema.{ObjectType, Schema, knownType, knownRelationship, knownRole, typeAt, cellsOf, hasParent, under, relationshipOf, nearType}
-use Rattle.meaning.specs.Forms.{Sort, Form, compare, negate, connect, quantify, kind, num, cell, size, sum, combine, role, all, select, bind, variable, memberType, wellTyped, Rule}
+use lib.Dec.{T, ltb, leb}
+use lib.ListN.{length, getD, getElem?, List·getD-eq-default}
+use mir.Facts.{and-yes, yes-and, ltb-yes, yes-ltb, ltb-no, T-not-not}
+use Rattle.meaning.specs.Lists.{every, firstOf, putInOrder, _∈_}
+use Rattle.meaning.specs.Limits.{maxTypes, maxRelationships, maxForms, cellCount}
+use Rattle.meaning.specs.Schema.{ObjectType, Schema, knownType, knownRelationship, knownRole, typeAt, cellsOf, hasParent, under, relationshipOf, nearType, typeFault, relationshipFault}
+use Rattle.meaning.specs.Forms.{Sort, Form, compare, negate, connect, quantify, kind, num, cell, size, sum, combine, role, all, select, bind, variable, memberType, wellTyped, formCount, Rule, Book, faultyRule, ruleFault}
 use Rattle.meaning.specs.Reach.{Direction, up, down, opposite, Passing, same, reversed, either, through, leftOf, rightOf, firstTruth, secondTruth, sourceOf, secondTerm, quiet}
 use Rattle.meaning.specs.EventList.{EventType, insertOf, deleteOf, setOf, joinOf, partOf, specialOf, generalOf, eventTypeWords, whereParent, roleLists, allLists, kindLists, lists, contextLists, eventList}
-use Rattle.meaning.proofs.Lists.{decide, every-at, every-append}
-use Rattle.meaning.proofs.Order.{put-from}
+use Rattle.meaning.specs.Answers.{refusalAt, bookRefusal}
+use Rattle.meaning.proofs.Lists.{decide, first-of-none, every-at, every-append}
+use Rattle.meaning.proofs.Order.{put-from, fault-none}
+use Rattle.meaning.proofs.Schemas.{types-fit}
+use Rattle.meaning.proofs.Touched.{three-words}
+use Rattle.meaning.proofs.Agreement.{refusal-at-none}
+use Rattle.event_marks.specs.Marks.{places, wordsAt}
 
 -- its three words are below 7, 32 and 8
 abbrev pub placed : EventType → Bool
@@ -160,3 +165,52 @@ module _ (S : Schema) (few-types : length (S .types) ≤ maxTypes) (few-relation
       every-at placed
       (both-placed (lists S (r .body) (r .context ∷ []) down) (contextLists S r) (lists-placed (r .body) (r .context ∷ []) typed down) (context-placed r known))
       (sorted-from (lists S (r .body) (r .context ∷ []) down ++ contextLists S r) m)
+
+-- ---- a rule of a book
+
+module _ (k : Book) (clear : bookRefusal k ≡ none) (few-types : length (k .schema .types) ≤ maxTypes) (few-relationships : length (k .schema .relationships) ≤ maxRelationships) where
+  abbrev S : Schema
+  S = k .schema
+
+  book-parts : ((typeFault (S .types) ≡ none) × (relationshipFault S ≡ none)) × (ruleFault k ≡ none)
+  unfolding bookRefusal
+  book-parts =
+      let parts = first-of-none (refusalAt 3 (firstOf (typeFault (S .types)) (relationshipFault S))) (refusalAt 4 (ruleFault k)) clear in
+      (first-of-none (typeFault (S .types)) (relationshipFault S) (refusal-at-none 3 _ (parts .0)), refusal-at-none 4 (ruleFault k) (parts .1))
+
+  -- a rule of a book that is not refused lists nothing that has no place
+  pub book-placed : (n : ℕ) (r : Rule) → getElem? (k .rules) n ≡ some r → (e : EventType) → e ∈ eventList S r → T (placed e)
+  unfolding ruleFault faultyRule
+  book-placed n r there =
+      let known = knownType (S .types) (r .context) in
+      let typed = wellTyped S (r .context ∷ []) (r .body) in
+      let fits = T-not-not (known && typed && leb (formCount (r .body)) maxForms) (fault-none (faultyRule S) (k .rules) (book-parts .1) n r there .1) in
+      let good = and-yes known typed (and-yes (known && typed) (leb (formCount (r .body)) maxForms) fits .0) in
+      rule-placed S few-types few-relationships (types-fit (S .types) (book-parts .0 .0) .cells-bound) r (good .0) (good .1)
+
+-- ---- the place
+
+three : (w : List ℕ) → length w ≡ 3 → w ≡ getD w 0 0 ∷ getD w 1 0 ∷ getD w 2 0 ∷ []
+three [] e = absurd (omega arith)
+three (a ∷ []) e = absurd (omega arith)
+three (a ∷ b ∷ []) e = absurd (omega arith)
+three (a ∷ b ∷ c ∷ []) e = refl
+three (a ∷ b ∷ c ∷ d ∷ w) e = absurd (omega arith)
+
+-- the place of an event type
+pub placeOf : List ℕ → ℕ
+placeOf w = (getD w 0 0 * 32 + getD w 1 0) * 8 + getD w 2 0
+
+pub place-found : (e : EventType) → T (placed e) → (placeOf (eventTypeWords e) < places) × (eventTypeWords e ≡ wordsAt (placeOf (eventTypeWords e)))
+unfolding placeOf
+place-found e h =
+    let w = eventTypeWords e in
+    let a = and-yes (ltb (getD w 0 0) 7) _ h in
+    let b = and-yes (ltb (getD w 1 0) 32) (ltb (getD w 2 0) 8) (a .1) in
+    let kind : getD w 0 0 < 7 = ltb-yes (a .0) in
+    let number : getD w 1 0 < 32 = ltb-yes (b .0) in
+    let cell : getD w 2 0 < 8 = ltb-yes (b .1) in
+    let k : getD w 0 0 ≡ placeOf w / 256 = omega arith in
+    let n : getD w 1 0 ≡ placeOf w / 8 % 32 = omega arith in
+    let c : getD w 2 0 ≡ placeOf w % 8 = omega arith in
+    (omega arith, three w (three-words e) ∙ (λ i. k i ∷ n i ∷ c i ∷ []))

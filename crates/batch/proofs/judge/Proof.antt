@@ -1,0 +1,78 @@
+-- `batch::judge` meets its contract.
+use Prim.Native.Nat.{ℕ}
+use mathlib.Core.Path.{refl, _∙_}
+use mathlib.Core.List.{List, []}
+use native.Mathlib.Omega.{arith}
+use denote.Ref.{now}
+use lib.ListN.{length-replicate}
+use Rattle.tables.specs.Layouts.{Sheet, sheetOf}
+use Rattle.full_search.specs.Search.{Clear}
+use Rattle.full_search.proofs.Given.{register-fits, can-index, zeros}
+use Rattle.batch.proofs.Judging.{id-low, no-room, listed}
+use borrow.Author.Needs.{needs}
+use Rattle.batch.proofs.judge.Statement.{statement}
+use Rattle.batch.proofs.judge.Tie as tie
+
+-- the function's entry, and its tables
+abbrev entry : tie.After-index → tie.Start
+entry c = c .before .before .before .before .before .before .before .before .before
+
+abbrev sheet : tie.Start → List ℕ → Sheet
+sheet s events =
+    let a = s .args in
+    sheetOf (now (a .types)) (now (a .relationships)) (now (a .rules)) (now (a .bodies)) (now (a .objects)) (now (a .links)) events
+
+index-requires : tie.Need-index-requires
+index-requires c κs =
+    let s = entry c in
+    let fits = register-fits (s .args .n) (sheet s []) (s .pre .0) in
+    (fits .objects-ascend, fits .links-ascend, can-index (s .args .n) (sheet s []) (s .pre .0), zeros 81920)
+
+slice-aggregate-selected-pairs : tie.Need-slice-aggregate-selected-pairs
+slice-aggregate-selected-pairs c = search needs
+
+selected-pairs-requires : tie.Need-selected-pairs-requires
+selected-pairs-requires c κs =
+    let indexed = c .before .before in
+    let s = entry (indexed .before) in
+    (record { given = s .pre .0; indexed = indexed .index2 .ensures }, s .pre .1, length-replicate {A = ℕ} 32768 0)
+
+cast-if1 : tie.Need-cast-if1
+cast-if1 c = search needs
+
+mul-if1 : tie.Need-mul-if1
+mul-if1 c = omega (arith, c .before .selected-pairs .ensures .1 .few)
+
+returns : tie.Need-returns
+returns c = λ k ended lent words g.
+    let chose = c .before .before in
+    no-room ended lent g _ words (chose .selected-pairs .ensures .1) (chose .selected-pairs .ensures .2 k ended) (c .if1 .taken) refl refl refl
+
+write-requires : tie.Need-write-requires
+write-requires c κs =
+    let test = c .before .before in
+    let chose = test .before .before in
+    let s = entry (chose .before .before .before .before) in
+    (chose .selected-pairs .ensures .1, omega (arith, test .if1 .left), id-low (s .args .n) (sheet s []) (s .pre .0))
+
+search-requires : tie.Need-search-requires
+search-requires c κs =
+    let chose = c .before .before .before .before .before .before .before .before .before in
+    let indexed = chose .before .before .before in
+    let s = entry (indexed .before) in
+    (record { given = s .pre .0; indexed = indexed .index2 .ensures }, chose .selected-pairs .ensures .1)
+
+same-length : tie.Need-same-length
+same-length c = let wrote = c .before .before .before .before .before in wrote .write .kept .1 .1 .1 .1 .0
+
+returns-2 : tie.Need-returns-2
+returns-2 c = λ k ended lent words g.
+    let wrote = c .before .before .before .before .before in
+    let test = wrote .before .before .before in
+    let chose = test .before .before in
+    listed ended lent g _ words (chose .selected-pairs .ensures .1) (chose .selected-pairs .ensures .2 k ended) (test .if1 .left) (c .search .ensures) refl (wrote .write .ensures)
+
+pub judge-spec : {M : Type 1} → statement M
+judge-spec =
+    tie.close
+    (tie.spec index-requires slice-aggregate-selected-pairs selected-pairs-requires cast-if1 mul-if1 returns write-requires search-requires same-length returns-2)

@@ -1,0 +1,93 @@
+-- The codes of the touched rules are those of the selected pairs, and of rules and rows that are there.
+use Prim.Native.Nat.{ℕ, zero, suc, _+_, _*_, _/_, _%_, _≤_, _<_}
+use mathlib.Core.Path.{_≡_, refl, sym, ap, subst, _∙_}
+use mathlib.Core.Bool.{Bool, true, false, _&&_, cond}
+use mathlib.Core.List.{List, [], _∷_, _++_, map, flatMap}
+use native.Mathlib.Omega.{arith}
+use mir.Facts.{and-yes, yes-and, yes-ltb}
+use lib.Dec.{T, ltb, ltb→lt}
+use lib.ListN.{length, getD, take}
+use lib.Seq.{getD-take, length-take-le}
+use Rattle.meaning.specs.Lists.{every, keep}
+use Rattle.meaning.specs.Limits.{maxRules, maxObjects}
+use Rattle.meaning.specs.Schema.{Schema}
+use Rattle.meaning.specs.Reach.{Change, selectedPairs}
+use Rattle.meaning.specs.EventList.{touched}
+use Rattle.meaning.proofs.Lists.{every-append}
+use Rattle.rows.specs.Rows.{rowsFrom, readRows}
+use Rattle.tables.specs.Layouts.{Sheet}
+use Rattle.tables.specs.Columns.{ruleRow, bookOf}
+use Rattle.tables.specs.declared.Counts.{Counts}
+use Rattle.register.specs.Tables.{ObjectsAscend}
+use Rattle.pair_list.specs.Pairs.{codeOf, pairAt, pairsOf, Chosen}
+use Rattle.selection.specs.Selected.{selectedRows, ruleCodes}
+use Rattle.selection.proofs.Codes.{no-codes, all-pairs}
+use Rattle.batch_selection.specs.Ended.{Ended}
+
+-- a code of a rule and a row that are there
+there : Counts → ℕ → Bool
+there n code = ltb (code / maxObjects) (n .rules) && ltb (code % maxObjects) (n .objects)
+
+code-there : (n : Counts) (i j : ℕ) → i < n .rules → j < n .objects → n .objects ≤ maxObjects → T (there n (codeOf i j))
+unfolding there
+code-there n i j h low few =
+    let rule : codeOf i j / maxObjects < n .rules = omega arith in
+    let row : codeOf i j % maxObjects < n .objects = omega arith in
+    yes-and (ltb (codeOf i j / maxObjects) (n .rules)) (ltb (codeOf i j % maxObjects) (n .objects)) (yes-ltb rule) (yes-ltb row)
+
+rows-there : (p : ℕ → Bool) (n : Counts) (i : ℕ) → i < n .rules → n .objects ≤ maxObjects → (j q : ℕ) → j + q ≤ n .objects → T (every (there n) (map (codeOf i) (keep p (rowsFrom (λ x. x) j q))))
+unfolding there
+rows-there p n i h few j zero low = tt
+rows-there p n i h few j (suc q) low = step (p j) (rows-there p n i h few (suc j) q (omega arith))
+  where
+    step : (b : Bool) → T (every (there n) (map (codeOf i) (keep p (rowsFrom (λ x. x) (suc j) q))))
+        → T (every (there n) (map (codeOf i) (cond b (j ∷ keep p (rowsFrom (λ x. x) (suc j) q)) (keep p (rowsFrom (λ x. x) (suc j) q)))))
+    step true rest = yes-and (there n (codeOf i j)) _ (code-there n i j h (omega arith) few) rest
+    step false rest = rest
+
+module _ (c : Change) (n : Counts) (rules bodies objects : List ℕ) (may : ℕ → Bool) (few : n .objects ≤ maxObjects) where
+  codes-there : (i q : ℕ) → i + q ≤ n .rules → T (every (there n) (flatMap (ruleCodes c rules bodies objects (n .objects)) (keep may (rowsFrom (λ x. x) i q))))
+  unfolding flatMap selectedRows
+  codes-there i zero h = tt
+  codes-there i (suc q) h =
+      step (may i) (rows-there _ n i (omega arith) few 0 (n .objects) (omega arith)) (codes-there (suc i) q (omega arith))
+    where
+      step : (b : Bool) → T (every (there n) (ruleCodes c rules bodies objects (n .objects) i))
+          → T (every (there n) (flatMap (ruleCodes c rules bodies objects (n .objects)) (keep may (rowsFrom (λ x. x) (suc i) q))))
+          → T (every (there n) (flatMap (ruleCodes c rules bodies objects (n .objects)) (cond b (i ∷ keep may (rowsFrom (λ x. x) (suc i) q)) (keep may (rowsFrom (λ x. x) (suc i) q)))))
+      step true one rest = every-append (there n) (ruleCodes c rules bodies objects (n .objects) i) _ one rest
+      step false one rest = rest
+
+every-low : (p : ℕ → Bool) (l : List ℕ) (k : ℕ) → k < length l → T (every p l) → T (p (getD l k 0))
+every-low p [] k h t = absurd (omega arith)
+every-low p (x ∷ l) zero h t = and-yes (p x) (every p l) t .0
+every-low p (x ∷ l) (suc k) h t = every-low p l k (omega arith) (and-yes (p x) (every p l) t .1)
+
+-- codes of rules and rows that are there
+pub held : (c : Change) (n : Counts) (rules bodies objects chosen : List ℕ) (may : ℕ → Bool) {count : ℕ}
+    → n .objects ≤ maxObjects → n .rules ≤ maxRules → length chosen ≡ maxRules * maxObjects → count ≤ n .rules * maxObjects
+    → take count chosen ≡ flatMap (ruleCodes c rules bodies objects (n .objects)) (keep may (readRows (λ x. x) (n .rules))) → Chosen n chosen count
+unfolding there
+held c n rules bodies objects chosen may {count} few few-rules long low is =
+    let fits : count ≤ length chosen = omega arith in
+    let in-rules : ℕ → Bool = λ i. ltb (getD chosen i 0 / maxObjects) (n .rules) in
+    let in-rows : ℕ → Bool = λ i. ltb (getD chosen i 0 % maxObjects) (n .objects) in
+    let each : (i : ℕ) → i < count → T (there n (getD chosen i 0)) =
+    λ i h. subst (λ x. T (there n x)) (getD-take count chosen i 0 h)
+    (every-low (there n) (take count chosen) i (omega (arith, length-take-le count chosen fits)) (subst (λ l. T (every (there n) l)) (sym is) (codes-there c n rules bodies objects may few 0 (n .rules) (omega arith)))) in
+    record {
+      long = long;
+      few = omega arith;
+      few-rules = few-rules;
+      rules-there = λ i h. ltb→lt _ _ (and-yes (in-rules i) (in-rows i) (each i h) .0);
+      rows-there = λ i h. ltb→lt _ _ (and-yes (in-rules i) (in-rows i) (each i h) .1);
+    }
+
+-- the pairs of the codes of the touched rules
+pub pairs-are : {c : Change} {n : Counts} {s : Sheet} {met : List ℕ} (e : Ended c n s met) → ObjectsAscend (n .objects) (s .objects) → n .objects ≤ maxObjects → (count : ℕ) (chosen : List ℕ)
+    → take count chosen ≡ flatMap (ruleCodes c (s .rules) (s .bodies) (s .objects) (n .objects)) (keep (λ i. touched c (ruleRow (s .rules) (s .bodies) i)) (readRows (λ x. x) (n .rules)))
+    → pairsOf (s .objects) chosen count ≡ selectedPairs (bookOf n s) c
+pairs-are {c} {n} {s} e ascend few count chosen is =
+    ap (map (pairAt (s .objects))) is
+    ∙ all-pairs (bookOf n s) c (n .rules) (s .rules) (s .bodies) (s .objects) (n .objects) (s .links) (n .links) refl (ap (λ (S : Schema). S .types) (sym (e .schema-is))) (e .seen .end-is) ascend few
+    (λ i. touched c (ruleRow (s .rules) (s .bodies) i)) (λ i h off. no-codes c (s .rules) (s .bodies) (s .objects) (n .objects) i (e .untouched i h off))

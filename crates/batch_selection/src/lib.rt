@@ -1,0 +1,87 @@
+// The selected pairs of a batch that was run, over the register's tables at its end.
+use occurring::mark_events;
+use selection::select;
+use tables::Counts;
+use touched::touched;
+use trace::make;
+ghost use mathlib.Core.Path.{_≡_};
+ghost use mathlib.Core.List.{List, []};
+ghost use Prim.Native.Nat.{ℕ, _≤_};
+ghost use lib.ListN.{length, getD};
+ghost use Rattle.meaning.specs.Limits.{maxEvents};
+ghost use Rattle.meaning.specs.Lists.{keep};
+ghost use Rattle.meaning.specs.Reach.{Change, selectedPairs};
+ghost use Rattle.meaning.specs.EventList.{touched};
+ghost use Rattle.rows.specs.Rows.{readRows};
+ghost use Rattle.tables.specs.Columns.{ruleRow, schemaOf, bookOf};
+ghost use Rattle.tables.specs.Layouts.{sheetOf};
+ghost use Rattle.register.specs.Tables.{ObjectsAscend};
+ghost use Rattle.trace.specs.Traces.{Seen};
+ghost use Rattle.bits.specs.Bits.{bitsIn};
+ghost use Rattle.touched.specs.Books.{BookGiven};
+ghost use Rattle.full_search.specs.Search.{Clear};
+ghost use Rattle.pair_list.specs.Pairs.{pairsOf, Chosen};
+ghost use Rattle.batch_selection.specs.Ended.{Ended};
+
+// The rules that the batch touches, one bit each.
+fn touched_rules(
+    n: Counts,
+    types: &[u32],
+    relationships: &[u32],
+    rules: &[u32],
+    bodies: &[u32],
+    objects: &[u32],
+    events: &[u32],
+    met: &[u32; 256],
+) -> u32
+    requires { ⌜ (BookGiven n (now types) (now relationships) (now rules) (now bodies)) × (ObjectsAscend (n .objects) (now objects)) × (n .events ≤ maxEvents) ⌝ }
+    ensures { λ r. ⌜ ((c : Change) (links : List ℕ)
+        → Seen c n (now (types .entry)) (now (objects .entry)) links (now (events .entry)) (λ i. getD (now (met .entry)) i 0)
+        → c .schema ≡ schemaOf (n .types) (now (types .entry)) (n .relationships) (now (relationships .entry))
+        → bitsIn r ≡ keep (λ i. touched c (ruleRow (now (rules .entry)) (now (bodies .entry)) i)) (readRows (λ i. i) (n .rules))) ⌝ }
+{
+    let mut marks = [false; 1792];
+    mark_events(n, types, objects, events, met, &mut marks);
+    touched(n, types, relationships, rules, bodies, &marks)
+}
+
+// The codes of the selected pairs, ascending; the answer is how many there are.
+pub fn selected_pairs(
+    n: Counts,
+    types: &[u32],
+    relationships: &[u32],
+    rules: &[u32],
+    bodies: &[u32],
+    objects: &[u32],
+    links: &[u32],
+    index: &[u16; 81920],
+    events: &[u32],
+    met: &[u32; 256],
+    chosen: &mut [u16],
+) -> u32
+    requires { ⌜ (Clear n (sheetOf (now types) (now relationships) (now rules) (now bodies) (now objects) (now links) []) (now index))
+        × ((c : Change) × Ended c n (sheetOf (now types) (now relationships) (now rules) (now bodies) (now objects) (now links) (now events)) (now met))
+        × (length (now chosen) ≡ 32768) ⌝ }
+    ensures { λ r. ⌜ (let s = sheetOf (now (types .entry)) (now (relationships .entry)) (now (rules .entry)) (now (bodies .entry)) (now (objects .entry)) (now (links .entry)) (now (events .entry)) in
+        (length (now (chosen .exit)) ≡ length (now (chosen .entry)))
+        × (Chosen n (now (chosen .exit)) r)
+        × ((c : Change) → Ended c n s (now (met .entry)) → pairsOf (now (objects .entry)) (now (chosen .exit)) r ≡ selectedPairs (bookOf n s) c)) ⌝ }
+{
+    let mut trace = [0u16; 2593];
+    make(n, types, objects, links, events, met, &mut trace);
+    let rules_touched = touched_rules(n, types, relationships, rules, bodies, objects, events, met);
+    select(
+        n,
+        types,
+        relationships,
+        rules,
+        bodies,
+        objects,
+        links,
+        index,
+        events,
+        &trace,
+        rules_touched,
+        chosen,
+    )
+}

@@ -1,0 +1,29 @@
+-- `selection::rule::chosen_at` meets its contract.
+use denote.Ref.{now}
+use borrow.Author.Tests.{not-true}
+use native.Mathlib.Omega.{arith}
+use Rattle.selection.proofs.Asked.{unmarked}
+use Rattle.selection.proofs.rule.chosen_at.Statement.{statement}
+use Rattle.selection.proofs.rule.chosen_at.Tie as tie
+
+element-copy-out-if1 : tie.Need-element-copy-out-if1
+element-copy-out-if1 c =
+    let s = c .before .before .before .before .before .before in
+    omega (arith, s .pre .4, s .pre .1 .1 .objects-few)
+
+returns : tie.Need-returns
+returns c = λ k traced typed.
+    let s = c .before .before .before .before .before .before .before .before in
+    let a = s .args in
+    unmarked traced (now (a .rules)) (now (a .bodies)) (a .rule) (now (a .marks)) (s .pre .3) typed (a .row) (s .pre .4) (not-true _ (c .if1 .taken))
+
+selected-at-requires : tie.Need-selected-at-requires
+selected-at-requires c κs =
+    let s = c .before .before .before .before .before .before .before .before in
+    (s .pre .0, s .pre .1, s .pre .2, s .pre .4)
+
+returns-2 : tie.Need-returns-2
+returns-2 c = λ k traced typed. c .selected-at .ensures k traced
+
+pub chosen-at-spec : {M : Type 1} → statement M
+chosen-at-spec = tie.close (tie.spec element-copy-out-if1 returns selected-at-requires returns-2)

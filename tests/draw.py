@@ -1,0 +1,355 @@
+#!/usr/bin/env python3
+"""Draws books, registers and batches: blocks for crates/test_batch, always the same for the same numbers.
+
+    draw.py BOOKS BATCHES        so many books with their registers, and so many batches for each
+
+Parks are small, so that coincidences happen: the same link parted and joined, an id deleted and inserted again. Most rules are drawn until
+they hold, since a batch check promises most from a good register.
+"""
+import sys
+
+import plain
+
+
+class Draw:
+    """Numbers that are the same on every machine and with every version of Python."""
+
+    def __init__(self, seed):
+        self.state = seed
+        for _ in range(4):
+            self.random()
+
+    def random(self):
+        """At least 0 and below 1."""
+        self.state = (self.state * 6364136223846793005 + 1442695040888963407) % 2**64
+        return (self.state >> 11) / 2**53
+
+    def randrange(self, n):
+        return int(self.random() * n)
+
+    def randint(self, least, most):
+        return least + self.randrange(most - least + 1)
+
+    def choice(self, things):
+        return things[self.randrange(len(things))]
+
+    def sample(self, things, count):
+        left = list(things)
+        return [left.pop(self.randrange(len(left))) for _ in range(count)]
+
+
+def pick(draw, weighted):
+    """One of (weight, thing), by weight."""
+    left = draw.random() * sum(w for w, _ in weighted)
+    for w, thing in weighted:
+        left -= w
+        if left < 0:
+            return thing
+    return weighted[0][1]
+
+
+# ---------------------------------------------------------------- books
+
+def schema(draw):
+    book = plain.Book()
+    for t in range(draw.randint(2, 6)):
+        parent = draw.randrange(t) if t and draw.random() < 0.65 else None
+        cells = (0 if parent is None else book.cells(parent)) + pick(draw, [(2, 0), (4, 1), (2, 2)])
+        book.types.append((parent, min(cells, 8)))
+    for _ in range(draw.randint(1, 3)):
+        s = draw.randrange(len(book.types))
+        t = s if draw.random() < 0.3 else draw.randrange(len(book.types))
+        book.relationships.append((s, t))
+    return book
+
+
+def roles(book, t):
+    """The roles that start at a type."""
+    return [2 * r + d for r, ends in enumerate(book.relationships) for d in (0, 1) if book.under(t, ends[d])]
+
+
+def member_type(book, c):
+    if c[0] == 'role':
+        return book.relationships[c[2] // 2][1 - c[2] % 2]
+    return c[1] if c[0] == 'all' else member_type(book, c[1])
+
+
+class Bodies:
+    """Draws well-typed forms; env is the types of the variables."""
+
+    def __init__(self, draw, book):
+        self.draw, self.book = draw, book
+
+    def number_of(self):
+        return pick(self.draw, [(12, self.draw.randint(-3, 4)), (1, self.draw.choice([-2**31, 2**31 - 1, 100, -100]))])
+
+    def collection(self, env, depth):
+        starts = [(v, r) for v, t in enumerate(env) for r in roles(self.book, t)]
+        near = [(v, r) for v, r in starts if v == len(env) - 1] or starts
+        op = pick(self.draw, [(7 if starts else 0, 'role'), (2, 'all'), (3 if depth > 0 else 0, 'select')])
+        if op == 'role':
+            return (op, *self.draw.choice(near if self.draw.random() < 0.6 else starts))
+        if op == 'all':
+            return op, self.draw.randrange(len(self.book.types))
+        return self.binder(op, env, depth)
+
+    def binder(self, op, env, depth):
+        c = self.collection(env, depth - 1)
+        return op, c, self.truth(env + [member_type(self.book, c)], depth - 1)
+
+    def number(self, env, depth):
+        cells = [(v, k) for v, t in enumerate(env) for k in range(self.book.cells(t))]
+        deep = 1 if depth > 0 else 0
+        op = pick(self.draw, [(2, 'num'), (5 if cells else 0, 'cell'), (3 * deep, 'size'), (4 * deep, 'sum'), (1.5 * deep, 'add'), (2 * deep, 'sub')])
+        if op == 'num':
+            return op, self.number_of()
+        if op == 'cell':
+            return (op, *self.draw.choice(cells))
+        if op in ('add', 'sub'):
+            return op, self.number(env, depth - 1), self.number(env, depth - 1)
+        c = self.collection(env, depth - 1)
+        width = self.book.cells(member_type(self.book, c))
+        return (op, c, self.draw.randrange(width)) if op == 'sum' and width else ('size', c)
+
+    def comparison(self, env, depth):
+        op = self.draw.choice(['le', 'lt', 'eq', 'ne', 'ge', 'gt'])
+        left = self.number(env, depth - 1)
+        right = self.number(env, depth - 1) if left[0] == 'num' or self.draw.random() < 0.5 else ('num', self.number_of())
+        return op, left, right
+
+    def truth(self, env, depth):
+        deep = 1 if depth > 0 else 0
+        op = pick(self.draw, [(5, 'compare'), (2, 'kind'), (5 * deep, 'forall'), (5 * deep, 'exists'), (2 * deep, 'not'), (2 * deep, 'and'),
+                              (2 * deep, 'or'), (1.5 * deep, 'xor'), (2 * deep, 'implies')])
+        if op == 'compare':
+            return self.comparison(env, depth)
+        if op == 'kind':
+            return op, self.draw.randrange(len(env)), self.draw.randrange(len(self.book.types))
+        if op in ('forall', 'exists'):
+            return self.binder(op, env, depth)
+        if op == 'not':
+            return op, self.truth(env, depth - 1)
+        return op, self.truth(env, depth - 1), self.truth(env, depth - 1)
+
+
+def forms(f):
+    return 1 + sum(forms(part) for part in f if isinstance(part, tuple))
+
+
+def add_rules(draw, book, register):
+    """Rules, of which most hold, and most list more than their context."""
+    bodies = Bodies(draw, book)
+    count, all_hold = draw.randint(1, 5), draw.random() < 0.75
+    while len(book.rules) < count:
+        context = draw.choice([t for t, _ in register.objects.values()] + [draw.randrange(len(book.types))])
+        context = draw.choice(sorted(book.above(context)))
+        body = bodies.truth([context], draw.randint(1, 5))
+        book.rules.append((context, body))
+        rule = len(book.rules) - 1
+        holds = not any(plain.broken(book, register, rule, s) for s in register.objects)
+        dull = len(plain.EventList(book, rule).types) <= 2 and draw.random() < 0.8
+        if forms(body) > 30 or dull or (not holds and (all_hold or draw.random() < 0.5)):
+            book.rules.pop()
+
+
+# ---------------------------------------------------------------- registers
+
+def cell_value(draw):
+    return pick(draw, [(30, draw.randint(-3, 4)), (1, draw.choice([-2**31, 2**31 - 1, 1000]))])
+
+
+def possible_links(book, register):
+    typed = [(i, t) for i, (t, _) in sorted(register.objects.items())]
+    return [(r, a, b) for r, (s, t) in enumerate(book.relationships)
+            for a, ta in typed if book.under(ta, s) for b, tb in typed if book.under(tb, t)]
+
+
+def park(draw, book):
+    register = plain.Register()
+    size = pick(draw, [(8, draw.randint(2, 6)), (3, draw.randint(7, 10)), (1.5, plain.OBJECT_ROWS)])
+    ids = draw.sample(range(1, 20), size)
+    if draw.random() < 0.1:
+        ids[0] = 65535
+    for i in ids:
+        t = draw.randrange(len(book.types))
+        cells = tuple(cell_value(draw) for _ in range(book.cells(t)))
+        register.objects[i] = (t, cells + (0,) * (8 - len(cells)))
+    links = possible_links(book, register)
+    most = pick(draw, [(8, draw.randint(0, 8)), (2, draw.randint(9, 14)), (1.5, plain.LINK_ROWS)])
+    register.links = set(draw.sample(links, min(most, len(links))))
+    return register
+
+
+# ---------------------------------------------------------------- batches
+
+class Batches:
+    """Draws events that the register takes as it stands, with a memory of what they undid; and some that are refused."""
+
+    def __init__(self, draw, book, register):
+        self.draw, self.book, self.now = draw, book, register.copy()
+        self.events, self.freed, self.parted, self.old_cells = [], [], [], []
+
+    def do(self, *event):
+        if plain.event_refusal(self.book, self.now, event) is not None:
+            return False
+        if event[0] == 'set':
+            self.old_cells.append((event[1], event[2], self.now.objects[event[1]][1][event[2]]))
+        plain.apply(self.book, self.now, event)
+        self.events.append(event)
+        if event[0] == 'delete':
+            self.freed.append(event[1])
+        if event[0] == 'part':
+            self.parted.append(event[1:])
+        return True
+
+    def one_of(self, things):
+        things = sorted(things)
+        return self.draw.choice(things) if things else None
+
+    def typed(self):
+        return sorted((i, t) for i, (t, _) in self.now.objects.items())
+
+    def insert(self):
+        again = self.freed and self.draw.random() < 0.6
+        i = self.draw.choice(self.freed) if again else self.draw.randint(1, 20)
+        return self.do('insert', i, self.draw.randrange(len(self.book.types)))
+
+    def delete(self):
+        """Takes an object out, with its links before it."""
+        i = self.one_of(self.now.objects)
+        own = [link for link in sorted(self.now.links) if i in link[1:]]
+        if i is None or len(own) > 3:
+            return False
+        for link in own:
+            self.do('part', *link)
+        return self.do('delete', i)
+
+    def set(self):
+        if self.old_cells and self.draw.random() < 0.3:
+            return self.do('set', *self.draw.choice(self.old_cells))
+        places = [(i, k) for i, t in self.typed() for k in range(self.book.cells(t))]
+        if not places:
+            return False
+        i, k = self.draw.choice(places)
+        same = self.draw.random() < 0.1
+        return self.do('set', i, k, self.now.objects[i][1][k] if same else cell_value(self.draw))
+
+    def join(self):
+        if self.parted and self.draw.random() < 0.5:
+            return self.do('join', *self.draw.choice(self.parted))
+        link = self.one_of(set(possible_links(self.book, self.now)) - self.now.links)
+        return link is not None and self.do('join', *link)
+
+    def part(self):
+        link = self.one_of(self.now.links)
+        return link is not None and self.do('part', *link)
+
+    def special(self):
+        moves = [(i, t) for i, own in self.typed() for t in range(len(self.book.types)) if t != own and self.book.under(t, own)]
+        return bool(moves) and self.do('special', *self.draw.choice(moves))
+
+    def general(self):
+        moves = [(i, t) for i, own in self.typed() for t in self.book.above(own) if t != own]
+        return bool(moves) and self.do('general', *self.draw.choice(sorted(moves)))
+
+    def link_and_back(self):
+        """A link parted and joined, or joined and parted, at once."""
+        if self.draw.random() < 0.5 and self.part():
+            return self.do('join', *self.events[-1][1:])
+        return self.join() and self.do('part', *self.events[-1][1:])
+
+    def type_and_back(self):
+        """An object to another type and back to its own."""
+        types = dict(self.typed())
+        if self.draw.choice([self.general, self.special])():
+            i = self.events[-1][1]
+            return self.do('special', i, types[i]) or self.do('general', i, types[i])
+        return False
+
+    def again(self):
+        """An object deleted and inserted again, with its links, after a set perhaps."""
+        i = self.one_of(self.now.objects)
+        own = [link for link in sorted(self.now.links) if i in link[1:]]
+        if i is None or len(own) > 2:
+            return False
+        t, cells = self.now.objects[i]
+        if self.book.cells(t):
+            self.do('set', i, self.draw.randrange(self.book.cells(t)), cell_value(self.draw))
+        for link in own:
+            self.do('part', *link)
+        self.do('delete', i)
+        self.do('insert', i, t)
+        return all([self.do('join', *link) for link in own])
+
+    def refused(self):
+        """An event that is refused, by a number drawn first, or nothing."""
+        wanted = self.draw.choice([7, 8, 9, 10, 11, 12, 13])
+        for _ in range(40):
+            event = self.any_event()
+            if plain.event_refusal(self.book, self.now, event) == wanted:
+                self.events.append(event)
+                return
+        return
+
+    def any_event(self):
+        draw = self.draw
+        kind = draw.choice(plain.KINDS)
+        an_id = lambda: pick(draw, [(12, draw.randint(1, 20)), (1, draw.choice([0, -1, 65536, 65535]))])
+        a_type = pick(draw, [(12, draw.randrange(len(self.book.types))), (1, draw.choice([-1, len(self.book.types), 32]))])
+        a_rel = pick(draw, [(12, draw.randrange(len(self.book.relationships))), (1, draw.choice([-1, len(self.book.relationships)]))])
+        if kind == 'set':
+            return kind, an_id(), pick(draw, [(12, draw.randint(0, 7)), (1, draw.choice([-1, 8]))]), cell_value(draw)
+        if kind in ('join', 'part'):
+            present = draw.random() < 0.3 and self.one_of(self.now.links)
+            return (kind, *present) if present else (kind, a_rel, an_id(), an_id())
+        return (kind, an_id()) if kind == 'delete' else (kind, an_id(), a_type)
+
+    def batch(self):
+        length = pick(self.draw, [(6, self.draw.randint(1, 3)), (4, self.draw.randint(3, 9)), (0.2, 0)])
+        steps = [(3, self.insert), (2, self.delete), (5, self.set), (4, self.join), (4, self.part), (3, self.special), (3, self.general),
+                 (2, self.link_and_back), (2, self.type_and_back), (1, self.again)]
+        for _ in range(length * 2):
+            if len(self.events) < length:
+                pick(self.draw, steps)()
+        if self.draw.random() < 0.12:
+            self.events = self.events[:8]
+            self.refused_somewhere()
+        return self.events[:plain.EVENT_ROWS]
+
+    def refused_somewhere(self):
+        self.refused()
+        if self.draw.random() < 0.5:  # events after it are never looked at
+            self.events.append(self.any_event())
+
+
+# ---------------------------------------------------------------- text
+
+def spelled(f):
+    return '(' + ' '.join(spelled(x) if isinstance(x, tuple) else '-' if x is None else str(x) for x in f) + ')'
+
+
+def lines(book, register):
+    yield from (('type', n, *t) for n, t in enumerate(book.types))
+    yield from (('rel', n, *r) for n, r in enumerate(book.relationships))
+    yield from (('rule', n, *r) for n, r in enumerate(book.rules))
+    yield from (('ent', i, t, *cells[:book.cells(t)]) for i, (t, cells) in sorted(register.objects.items()))
+    yield from (('link', *link) for link in sorted(register.links))
+
+
+def drawn(number, batches):
+    """A book and its register with a first batch, and further batches for them."""
+    draw = Draw(number)
+    book = schema(draw)
+    register = park(draw, book)
+    add_rules(draw, book, register)
+    base = [str(number)] + [spelled(line) for line in lines(book, register)]
+    for k in range(batches):
+        events = [spelled(event) for event in Batches(draw, book, register).batch()]
+        yield ([f'+{number}.{k}'] if k else base) + events
+
+
+if __name__ == '__main__':
+    books, batches = int(sys.argv[1]), int(sys.argv[2])
+    for number in range(books):
+        for block in drawn(number, batches):
+            print('\n'.join(block) + '\n')

@@ -1,0 +1,132 @@
+#!/usr/bin/env python3
+"""Puts one fault after the other into a copy of plain.py, and counts the cases that notice it.
+
+    faults.py FILE        FILE has blocks; ends with an error if some fault is noticed by none
+"""
+import os
+import re
+import sys
+
+HERE = os.path.dirname(os.path.abspath(__file__))
+
+# What is wrong; a piece of plain.py that stands there once; what stands there instead.
+FAULTS = [
+    ('a loss counts only if the link is gone at the end',
+     'any(such(link) for link in self.parted)', 'any(such(link) and link not in self.end.links for link in self.parted)'),
+    ('a gain counts though the link is gone at the end', 'such(link) and link in self.end.links', 'such(link)'),
+    ('a role has the links at its other end too', 'and link[near] == env[v]', 'and env[v] in link[1:]'),
+    ('a role is taken the other way round', 'near = 1 if role % 2 == 0 else 2\n        such', 'near = 2 if role % 2 == 0 else 1\n        such'),
+    ('all t gains an object that is not there at the end', ' and self.there(i, t) for k, i, entered', ' for k, i, entered'),
+    ('all t loses only what is gone at the end', "and t in left for k, _, _, left", "and t in left and not self.there(i, t) for k, i, _, left"),
+    ('all t gains by insert only', "gain = any(k in ('insert', 'special')", "gain = any(k in ('insert',)"),
+    ('all t loses by delete only', "any(k in ('delete', 'general')", "any(k in ('delete',)"),
+    ('a special within a type brings its object into it', 'new - old, old - new))', 'new if kind == "special" else new - old, old - new))'),
+    ('a general within a type takes its object out of it', 'new - old, old - new))', 'new - old, old if kind == "general" else old - new))'),
+    ("select's condition ignored", "'select': '++'", "'select': '+'"),
+    ("select's collection ignored", 'ups, downs = zip(', "parts = parts[1:] * 2 if op == 'select' else parts\n        ups, downs = zip("),
+    ('members of a select are all of its collection', 'for m in members(self.book, self.end, c, env)]\n',
+     'for m in members(self.book, self.end, c if c[0] != "select" else c[1], env)]\n'),
+    ('a sum is moved by a set at an object that select leaves out', 'in self.sets for m in members(self.book, self.end, c, env)',
+     'in self.sets for m in members(self.book, self.end, c if c[0] != "select" else c[1], env)'),
+    ('members by the links before the batch', 'for m in members(self.book, self.end, c, env)]\n',
+     'for m in members(self.book, Register(self.end.objects, [l for l in self.start.links if {l[1], l[2]} <= set(self.end.objects)]), c, env)]\n'),
+    ('a role of an outer variable is not followed', '        each = [self.moves(b,',
+     '        if c[0] == "role" and c[1] != len(env) - 1:\n            return False, False\n        each = [self.moves(b,'),
+    ('all t in a body of another is not followed', '        each = [self.moves(b,',
+     '        if c[0] == "all" and len(env) > 1:\n            return False, False\n        each = [self.moves(b,'),
+    ('a condition is not looked at two variables down', '        each = [self.moves(b,',
+     '        if len(env) > 2:\n            return False, False\n        each = [self.moves(b,'),
+    ('a sum rises by gain and falls by loss only', "'sum': '**'", "'sum': '+*'"),
+    ('a sum is not moved by a loss', 'a_set = self.set_at_member(f[1], f[2], env)', 'a_set, parts = self.set_at_member(f[1], f[2], env), [(parts[0][0],) * 2]'),
+    ('a sum is not moved by a set', "'sum': '**'", "'sum': '*'"),
+    ('size falls by gain', "'size': '+'", "'size': '-'"),
+    ('sub does not reverse its second part', "'sub': '+-'", "'sub': '++'"),
+    ('le mirrored', "'le': '-+'", "'le': '+-'"),
+    ('lt either way', "'lt': '-+'", "'lt': '**'"),
+    ('ge not mirrored', "'ge': '+-'", "'ge': '-+'"),
+    ('gt does not look at its right', "'gt': '+-'", "'gt': '+'"),
+    ('eq one way', "'eq': '**'", "'eq': '-+'"),
+    ('ne one way', "'ne': '**'", "'ne': '+-'"),
+    ('forall is false by loss', "'forall': '-+'", "'forall': '++'"),
+    ('exists is false by gain', "'exists': '++'", "'exists': '-+'"),
+    ('not does not reverse', "'not': '-'", "'not': '+'"),
+    ('implies does not reverse its left', "'implies': '-+'", "'implies': '++'"),
+    ('xor one way', "'xor': '**'", "'xor': '++'"),
+    ('and looks at its first part only', "'and': '++'", "'and': '+'"),
+    ('kind turns true without being there at the end', 'env[v], t) and self.there(env[v], t)', 'env[v], t)'),
+    ('kind turns false only if not back', "self.took('general', env[v], t)", "self.took('general', env[v], t) and not self.there(env[v], t)"),
+    ('kind turns true by an insert', "return self.brought('special', env[v], t)",
+     "return (self.brought('special', env[v], t) or self.brought('insert', env[v], t))"),
+    ('an insert sets cells', '            self.changes.append(', '            self.sets |= {(x[0], k) for k in range(8) if kind == "insert"}\n            self.changes.append('),
+    ('a general sets the cells it drops', '            self.changes.append(', '            self.sets |= {(x[0], k) for k in range(8) if kind == "general"}\n            self.changes.append('),
+    ('a delete forgets the sets before it', '            self.changes.append(',
+     '            self.sets = {s for s in self.sets if kind != "delete" or s[0] != x[0]}\n            self.changes.append('),
+    ('a delete forgets the parts before it', '            self.changes.append(',
+     '            self.parted = {l for l in self.parted if kind != "delete" or x[0] not in l[1:]}\n            self.changes.append('),
+    ('a set to the value that is there does not count', '            self.sets.add((x[0], x[1]))',
+     '            self.sets |= {(x[0], x[1])} if self.old.objects[x[0]] != self.end.objects[x[0]] else set()'),
+    ('a set undone does not count', 'return ((env[v], k) in self.sets,) * 2',
+     'return ((env[v], k) in self.sets and (env[v] not in self.start.objects or self.start.objects[env[v]][1][k] != self.end.objects[env[v]][1][k]),) * 2'),
+    ('an insert into the context selects though the body is quiet', "context) and not quiet(body)\n", 'context)\n'),
+    ('an insert into the context selects nothing', "inserted = self.brought", "inserted = False and self.brought"),
+    ('a special into the context is not selected where the body is quiet', "return false or inserted or self.brought('special', s, context)",
+     "return false or inserted or (self.brought('special', s, context) and not quiet(body))"),
+    ('a special into the context selects nothing', "or self.brought('special', s, context)", 'or False'),
+    ('forall over a select of a role is quiet', "return b[1][0] == 'role' and b[1][1] == 0",
+     "return b[1][:2] == ('role', 0) or (b[1][0] == 'select' and b[1][1][:2] == ('role', 0))"),
+    ('exists over a role is quiet', "if b[0] == 'forall':\n        return over", "if b[0] in ('forall', 'exists'):\n        return over"),
+    ('or is quiet only with two', 'quiet(b[1]) or quiet(b[2])\n    if b[0] == \'implies\':\n        return quietly_false(b[1]) or quiet', 'quiet(b[1]) and quiet(b[2])\n    if b[0] == \'implies\':\n        return quietly_false(b[1]) or quiet'),
+    ('implies is quiet by its right only', 'return quietly_false(b[1]) or quiet(b[2])', 'return quiet(b[2])'),
+    ('not is never quiet', "return b[0] == 'not' and quietly_false(b[1])", 'return False'),
+    ('all t lists no special', '{(0, t, 0)} | self.parented(5, t)', '{(0, t, 0)}'),
+    ('general t is listed where t has no parent', "return set() if self.book.types[t][0] is None", 'return set() if kind == 5 and self.book.types[t][0] is None'),
+    ("a cell lists the context's type", '{(2, env[v], k)}', '{(2, env[0], k)}'),
+    ('the context lists no special where the body is quiet', 'inserts | self.parented(5, context))', 'inserts | (self.parented(5, context) if inserts else set()))'),
+    ('the full check in place of the listed pairs', 'first = next((pair for pair in pairs if broken(book, self.batch.end, *pair)), None)',
+     'first = full_check(book, self.batch.end)'),
+    ('the list ends at the first broken pair', "        self.answer = ('accepted',)", "        self.pairs = [p for p in pairs if first is None or p <= first]\n        self.answer = ('accepted',)"),
+    ('everything is listed', 'if self.selected(r, s)]', 'if self.there(s, self.book.rules[r][0])]'),
+    ('a broken batch leaves the register after it', '        if first is None:\n            self.left', '        if True:\n            self.left'),
+    ('only the first event is applied', 'for place, event in enumerate(events):', 'for place, event in enumerate(events[:1]):'),
+    ('a general keeps the cells that its new type lacks', '[1][:book.cells(x[1])]\n', '[1]\n'),
+    ('13 is met with a row left', 'len(rows[event[0]][0]) >= rows[event[0]][1]', 'len(rows[event[0]][0]) >= rows[event[0]][1] - 1'),
+    ('12 looks at sources only', '(b, book.relationships[r][1])):', '):'),
+    ('13 before 9', 'if not known(book, event):\n        return 7', 'if not known(book, event):\n        return 7\n    if kind == "insert" and full(register, event):\n        return 13'),
+]
+
+
+def reading(source):
+    space = {'__name__': 'plain'}
+    exec(compile(source, 'plain.py', 'exec'), space)
+    return space['output']
+
+
+def noticed(good, bad):
+    """How many books and how many batches print something else."""
+    cases, last = set(), None
+    for a, b in zip(good, bad):
+        if not re.match(r'\d+:( \d+,\d+,\d+)*$', a):
+            last = a
+        if a != b:
+            cases.add(last)
+    return len(cases)
+
+
+def main():
+    source = open(os.path.join(HERE, 'plain.py')).read()
+    # Faults may look at the register before the batch and before the event.
+    source = source.replace('        self.sets, self.joined', '        self.start = register\n        self.sets, self.joined', 1)
+    source = source.replace('        apply(self.book, self.end, event)', '        self.old = self.end.copy()\n        apply(self.book, self.end, event)', 1)
+    text = open(sys.argv[1]).read()
+    good, missed = list(reading(source)(text)), 0
+    for label, old, new in FAULTS:
+        assert source.count(old) == 1, f'{label}: {source.count(old)} places'
+        count = noticed(good, list(reading(source.replace(old, new))(text)))
+        missed += count == 0
+        print(f'{count:6} {label}', flush=True)
+    print(f'{len(FAULTS)} faults, {missed} noticed by none')
+    sys.exit(1 if missed else 0)
+
+
+if __name__ == '__main__':
+    main()

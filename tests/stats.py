@@ -1,0 +1,111 @@
+#!/usr/bin/env python3
+"""What a file of blocks has in it, and whether the plain reading of each keeps the two claims of demand 3.
+
+    stats.py FILE
+
+From a register where every rule holds, the batch check answers as a full check of the register after the batch; and a rule none of whose
+listed event types occurs has no pair. A name may end in what is to come, found by hand: `=> answer; pairs`, or `=> list` and the event list of
+rule 0. A case that is otherwise is written, and the program ends with an error.
+"""
+import collections
+import sys
+
+import plain
+
+
+def form_names(f):
+    yield f[0]
+    for part in f:
+        if isinstance(part, tuple):
+            yield from form_names(part)
+
+
+def depth(f):
+    return 1 + max([depth(part) for part in f if isinstance(part, tuple)], default=0)
+
+
+def claims(book, register, checked):
+    """The names of the claims that a case breaks."""
+    end, rules = checked.batch.end, {rule for rule, _ in checked.pairs}
+    if checked.answer[0] != 'refused' and plain.full_check(book, register) is None:
+        full = plain.full_check(book, end)
+        if checked.answer != (('accepted',) if full is None else ('broken', *full)):
+            yield 'the full check'
+    occurring = checked.batch.occurring()
+    if any(not occurring & set(plain.EventList(book, rule).types) for rule in rules):
+        yield 'the event list'
+
+
+def by_hand(name, book, checked):
+    """Whether a case is what its name says."""
+    _, arrow, wanted = name.partition(' => ')
+    if wanted.startswith('list'):
+        return wanted[4:] == next(plain.show_lists(book))[2:]
+    pairs = ''.join(f' {r}:{s}' for r, s in checked.pairs)
+    said = ' '.join(str(part) for part in checked.answer) + (';' + pairs if checked.answer[0] != 'refused' else '')
+    return not arrow or wanted == said
+
+
+def count_book(count, book):
+    for _, body in book.rules:
+        count['rules'] += 1
+        count['rules quiet'] += plain.quiet(body)
+        count.update('form ' + name for name in form_names(body))
+        count['depth %d' % depth(body)] += 1
+
+
+def count_undone(count, events):
+    """Batches that name the same thing twice."""
+    joins, parts = ({e[1:] for e in events if e[0] == kind} for kind in ('join', 'part'))
+    inserts, deletes, up, down = ({e[1] for e in events if e[0] == kind} for kind in ('insert', 'delete', 'general', 'special'))
+    sets = [e[1:3] for e in events if e[0] == 'set']
+    count['batch: a link parted and joined'] += bool(joins & parts)
+    count['batch: an id deleted and inserted'] += bool(inserts & deletes)
+    count['batch: an object general and special'] += bool(up & down)
+    count['batch: a cell set twice'] += len(set(sets)) < len(sets)
+
+
+def count_case(count, book, register, events, checked):
+    kind = checked.answer[0]
+    count['answer ' + (kind if kind != 'refused' else 'refused %d' % checked.answer[1])] += 1
+    if kind == 'refused':
+        return
+    count.update('event ' + event[0] for event in events)
+    count['batch: empty'] += not events
+    count_undone(count, events)
+    held = plain.full_check(book, register) is None
+    count['all held before, ' + kind] += held
+    count['some rule broken before, ' + kind] += not held
+    end = checked.batch.end
+    pairs = [(r, s) for r in range(len(book.rules)) for s in end.objects if book.under(end.type_of(s), book.rules[r][0])]
+    count['pairs there at the end'] += len(pairs)
+    count['pairs listed'] += len(checked.pairs)
+    count['cases with pairs'] += bool(checked.pairs)
+    unlisted = [pair for pair in pairs if plain.broken(book, end, *pair) and pair not in checked.pairs]
+    count['broken pairs listed'] += sum(plain.broken(book, end, *pair) for pair in checked.pairs)
+    count['broken pairs unlisted'] += len(unlisted)
+    count['accepted with a broken pair unlisted'] += kind == 'accepted' and bool(unlisted)
+    count['broken after an unlisted broken pair'] += kind == 'broken' and any(pair < checked.answer[1:] for pair in unlisted)
+
+
+def main():
+    count, faults = collections.Counter(), 0
+    for name, book, register, events, own in plain.blocks(open(sys.argv[1]).read()):
+        checked = plain.Checked(book, register, events)
+        count['cases'] += 1
+        if own:
+            count['books'] += 1
+            count_book(count, book)
+        count_case(count, book, register, events, checked)
+        count['cases whose outcome was found by hand'] += '=>' in name
+        wrong = list(claims(book, register, checked)) + ([] if by_hand(name, book, checked) else ['its name'])
+        for claim in wrong:
+            faults += 1
+            print(f'not as {claim} says: {plain.show(name, checked)}')
+    for thing in sorted(count):
+        print(f'{count[thing]:7} {thing}')
+    sys.exit(1 if faults else 0)
+
+
+if __name__ == '__main__':
+    main()
