@@ -15,7 +15,7 @@ mod visits;
 
 use incremental::{write_back, Answer, Book, Lists};
 use library::{call, check, full_check, median, rounds, run, Call};
-use park::{Park, Tables};
+use park::{Form, Park, Tables};
 use plain::Plain;
 use visits::{Event, Visit};
 
@@ -220,6 +220,45 @@ impl Timed<'_> {
     }
 }
 
+// A park's calls whose differences are the parts of a batch check.
+struct Parts<'a> {
+    timed: &'a Timed<'a>,
+    tables: Tables,
+    without_rules: Tables,
+    after: Tables, // with the register after the visit
+}
+
+impl Parts<'_> {
+    fn new<'a>(timed: &'a Timed<'a>) -> Parts<'a> {
+        let tables = park::tables(timed.park);
+        let (mut lent, mut after) = (timed.lent.clone(), tables.clone());
+        let [.., objects, links] = lent.proved(&timed.visit.events);
+        after.objects = lent.tables.objects[..10 * objects as usize].to_vec();
+        after.links = lent.tables.links[..3 * links as usize].to_vec();
+        let without_rules = Tables { rules: vec![], bodies: vec![], ..tables.clone() };
+        assert_eq!(full_check(&without_rules), [0; 3]);
+        Parts { timed, tables, without_rules, after }
+    }
+
+    fn ran<'a>(&'a self, events: &'a [Event]) -> Call<'a> {
+        let (t, mut scratch) = (&self.timed.lent, self.timed.lent.scratch.clone());
+        call(move || run(&t.tables, t.used, events.as_flattened(), &mut scratch))
+    }
+
+    fn calls(&self) -> Vec<Call<'_>> {
+        let (t, events) = (self.timed, &self.timed.visit.events);
+        vec![
+            t.restore(),
+            t.proved(),
+            call(|| full_check(&self.without_rules)),
+            call(|| check(&self.without_rules)),
+            call(|| check(&self.tables)),
+            self.ran(&[]),
+            self.ran(events),
+        ]
+    }
+}
+
 const HEAD: &str = "objects  links  visit                                  events";
 
 // Times of the proved and the plain incremental check.
@@ -234,20 +273,28 @@ fn beside_plain(cases: &[Timed]) {
     }
 }
 
-// The batch check and full checks of the same parks, and the bodies that each evaluates.
+// The batch check and full checks of the same parks, and the bodies that each evaluates. Without a batch check a caller would run the events and
+// check the register after them.
 fn beside_full(cases: &[Timed]) {
-    let tables: Vec<Tables> = cases.iter().map(|c| park::tables(c.park)).collect();
+    let parts: Vec<Parts> = cases.iter().map(Parts::new).collect();
     let mut groups: Vec<Vec<Call>> = vec![];
-    for (c, t) in cases.iter().zip(&tables) {
-        groups.push(vec![c.restore(), c.proved(), call(move || full_check(t)), call(move || Plain::new(c.park).full_check(c.park))]);
+    for (c, p) in cases.iter().zip(&parts) {
+        let mut ran = p.ran(&c.visit.events);
+        let both = call(move || {
+            ran();
+            full_check(&p.after)
+        });
+        groups.push(vec![c.restore(), c.proved(), call(|| full_check(&p.tables)), call(|| Plain::new(c.park).full_check(c.park)), both]);
     }
     let figures = rounds(&mut groups);
-    println!("\n{HEAD}  bodies, batch  bodies, full    one in  proved, batch (us)  proved, full (us)  plain, full (us)  batch / full");
+    println!("\n{HEAD}  bodies, batch  bodies, full  one in  batch (us)  full (us)  plain full (us)  run and full (us)  batch / full  batch / run and full");
     for (c, f) in cases.iter().zip(&figures) {
         let all = all_pairs(c.park);
-        let [batch, full, plain] = [median(f, |r| r[1] - r[0]), median(f, |r| r[2]), median(f, |r| r[3])];
-        let (share, ratio) = (all as f64 / c.pairs as f64, median(f, |r| (r[1] - r[0]) / r[2]));
-        println!("{}  {:13}  {all:12}  {share:8.1}  {batch:18.1}  {full:17.1}  {plain:16.1}  {ratio:12.2}", c.name(), c.pairs);
+        let [batch, full, plain, both] = [median(f, |r| r[1] - r[0]), median(f, |r| r[2]), median(f, |r| r[3]), median(f, |r| r[4])];
+        let [to_full, to_both] = [2, 4].map(|i| median(f, |r| (r[1] - r[0]) / r[i]));
+        let share = all as f64 / c.pairs as f64;
+        print!("{}  {:13}  {all:12}  {share:6.1}  {batch:10.1}  {full:9.1}  {plain:15.1}", c.name(), c.pairs);
+        println!("  {both:17.1}  {to_full:12.2}  {to_both:20.2}");
     }
 }
 
@@ -280,40 +327,6 @@ fn beside_sqlite(_: &[Timed], _: &[Timed]) {
     println!("\nSQLite is not here: left out");
 }
 
-// A park's calls whose differences are the parts of a batch check.
-struct Parts<'a> {
-    timed: &'a Timed<'a>,
-    tables: Tables,
-    without_rules: Tables,
-}
-
-impl Parts<'_> {
-    fn new<'a>(timed: &'a Timed<'a>) -> Parts<'a> {
-        let tables = park::tables(timed.park);
-        let without_rules = Tables { rules: vec![], bodies: vec![], ..tables.clone() };
-        assert_eq!(full_check(&without_rules), [0; 3]);
-        Parts { timed, tables, without_rules }
-    }
-
-    fn ran<'a>(&'a self, events: &'a [Event]) -> Call<'a> {
-        let (t, mut scratch) = (&self.timed.lent, self.timed.lent.scratch.clone());
-        call(move || run(&t.tables, t.used, events.as_flattened(), &mut scratch))
-    }
-
-    fn calls(&self) -> Vec<Call<'_>> {
-        let (t, events) = (self.timed, &self.timed.visit.events);
-        vec![
-            t.restore(),
-            t.proved(),
-            call(|| full_check(&self.without_rules)),
-            call(|| check(&self.without_rules)),
-            call(|| check(&self.tables)),
-            self.ran(&[]),
-            self.ran(events),
-        ]
-    }
-}
-
 // The parts of a batch check from the times of a park's seven calls.
 const PARTS: [(&str, fn(&[f64]) -> f64); 10] = [
     ("the batch check", |r| r[1] - r[0]),
@@ -328,6 +341,16 @@ const PARTS: [(&str, fn(&[f64]) -> f64); 10] = [
     ("and less the validation of the rules", |r| r[1] - r[0] - r[2] - (r[4] - r[3])),
 ];
 
+// The park with the rules that say nothing of all objects of a type, which cost what there are of them.
+fn without_all(p: &Park) -> Park {
+    let over_all = |f: &Form| {
+        let mut rows = vec![];
+        park::write(f, &mut rows);
+        rows.chunks(4).any(|row| row[0] == 21)
+    };
+    Park { rules: p.rules.iter().filter(|r| !over_all(&r.1)).cloned().collect(), ..literal::copy(p) }
+}
+
 // The same visit on both parks, part by part.
 fn by_parts(cases: &[Timed]) {
     let visits = cases.len() / 2;
@@ -336,7 +359,7 @@ fn by_parts(cases: &[Timed]) {
     let figures = rounds(&mut groups);
     for (v, f) in figures.iter().enumerate() {
         let [small, large] = [v, visits + v].map(|i| cases[i].park.objects.len());
-        let title = format!("the same {} events, by parts", cases[v].visit.events.len());
+        let title = format!("the same {} events, {} rules", cases[v].visit.events.len(), cases[v].park.rules.len());
         println!("\n{title:38}  {small:4} objects (us)  {large:4} objects (us)   ratio");
         for (name, part) in PARTS {
             let (x, y, ratio) = (median(f, |r| part(&r[..7])), median(f, |r| part(&r[7..])), median(f, |r| part(&r[7..]) / part(&r[..7])));
@@ -351,16 +374,17 @@ fn main() {
         assert_eq!(full_check(&park::tables(p)), [0; 3]);
         assert_eq!(Plain::new(p).full_check(p), None);
     }
-    let (accepted, broken, refused) = (visits::accepted(), visits::broken(), visits::refused());
+    let kinds = [visits::accepted(), visits::broken(), visits::refused()];
     agree_on_drawn();
-    agree_on_visits(&parks, &accepted);
-    agree_on_visits(&parks, &broken);
-    agree_on_visits(&parks, &refused);
-    let (accepted, broken, refused) = (timed(&parks, &accepted), timed(&parks, &broken), timed(&parks, &refused));
+    for visits in &kinds {
+        agree_on_visits(&parks, visits);
+    }
+    let [accepted, broken, refused] = kinds.each_ref().map(|visits| timed(&parks, visits));
     beside_plain(&accepted);
     beside_plain(&broken);
     beside_plain(&refused);
     beside_full(&accepted);
     beside_sqlite(&accepted, &broken);
     by_parts(&accepted);
+    by_parts(&timed(&parks.iter().map(without_all).collect::<Vec<_>>(), &kinds[0]));
 }

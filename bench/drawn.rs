@@ -27,9 +27,9 @@ impl Drawer<'_> {
     }
 
     fn truth(&mut self, depth: u32, scope: &mut Vec<u32>) -> Form {
-        let pick = self.draw.below(if depth == 0 { 4 } else { 15 });
+        let pick = self.draw.below(if depth == 0 { 4 } else { 16 });
         match pick {
-            0 | 14 => {
+            0 | 14 | 15 => {
                 let v = self.variable(scope);
                 Form::Kind(v, self.draw.below(self.types.len() as u32))
             }
@@ -192,11 +192,19 @@ fn pick<T: Copy>(d: &mut Draw, of: &[T]) -> Option<T> {
     if of.is_empty() { None } else { Some(of[d.below(of.len() as u32) as usize]) }
 }
 
+// A type below an object's own, or above it, if there is one.
+fn other_type(d: &mut Draw, p: &Park, id: u32, below: bool) -> u32 {
+    let Some(own) = p.objects.iter().find(|o| o.0 == id).map(|o| o.1) else { return 0 };
+    let fits = |t: &u32| *t != own && if below { under(&p.types, *t, own) } else { under(&p.types, own, *t) };
+    let types: Vec<u32> = (0..p.types.len() as u32).filter(fits).collect();
+    pick(d, &types).unwrap_or(own)
+}
+
 // An event of some kind that names what may be there.
 fn event(d: &mut Draw, p: &Park) -> [u32; 4] {
-    // every other time one of the first three, so that events meet at an object
+    // mostly one of the first three, so that events meet at an object
     let id = |d: &mut Draw| {
-        let of = if d.below(2) == 0 { &p.objects[..p.objects.len().min(3)] } else { &p.objects[..] };
+        let of = if d.below(4) > 0 { &p.objects[..p.objects.len().min(3)] } else { &p.objects[..] };
         pick(d, of).map_or(1, |o| o.0)
     };
     let (t, r) = (d.below(p.types.len() as u32), d.below(p.relationships.len() as u32));
@@ -206,8 +214,11 @@ fn event(d: &mut Draw, p: &Park) -> [u32; 4] {
         4..=7 => [2, id(d), d.below(4), d.below(7).wrapping_sub(3)],
         8 | 9 => [3, r, id(d), id(d)],
         10..=12 => pick(d, &p.links).map_or([9, 0, 0, 0], |l| [4, l.0, l.1, l.2]),
-        13..=16 => [5, id(d), t, 0],
-        17 | 18 => [6, id(d), t, 0],
+        kind @ 13..=18 => {
+            let x = id(d);
+            let below = kind < 16;
+            [if below { 5 } else { 6 }, x, other_type(d, p, x, below), 0]
+        }
         _ => [d.below(8), d.below(16), d.below(9), d.below(2)],
     }
 }
