@@ -113,6 +113,38 @@ pub fn run(t: &Tables, used: (u32, u32), events: &[u32], scratch: &mut (Vec<u32>
     answer
 }
 
+extern "C" {
+    /// 0, or 1, rule and id, or 2, number and place; then the pairs in the list and the used rows of objects and links after the batch
+    fn checker_batch(
+        types_used: u32, relationships_used: u32, rules_used: u32, objects_used: u32, links_used: u32, events_used: u32,
+        types: *const u32, types_len: usize, relationships: *const u32, relationships_len: usize,
+        rules: *const u32, rules_len: usize, bodies: *const u32, bodies_len: usize,
+        objects: *mut u32, objects_len: usize, links: *mut u32, links_len: usize,
+        events: *const u32, events_len: usize,
+        scratch_objects: *mut u32, scratch_objects_len: usize, scratch_links: *mut u32, scratch_links_len: usize,
+        list: *mut u16, list_len: usize,
+        answer: *mut u32,
+    );
+}
+
+// Checks a batch of events on tables of which so many rows of objects and links are used. They hold the register after it, where it is accepted.
+pub fn batch(t: &mut Tables, used: (u32, u32), events: &[[u32; 4]], scratch: &mut (Vec<u32>, Vec<u32>), list: &mut [u16]) -> [u32; 6] {
+    let mut answer = [0; 6];
+    unsafe {
+        checker_batch(
+            (t.types.len() / 2) as u32, (t.relationships.len() / 2) as u32, (t.rules.len() / 2) as u32, used.0, used.1, events.len() as u32,
+            t.types.as_ptr(), t.types.len(), t.relationships.as_ptr(), t.relationships.len(),
+            t.rules.as_ptr(), t.rules.len(), t.bodies.as_ptr(), t.bodies.len(),
+            t.objects.as_mut_ptr(), t.objects.len(), t.links.as_mut_ptr(), t.links.len(),
+            events.as_flattened().as_ptr(), 4 * events.len(),
+            scratch.0.as_mut_ptr(), scratch.0.len(), scratch.1.as_mut_ptr(), scratch.1.len(),
+            list.as_mut_ptr(), list.len(),
+            answer.as_mut_ptr(),
+        );
+    }
+    answer
+}
+
 pub type Call<'a> = Box<dyn FnMut() + 'a>;
 
 // What is timed, with its answer kept from the compiler's sight.

@@ -90,6 +90,7 @@ pub struct Park {
     pub links: Vec<(u32, u32, u32)>,
 }
 
+#[derive(Clone)]
 pub struct Tables {
     pub types: Vec<u32>,
     pub relationships: Vec<u32>,
@@ -199,7 +200,7 @@ pub enum Ids {
 
 pub const LARGEST_ID: u32 = 65_535;
 
-fn numbers(ids: Ids, count: usize) -> Vec<u32> {
+pub fn numbers(ids: Ids, count: usize) -> Vec<u32> {
     let mut set = std::collections::BTreeSet::new();
     match ids {
         Ids::Stepped => set.extend((0..count as u32).map(|i| 1 + i * 3)),

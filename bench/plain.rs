@@ -5,9 +5,9 @@ use std::collections::HashMap;
 pub struct Plain {
     parents: Vec<Option<u32>>,
     rows: HashMap<u32, usize>,
-    kinds: Vec<u32>,
+    pub kinds: Vec<u32>,
     cells: Vec<[i32; 8]>,
-    ids: Vec<u32>,
+    pub ids: Vec<u32>,
     // for each role, for each object's row, the rows at the far end
     ends: Vec<Vec<Vec<usize>>>,
     of_type: Vec<Vec<usize>>,
@@ -39,7 +39,7 @@ impl Plain {
         Plain { parents, rows, kinds, cells: p.objects.iter().map(|o| o.2).collect(), ids: p.objects.iter().map(|o| o.0).collect(), ends, of_type }
     }
 
-    fn under(&self, t: u32, u: u32) -> bool {
+    pub fn under(&self, t: u32, u: u32) -> bool {
         let mut at = Some(t);
         while let Some(x) = at {
             if x == u {
@@ -50,7 +50,7 @@ impl Plain {
         false
     }
 
-    fn truth(&self, f: &Form, vs: &mut Vec<usize>) -> bool {
+    pub fn truth(&self, f: &Form, vs: &mut Vec<usize>) -> bool {
         match f {
             Form::Compare(o, a, b) => {
                 let (x, y) = (self.number(a, vs), self.number(b, vs));
@@ -97,7 +97,7 @@ impl Plain {
         }
     }
 
-    fn members(&self, f: &Form, vs: &mut Vec<usize>) -> Vec<usize> {
+    pub fn members(&self, f: &Form, vs: &mut Vec<usize>) -> Vec<usize> {
         match f {
             Form::Role(v, r) => self.ends[*r as usize][vs[*v as usize]].clone(),
             Form::All(t) => self.of_type[*t as usize].clone(),

@@ -1,0 +1,390 @@
+// The batch check beside a plain incremental one, full checks and SQLite, in one run: the same parks, rules and visits, the same answers, times,
+// ratios and the bodies that are evaluated.
+mod drawn;
+mod fitters;
+mod incremental;
+#[allow(dead_code)]
+mod library;
+mod literal;
+#[allow(dead_code)]
+mod park;
+mod plain;
+#[cfg(sqlite)]
+mod sqlite;
+mod visits;
+
+use incremental::{write_back, Answer, Book, Lists};
+use library::{call, check, full_check, median, rounds, run, Call};
+use park::{Form, Park, Tables};
+use plain::Plain;
+use visits::{Event, Visit};
+
+// Two sizes of the park, with the rows lent in proportion.
+const SIZES: [(&[usize], (usize, usize)); 2] = [(&visits::SMALL, (256, 1024)), (&visits::LARGE, (1024, 4096))];
+const LIST_WORDS: usize = 8192;
+const DRAWN: u32 = 10_000;
+
+// Lent tables with a batch's scratch and list, and the register to start from.
+#[derive(Clone)]
+struct Lent {
+    tables: Tables,
+    used: (u32, u32),
+    scratch: (Vec<u32>, Vec<u32>),
+    list: Vec<u16>,
+    fresh: (Vec<u32>, Vec<u32>),
+}
+
+impl Lent {
+    fn new(p: &Park, room: (usize, usize), words: usize) -> Lent {
+        let mut tables = park::tables(p);
+        tables.objects.resize(10 * room.0, 0);
+        tables.links.resize(3 * room.1, 0);
+        let fresh = (tables.objects.clone(), tables.links.clone());
+        let scratch = (vec![7; 10 * room.0], vec![7; 3 * room.1]);
+        Lent { tables, used: (p.objects.len() as u32, p.links.len() as u32), scratch, list: vec![7; words], fresh }
+    }
+
+    fn restore(&mut self) {
+        self.tables.objects.copy_from_slice(&self.fresh.0);
+        self.tables.links.copy_from_slice(&self.fresh.1);
+    }
+
+    fn proved(&mut self, events: &[Event]) -> [u32; 6] {
+        library::batch(&mut self.tables, self.used, events, &mut self.scratch, &mut self.list)
+    }
+
+    // The plain check of the same tables: lists made, the visit, and where it is accepted the tables written.
+    fn built(&mut self, book: &Book, lists: &mut Lists, events: &[Event]) -> Answer {
+        let mut used = (self.used.0 as usize, self.used.1 as usize);
+        if let Err(refused) = lists.build(book, &self.tables.objects[..10 * used.0], &self.tables.links[..3 * used.1]) {
+            return refused;
+        }
+        let room = (self.tables.objects.len() / 10, self.tables.links.len() / 3);
+        let answer = lists.visit(book, room, events, self.list.len());
+        if answer == Answer::Accepted {
+            write_back(book, events, &mut self.tables.objects, &mut self.tables.links, &mut used);
+        }
+        answer
+    }
+}
+
+// What a check leaves: its answer, its list, the used rows, and the tables to their last row.
+#[derive(PartialEq, Debug)]
+struct Left {
+    answer: Answer,
+    pairs: Vec<(u32, u32)>,
+    used: (usize, usize),
+    objects: Vec<u32>,
+    links: Vec<u32>,
+}
+
+struct Case<'a> {
+    park: &'a Park,
+    room: (usize, usize),
+    events: &'a [Event],
+    words: usize,
+}
+
+fn by_library(c: &Case) -> Left {
+    let mut lent = Lent::new(c.park, c.room, c.words);
+    let [kind, x, y, pairs, objects, links] = lent.proved(c.events);
+    let answer = match kind {
+        0 => Answer::Accepted,
+        1 => Answer::Broken(x, y),
+        _ => Answer::Refused(x, y),
+    };
+    let (list, rest) = lent.list.split_at(2 * pairs as usize);
+    assert!(rest.iter().all(|w| *w == 7), "words past the list are as they were");
+    let pairs = list.chunks(2).map(|p| (p[0] as u32, p[1] as u32)).collect();
+    Left { answer, pairs, used: (objects as usize, links as usize), objects: lent.tables.objects, links: lent.tables.links }
+}
+
+fn by_lists(c: &Case) -> Left {
+    let (book, mut lists, mut lent) = (Book::new(c.park), Lists::new(), Lent::new(c.park, c.room, c.words));
+    let answer = lent.built(&book, &mut lists, c.events);
+    let used = if answer == Answer::Accepted { lists.used() } else { (c.park.objects.len(), c.park.links.len()) };
+    Left { answer, pairs: lists.pairs, used, objects: lent.tables.objects, links: lent.tables.links }
+}
+
+fn by_letter(c: &Case) -> Left {
+    let found = literal::batch(c.park, c.room, c.events, c.words);
+    let lent = Lent::new(&found.register, c.room, 0);
+    let used = (lent.used.0 as usize, lent.used.1 as usize);
+    Left { answer: found.answer, pairs: found.pairs, used, objects: lent.tables.objects, links: lent.tables.links }
+}
+
+// The three checks of one case, and whether proved and plain differ, and plain and the letter of document 01.
+fn compared(c: &Case) -> (Left, [bool; 2]) {
+    let (proved, plain, letter) = (by_library(c), by_lists(c), by_letter(c));
+    let differ = [proved != plain, plain != letter];
+    if differ != [false; 2] {
+        println!("differ: {:?} {:?} {:?} on {:?}", proved.answer, plain.answer, letter.answer, c.events);
+        println!("{:?}\n{:?}\n{:?}", proved.pairs, plain.pairs, letter.pairs);
+    }
+    (proved, differ)
+}
+
+fn tell(what: &str, found: &[(Left, [bool; 2])]) {
+    let count = |test: &dyn Fn(&Answer) -> bool| found.iter().filter(|(left, _)| test(&left.answer)).count();
+    let (accepted, broken) = (count(&|a| *a == Answer::Accepted), count(&|a| matches!(a, Answer::Broken(..))));
+    let pairs: usize = found.iter().map(|(left, _)| left.pairs.len()).sum();
+    println!("{} {what}: {accepted} accepted, {broken} broken, {} refused; {pairs} pairs listed", found.len(), found.len() - accepted - broken);
+    let [plain, letter] = [0, 1].map(|i| found.iter().filter(|(_, differ)| differ[i]).count());
+    println!("  disagreements in answer, list or register: proved and plain {plain}, plain and document 01 by the letter {letter}");
+}
+
+fn agree_on_drawn() {
+    let found: Vec<_> = (1..=DRAWN)
+        .map(|seed| {
+            let park = drawn::book(seed);
+            let events = drawn::batch(&park, seed + 1_000_000);
+            // some lists are too short, some registers faulty
+            let words = if seed % 16 == 0 { 5 } else { 512 };
+            let park = if seed % 16 == 1 { drawn::damaged(park, seed) } else { park };
+            compared(&Case { park: &park, room: drawn::ROOM, events: &events, words })
+        })
+        .collect();
+    tell("drawn books, registers and batches", &found);
+}
+
+fn agree_on_visits(parks: &[Park], visits: &[Visit]) {
+    let mut found = vec![];
+    for (park, (_, room)) in parks.iter().zip(SIZES) {
+        found.extend(visits.iter().map(|v| compared(&Case { park, room, events: &v.events, words: LIST_WORDS })));
+    }
+    tell("visits on the two parks", &found);
+}
+
+// The pairs that a full check evaluates: for each rule the objects of its context type.
+fn all_pairs(p: &Park) -> usize {
+    let plain = Plain::new(p);
+    p.rules.iter().map(|(context, _)| plain.kinds.iter().filter(|k| plain.under(**k, *context)).count()).sum()
+}
+
+// A visit to a park, with what the timed calls start from.
+struct Timed<'a> {
+    park: &'a Park,
+    lent: Lent,
+    book: Book,
+    visit: &'a Visit,
+    pairs: usize,
+}
+
+fn timed<'a>(parks: &'a [Park], visits: &'a [Visit]) -> Vec<Timed<'a>> {
+    let mut out = vec![];
+    for (park, (_, room)) in parks.iter().zip(SIZES) {
+        for visit in visits {
+            let left = by_library(&Case { park, room, events: &visit.events, words: LIST_WORDS });
+            out.push(Timed { park, lent: Lent::new(park, room, LIST_WORDS), book: Book::new(park), visit, pairs: left.pairs.len() });
+        }
+    }
+    out
+}
+
+impl Timed<'_> {
+    fn name(&self) -> String {
+        format!("{:7}  {:5}  {:37}  {:6}", self.park.objects.len(), self.park.links.len(), self.visit.name, self.visit.events.len())
+    }
+
+    fn restore(&self) -> Call<'_> {
+        let mut lent = self.lent.clone();
+        call(move || lent.restore())
+    }
+
+    fn proved(&self) -> Call<'_> {
+        let mut lent = self.lent.clone();
+        call(move || {
+            lent.restore();
+            lent.proved(&self.visit.events)
+        })
+    }
+
+    fn built(&self) -> Call<'_> {
+        let (mut lent, mut lists) = (self.lent.clone(), Lists::new());
+        call(move || {
+            lent.restore();
+            lent.built(&self.book, &mut lists, &self.visit.events)
+        })
+    }
+
+    // The lists are kept, and brought back by the visit's own undoing.
+    fn kept(&self) -> Call<'_> {
+        let (lent, mut lists) = (&self.lent, Lists::new());
+        let room = (lent.tables.objects.len() / 10, lent.tables.links.len() / 3);
+        lists.build(&self.book, &lent.tables.objects[..10 * lent.used.0 as usize], &lent.tables.links[..3 * lent.used.1 as usize]).unwrap();
+        call(move || {
+            let answer = lists.visit(&self.book, room, &self.visit.events, LIST_WORDS);
+            lists.take_back();
+            answer
+        })
+    }
+}
+
+// A park's calls whose differences are the parts of a batch check.
+struct Parts<'a> {
+    timed: &'a Timed<'a>,
+    tables: Tables,
+    without_rules: Tables,
+    after: Tables, // with the register after the visit
+}
+
+impl Parts<'_> {
+    fn new<'a>(timed: &'a Timed<'a>) -> Parts<'a> {
+        let tables = park::tables(timed.park);
+        let (mut lent, mut after) = (timed.lent.clone(), tables.clone());
+        let [.., objects, links] = lent.proved(&timed.visit.events);
+        after.objects = lent.tables.objects[..10 * objects as usize].to_vec();
+        after.links = lent.tables.links[..3 * links as usize].to_vec();
+        let without_rules = Tables { rules: vec![], bodies: vec![], ..tables.clone() };
+        assert_eq!(full_check(&without_rules), [0; 3]);
+        Parts { timed, tables, without_rules, after }
+    }
+
+    fn ran<'a>(&'a self, events: &'a [Event]) -> Call<'a> {
+        let (t, mut scratch) = (&self.timed.lent, self.timed.lent.scratch.clone());
+        call(move || run(&t.tables, t.used, events.as_flattened(), &mut scratch))
+    }
+
+    fn calls(&self) -> Vec<Call<'_>> {
+        let (t, events) = (self.timed, &self.timed.visit.events);
+        vec![
+            t.restore(),
+            t.proved(),
+            call(|| full_check(&self.without_rules)),
+            call(|| check(&self.without_rules)),
+            call(|| check(&self.tables)),
+            self.ran(&[]),
+            self.ran(events),
+        ]
+    }
+}
+
+const HEAD: &str = "objects  links  visit                                  events";
+
+// Times of the proved and the plain incremental check.
+fn beside_plain(cases: &[Timed]) {
+    let figures = rounds(&mut cases.iter().map(|c| vec![c.restore(), c.proved(), c.built(), c.kept()]).collect::<Vec<_>>());
+    println!("\n{HEAD}  pairs  proved (us)  plain, lists built (us)  plain, lists kept (us)  proved / built  proved / kept");
+    for (c, f) in cases.iter().zip(&figures) {
+        let [proved, built] = [1, 2].map(|i| median(f, |r| r[i] - r[0]));
+        let kept = median(f, |r| r[3]);
+        let (to_built, to_kept) = (median(f, |r| (r[1] - r[0]) / (r[2] - r[0])), median(f, |r| (r[1] - r[0]) / r[3]));
+        println!("{}  {:5}  {proved:11.1}  {built:23.1}  {kept:22.1}  {to_built:14.2}  {to_kept:13.2}", c.name(), c.pairs);
+    }
+}
+
+// The batch check and full checks of the same parks, and the bodies that each evaluates. Without a batch check a caller would run the events and
+// check the register after them.
+fn beside_full(cases: &[Timed]) {
+    let parts: Vec<Parts> = cases.iter().map(Parts::new).collect();
+    let mut groups: Vec<Vec<Call>> = vec![];
+    for (c, p) in cases.iter().zip(&parts) {
+        let mut ran = p.ran(&c.visit.events);
+        let both = call(move || {
+            ran();
+            full_check(&p.after)
+        });
+        groups.push(vec![c.restore(), c.proved(), call(|| full_check(&p.tables)), call(|| Plain::new(c.park).full_check(c.park)), both]);
+    }
+    let figures = rounds(&mut groups);
+    println!("\n{HEAD}  bodies, batch  bodies, full  one in  batch (us)  full (us)  plain full (us)  run and full (us)  batch / full  batch / run and full");
+    for (c, f) in cases.iter().zip(&figures) {
+        let all = all_pairs(c.park);
+        let [batch, full, plain, both] = [median(f, |r| r[1] - r[0]), median(f, |r| r[2]), median(f, |r| r[3]), median(f, |r| r[4])];
+        let [to_full, to_both] = [2, 4].map(|i| median(f, |r| (r[1] - r[0]) / r[i]));
+        let share = all as f64 / c.pairs as f64;
+        print!("{}  {:13}  {all:12}  {share:6.1}  {batch:10.1}  {full:9.1}  {plain:15.1}", c.name(), c.pairs);
+        println!("  {both:17.1}  {to_full:12.2}  {to_both:20.2}");
+    }
+}
+
+#[cfg(sqlite)]
+fn beside_sqlite(cases: &[Timed], broken: &[Timed]) {
+    println!("\nSQLite {}, in memory, {} views", sqlite::version(), cases[0].park.rules.len());
+    let databases: Vec<sqlite::Database> = cases.iter().map(|c| sqlite::Database::new(c.park)).collect();
+    for c in cases.iter().chain(broken) {
+        let rule = match by_library(&Case { park: c.park, room: SIZES[1].1, events: &c.visit.events, words: LIST_WORDS }).answer {
+            Answer::Broken(rule, _) => Some(rule),
+            _ => None,
+        };
+        assert_eq!(sqlite::Database::new(c.park).visit(&c.visit.events, false), rule, "{}", c.visit.name);
+    }
+    let mut groups: Vec<Vec<Call>> = vec![];
+    for (c, d) in cases.iter().zip(&databases) {
+        groups.push(vec![c.restore(), c.proved(), call(move || d.visit(&c.visit.events, false)), call(move || d.visit(&c.visit.events, true))]);
+    }
+    let figures = rounds(&mut groups);
+    println!("{HEAD}  proved (us)  SQLite, queries kept (us)  / proved  SQLite, queries prepared (us)  / proved");
+    for (c, f) in cases.iter().zip(&figures) {
+        let [proved, kept, prepared] = [median(f, |r| r[1] - r[0]), median(f, |r| r[2]), median(f, |r| r[3])];
+        let [to_kept, to_prepared] = [2, 3].map(|i| median(f, |r| r[i] / (r[1] - r[0])));
+        println!("{}  {proved:11.1}  {kept:25.0}  {to_kept:8.1}  {prepared:29.0}  {to_prepared:8.1}", c.name());
+    }
+}
+
+#[cfg(not(sqlite))]
+fn beside_sqlite(_: &[Timed], _: &[Timed]) {
+    println!("\nSQLite is not here: left out");
+}
+
+// The parts of a batch check from the times of a park's seven calls.
+const PARTS: [(&str, fn(&[f64]) -> f64); 10] = [
+    ("the batch check", |r| r[1] - r[0]),
+    ("- validation of schema and register", |r| r[3]),
+    ("- index", |r| r[2] - r[3]),
+    ("- validation of the rules", |r| r[4] - r[3]),
+    ("- copy to the scratch", |r| r[5] - r[4]),
+    ("- the events", |r| r[6] - r[5]),
+    ("- the rest", |r| r[1] - r[0] - (r[2] - r[3]) - r[6]),
+    ("the full check without rules", |r| r[2]),
+    ("the batch check less that", |r| r[1] - r[0] - r[2]),
+    ("and less the validation of the rules", |r| r[1] - r[0] - r[2] - (r[4] - r[3])),
+];
+
+// The park with the rules that say nothing of all objects of a type, which cost what there are of them.
+fn without_all(p: &Park) -> Park {
+    let over_all = |f: &Form| {
+        let mut rows = vec![];
+        park::write(f, &mut rows);
+        rows.chunks(4).any(|row| row[0] == 21)
+    };
+    Park { rules: p.rules.iter().filter(|r| !over_all(&r.1)).cloned().collect(), ..literal::copy(p) }
+}
+
+// The same visit on both parks, part by part.
+fn by_parts(cases: &[Timed]) {
+    let visits = cases.len() / 2;
+    let parts: Vec<Parts> = cases.iter().map(Parts::new).collect();
+    let mut groups: Vec<Vec<Call>> = (0..visits).map(|v| parts[v].calls().into_iter().chain(parts[visits + v].calls()).collect()).collect();
+    let figures = rounds(&mut groups);
+    for (v, f) in figures.iter().enumerate() {
+        let [small, large] = [v, visits + v].map(|i| cases[i].park.objects.len());
+        let title = format!("the same {} events, {} rules", cases[v].visit.events.len(), cases[v].park.rules.len());
+        println!("\n{title:38}  {small:4} objects (us)  {large:4} objects (us)   ratio");
+        for (name, part) in PARTS {
+            let (x, y, ratio) = (median(f, |r| part(&r[..7])), median(f, |r| part(&r[7..])), median(f, |r| part(&r[7..]) / part(&r[..7])));
+            println!("{name:38}  {x:17.1}  {y:17.1}  {ratio:6.2}");
+        }
+    }
+}
+
+fn main() {
+    let parks: Vec<Park> = SIZES.iter().map(|(sections, _)| visits::wind_park(sections)).collect();
+    for p in &parks {
+        assert_eq!(full_check(&park::tables(p)), [0; 3]);
+        assert_eq!(Plain::new(p).full_check(p), None);
+    }
+    let kinds = [visits::accepted(), visits::broken(), visits::refused()];
+    agree_on_drawn();
+    for visits in &kinds {
+        agree_on_visits(&parks, visits);
+    }
+    let [accepted, broken, refused] = kinds.each_ref().map(|visits| timed(&parks, visits));
+    beside_plain(&accepted);
+    beside_plain(&broken);
+    beside_plain(&refused);
+    beside_full(&accepted);
+    beside_sqlite(&accepted, &broken);
+    by_parts(&accepted);
+    by_parts(&timed(&parks.iter().map(without_all).collect::<Vec<_>>(), &kinds[0]));
+}
