@@ -1,10 +1,11 @@
-// Batches of events beside a plain run of them over ordered maps, in one run: the same registers, and the time of 0, 5, 40 and 256 events.
+// Batches of events beside a plain run of them over ordered maps, in one run: the same registers, and the time of 0, 5, 40 and 256 events. Then the
+// event lists of thirty rules.
 #[allow(dead_code)]
 mod library;
 #[allow(dead_code)]
 mod park;
 
-use library::{call, median, rounds, run, Call};
+use library::{call, events, median, rounds, run, Call};
 use park::{Draw, Ids, Park, Tables};
 use std::collections::{BTreeMap, BTreeSet};
 
@@ -114,7 +115,32 @@ fn calls(cases: &[Case]) -> Vec<Call<'_>> {
         .collect()
 }
 
+// Lists the event types of every rule of a park's book; how many there are.
+fn lists(t: &Tables, list: &mut [u16]) -> u32 {
+    (0..t.rules.len() as u32 / 2)
+        .map(|rule| {
+            let [refused, count, _] = events(t, rule, list);
+            assert_eq!(refused, 0);
+            count
+        })
+        .sum()
+}
+
+// The time of all event lists of the park's rules, beside that of the refusal checks that each of them begins with.
+fn event_lists() {
+    let t = park::tables(&park::park(1000, 4000, 7));
+    let (mut list, rules) = (vec![7; 3 * 1792], t.rules.len() / 2);
+    let count = lists(&t, &mut list);
+    let mut refused = vec![7; 3 * 1792];
+    let groups = &mut [vec![call(|| lists(&t, &mut list)), call(|| (0..rules).map(|_| events(&t, 32, &mut refused)[1]).sum::<u32>())]];
+    let figures = &rounds(groups)[0];
+    println!("rules  event types  their lists (us)  each (us)  of it the checks of the book (us)");
+    let (all, checks) = (median(figures, |r| r[0]), median(figures, |r| r[1]));
+    println!("{rules:5}  {count:11}  {all:16.1}  {:9.2}  {:33.2}", all / rules as f64, checks / rules as f64);
+}
+
 fn main() {
+    event_lists();
     let cases = park::KINDS.map(|(_, ids)| SIZES.map(|(objects, links)| COUNTS.map(|count| case(objects, links, ids, count))));
     let figures = rounds(&mut cases.iter().flatten().map(|c| calls(c)).collect::<Vec<_>>());
     for ((name, _), lines) in park::KINDS.iter().zip(figures.chunks(SIZES.len())) {

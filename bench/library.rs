@@ -145,6 +145,34 @@ pub fn batch(t: &mut Tables, used: (u32, u32), events: &[[u32; 4]], scratch: &mu
     answer
 }
 
+extern "C" {
+    /// 0 and the event types in the list; or 1, number, place
+    fn checker_events(
+        types_used: u32, relationships_used: u32, rules_used: u32,
+        types: *const u32, types_len: usize, relationships: *const u32, relationships_len: usize,
+        rules: *const u32, rules_len: usize, bodies: *const u32, bodies_len: usize,
+        rule: u32,
+        list: *mut u16, list_len: usize,
+        answer: *mut u32,
+    );
+}
+
+// Lists the event types of a rule, three words each.
+pub fn events(t: &Tables, rule: u32, list: &mut [u16]) -> [u32; 3] {
+    let mut answer = [0; 3];
+    unsafe {
+        checker_events(
+            (t.types.len() / 2) as u32, (t.relationships.len() / 2) as u32, (t.rules.len() / 2) as u32,
+            t.types.as_ptr(), t.types.len(), t.relationships.as_ptr(), t.relationships.len(),
+            t.rules.as_ptr(), t.rules.len(), t.bodies.as_ptr(), t.bodies.len(),
+            rule,
+            list.as_mut_ptr(), list.len(),
+            answer.as_mut_ptr(),
+        );
+    }
+    answer
+}
+
 pub type Call<'a> = Box<dyn FnMut() + 'a>;
 
 // What is timed, with its answer kept from the compiler's sight.
