@@ -268,7 +268,7 @@ def largest(last):
     gone = name(5, 9)
     own = sorted(link for link in register.links if gone in link[1:])
     events = [('part', *link) for link in own] + [('delete', gone), ('insert', gone, 5), ('set', gone, 1, 130)]
-    events += [('join', *link) for link in own] + [('general', gone, 0)] * 0
+    events += [('join', *link) for link in own]
     events += [('set', name(n % 7, n % 32), 0, n % 32) for n in range(255 - len(events))] + [last]
     return Case(largest_book(), register, events, LARGEST, 65536)
 
@@ -296,7 +296,16 @@ def from_blocks(blocks, **lent):
         yield Case(book, register, events, **lent)
 
 
+def marked():
+    """The cases whose outcomes were found by hand, with tables for any book."""
+    with open(os.path.join(os.path.dirname(plain.__file__), 'marked.txt')) as file:
+        blocks = file.read().strip('\n').split('\n\n')
+    rows = {**LARGEST, **{name: SMALL[name] for name in ('objects', 'links', 'events')}}
+    yield from from_blocks([block.split('\n') for block in blocks], rows=rows)
+
+
 def all_cases():
+    yield from (case.file_words() for case in marked())
     for number in range(120):
         cases = list(from_blocks(draw.drawn(number, 5)))
         yield from (case.file_words() for case in cases)

@@ -164,12 +164,12 @@ impl Park {
         if 10 * objects.len() > self.objects.len() || 3 * links.len() > self.links.len() {
             return Err(Refusal { number: 2, place: 0 });
         }
-        let object_rows: Vec<u32> = objects.iter().flat_map(|o| [o.id, o.type_number].into_iter().chain(o.cells.map(|c| c as u32))).collect();
-        let link_rows: Vec<u32> = links.iter().flat_map(|l| [l.relationship, l.source, l.target]).collect();
+        let new_objects: Vec<u32> = objects.iter().flat_map(|o| [o.id, o.type_number].into_iter().chain(o.cells.map(|c| c as u32))).collect();
+        let new_links: Vec<u32> = links.iter().flat_map(|l| [l.relationship, l.source, l.target]).collect();
         let used = Used { objects: objects.len() as u32, links: links.len() as u32, ..self.used };
-        self.look_through(used, &object_rows, &link_rows)?;
-        put(&mut self.objects, object_rows);
-        put(&mut self.links, link_rows);
+        self.look_through(used, &new_objects, &new_links)?;
+        put(&mut self.objects, new_objects);
+        put(&mut self.links, new_links);
         self.used = used;
         self.listed = 0;
         Ok(())
@@ -212,6 +212,29 @@ impl Park {
             self.used = Used { objects, links, ..n };
         }
         said([kind, x, y])
+    }
+
+    /// The register as the events would leave it, whatever the rules say; the park stays as it is.
+    pub fn run(&mut self, events: &[Event]) -> Result<(Vec<Object>, Vec<Link>), Refusal> {
+        let rows: Vec<u32> = events.iter().flat_map(words).collect();
+        let mut answer = [0; 3];
+        let n = self.used;
+        // SAFETY: each address and length is of a slice that lives through the call, and no two that are written overlap.
+        unsafe {
+            checker_run(
+                n.types, n.relationships, n.rules, n.objects, n.links,
+                self.types.as_ptr(), self.types.len(), self.relationships.as_ptr(), self.relationships.len(),
+                self.rules.as_ptr(), self.rules.len(), self.bodies.as_ptr(), self.bodies.len(),
+                self.objects.as_ptr(), self.objects.len(), self.links.as_ptr(), self.links.len(),
+                self.scratch_objects.as_mut_ptr(), self.scratch_objects.len(), self.scratch_links.as_mut_ptr(), self.scratch_links.len(),
+                count(events.len()), rows.as_ptr(), rows.len(),
+                &mut answer,
+            );
+        }
+        match answer {
+            [0, objects, links] => Ok((object_rows(&self.scratch_objects, objects).collect(), link_rows(&self.scratch_links, links).collect())),
+            [_, number, place] => Err(Refusal { number, place }),
+        }
     }
 
     /// The pairs that the last batch check looked at, by rule and then by id; none after a refusal.
@@ -279,15 +302,22 @@ impl Park {
 
     /// The objects, by id.
     pub fn objects(&self) -> impl Iterator<Item = Object> + '_ {
-        let cells = |row: &[u32]| std::array::from_fn(|k| row[2 + k] as i32);
-        self.objects.chunks(10).take(self.used.objects as usize).map(move |row| Object { id: row[0], type_number: row[1], cells: cells(row) })
+        object_rows(&self.objects, self.used.objects)
     }
 
     /// The links, by relationship, source and target.
     pub fn links(&self) -> impl Iterator<Item = Link> + '_ {
-        let rows = self.links.chunks(3).take(self.used.links as usize);
-        rows.map(|row| Link { relationship: row[0], source: row[1], target: row[2] })
+        link_rows(&self.links, self.used.links)
     }
+}
+
+fn object_rows(table: &[u32], used: u32) -> impl Iterator<Item = Object> + '_ {
+    let cells = |row: &[u32]| std::array::from_fn(|k| row[2 + k] as i32);
+    table.chunks(10).take(used as usize).map(move |row| Object { id: row[0], type_number: row[1], cells: cells(row) })
+}
+
+fn link_rows(table: &[u32], used: u32) -> impl Iterator<Item = Link> + '_ {
+    table.chunks(3).take(used as usize).map(|row| Link { relationship: row[0], source: row[1], target: row[2] })
 }
 
 // Rows into the front of a table, and zeros after them.
@@ -378,6 +408,16 @@ extern "C" {
         objects: *mut u32, objects_len: usize, links: *mut u32, links_len: usize,
         events: *mut u32, events_len: usize,
         answer: &mut [u32; 7],
+    );
+
+    fn checker_run(
+        types_used: u32, relationships_used: u32, rules_used: u32, objects_used: u32, links_used: u32,
+        types: *const u32, types_len: usize, relationships: *const u32, relationships_len: usize,
+        rules: *const u32, rules_len: usize, bodies: *const u32, bodies_len: usize,
+        objects: *const u32, objects_len: usize, links: *const u32, links_len: usize,
+        scratch_objects: *mut u32, scratch_objects_len: usize, scratch_links: *mut u32, scratch_links_len: usize,
+        events_used: u32, events: *const u32, events_len: usize,
+        answer: &mut [u32; 3],
     );
 
     fn checker_batch(

@@ -1,5 +1,6 @@
 // The stack that each call of `checker.rs` takes, the wrapper's own frames with it. The free stack below the caller is painted, the call
 // made, and the lowest word that lost its paint tells how deep it went.
+#[allow(dead_code)]
 mod checker;
 #[path = "../bench/fitters.rs"]
 mod fitters;
@@ -74,17 +75,18 @@ fn text_with(body: &str) -> String {
     format!("{book}(rule 0 0 {body})\n{register}{events}(join 0 4 2)\n")
 }
 
-const CALLS: [&str; 6] = ["set_register", "full", "check", "read", "events", "text"];
+const CALLS: [&str; 7] = ["read", "set_register", "full", "run", "check", "events", "text"];
 
 // The stack of each call on a park and a batch.
-fn on_park(park: &Park, events: &[Event], text: &[u8]) -> [usize; 6] {
+fn on_park(park: &Park, events: &[Event], text: &[u8]) -> [usize; 7] {
     let (objects, links): (Vec<_>, Vec<_>) = (park.objects().collect(), park.links().collect());
-    let (mut checked, mut set) = (park.clone(), park.clone());
+    let [mut set, mut ran, mut checked] = [(); 3].map(|_| park.clone());
     [
-        depth(|| assert!(set.set_register(&objects, &links).is_ok())),
-        depth(|| drop(park.full())),
-        depth(|| assert!(!matches!(checked.check(events), checker::Answer::Refused { .. }))),
         depth(|| assert!(Park::read(text).is_ok())),
+        depth(|| assert!(set.set_register(&objects, &links).is_ok())),
+        depth(|| assert!(!matches!(park.full(), checker::Answer::Refused { .. }))),
+        depth(|| assert!(ran.run(events).is_ok())),
+        depth(|| assert!(!matches!(checked.check(events), checker::Answer::Refused { .. }))),
         depth(|| assert!(park.events(0).is_ok())),
         depth(|| drop(park.text(events))),
     ]
@@ -102,7 +104,7 @@ fn measure() {
         let (park, events) = Park::read(text.as_bytes()).expect(name);
         lines.push((format!("64 forms: {name}"), on_park(&park, &events, text.as_bytes())));
     }
-    let line = |name: &str, figures: [String; 6]| println!("{name:40}{}", figures.map(|f| format!("{f:>14}")).concat());
+    let line = |name: &str, figures: [String; 7]| println!("{name:40}{}", figures.map(|f| format!("{f:>14}")).concat());
     line("bytes of stack", CALLS.map(String::from));
     lines.iter().for_each(|(name, bytes)| line(name, bytes.map(|b| b.to_string())));
     line("most", std::array::from_fn(|i| lines.iter().map(|l| l.1[i]).max().unwrap().to_string()));
