@@ -170,49 +170,64 @@ def reading(case, text=None, refusal=None, rows=None):
 # ---------------------------------------------------------------- damaged
 
 EVERY = ['check', 'full', 'run', 'batch', 'write']
+BOOKS = EVERY + ['events']
 BATCHED = ['run', 'batch', 'write']
 
 
+def word(name, at, value):
+    return lambda case: case.lent[name].__setitem__(at, value)
+
+
+def count(name, value):
+    return lambda case: case.used.__setitem__(name, value)
+
+
+def swap(name):
+    """The first two rows exchanged."""
+    def change(case):
+        width, table = WIDTHS[name], case.lent[name]
+        table[:2 * width] = table[width:2 * width] + table[:width]
+    return change
+
+
+def shorter_scratch(at):
+    return lambda case: case.scratch.__setitem__(at, case.scratch[at] - 1)
+
+
+def longer(name):
+    """A word more than whole rows."""
+    return lambda case: case.lent[name].append(0)
+
+
+def damages():
+    """Each kind of damage to tables that have two types, rules, objects, links and events or more: its refusal, who meets it, what is done."""
+    for name in COUNTED:
+        entries = BOOKS if name in COUNTED[:3] else BATCHED if name == 'events' else EVERY
+        yield 2, 0, entries, count(name, SMALL[name] + 1)
+        yield 2, 0, entries, count(name, 2**32 - 1)
+        yield 6, 0, entries, longer(name)
+    yield 6, 0, BOOKS, longer('bodies')
+    yield 3, 1, BOOKS, word('types', 2, 1)
+    yield 3, 0, BOOKS, word('types', 1, 9)
+    yield 3, 0, BOOKS, word('relationships', 1, 32)
+    yield 4, 1, BOOKS, word('rules', 2, 31)
+    yield 4, 1, BOOKS, word('rules', 3, 0)
+    yield 2, 0, BOOKS, word('rules', 3, 65)
+    yield 4, 0, BOOKS, word('bodies', 0, 23)
+    yield 5, 0, EVERY, word('objects', 0, 0)
+    yield 5, 0, EVERY, word('objects', 1, 32)
+    yield 5, 1, EVERY, swap('objects')
+    yield 5, 0, EVERY, word('links', 0, 32)
+    yield 5, 1, EVERY, swap('links')
+    yield 7, 0, BATCHED, word('events', 0, 7)
+    yield from ((6, 0, ['run', 'batch'], shorter_scratch(at)) for at in (0, 1))
+
+
 def damaged_tables(make):
-    """Each kind of damage to the tables of a case that has two types, rules, objects, links and events or more."""
-    def damaged(number, place, entries, change):
+    for number, place, entries, change in damages():
         case = make()
         change(case)
-        return case.damage(number, place, entries)
-
-    def word(name, at, value):
-        return lambda case: case.lent[name].__setitem__(at, value)
-
-    def count(name, value):
-        return lambda case: case.used.__setitem__(name, value)
-
-    def swap(name):
-        def change(case):
-            w, t = WIDTHS[name], case.lent[name]
-            t[:2 * w] = t[w:2 * w] + t[:w]
-        return change
-
-    book = EVERY + ['events']
-    for name, entries in [(n, book if n in COUNTED[:3] else BATCHED if n == 'events' else EVERY) for n in COUNTED]:
-        yield damaged(2, 0, entries, count(name, SMALL[name] + 1))
-        yield damaged(2, 0, entries, count(name, 2**32 - 1))
-        yield damaged(6, 0, entries, lambda case: case.lent[name].append(0))
-    yield damaged(6, 0, book, lambda case: case.lent['bodies'].pop())
-    yield damaged(3, 1, book, word('types', 2, 1))
-    yield damaged(3, 0, book, word('types', 1, 9))
-    yield damaged(3, 0, book, word('relationships', 1, 32))
-    yield damaged(4, 1, book, word('rules', 2, 31))
-    yield damaged(4, 1, book, word('rules', 3, 0))
-    yield damaged(2, 0, book, word('rules', 3, 65))
-    yield damaged(4, 0, book, word('bodies', 0, 23))
-    yield damaged(5, 0, EVERY, word('objects', 0, 0))
-    yield damaged(5, 0, EVERY, word('objects', 1, 32))
-    yield damaged(5, 1, EVERY, swap('objects'))
-    yield damaged(5, 0, EVERY, word('links', 0, 32))
-    yield damaged(5, 1, EVERY, swap('links'))
-    yield damaged(7, 0, BATCHED, word('events', 0, 7))
-    for at in (0, 1):
-        yield damaged(6, 0, ['run', 'batch'], lambda case: case.scratch.__setitem__(at, case.scratch[at] - 1))
+        yield case.damage(number, place, entries)
 
 
 DAMAGES = [

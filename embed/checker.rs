@@ -1,9 +1,9 @@
 //! The register checker as a safe Rust module: put `mod checker;` into a program and give the archive to the linker.
 //!
 //! A `Park` owns its tables, scratch and list, and keeps the counts in step with them, so no call can be given a wrong one. A call takes
-//! nothing from the heap but what it returns, and at most `STACK` bytes of its thread's stack. A `Park` can be sent to another thread.
+//! little more than a third of `STACK` bytes of its thread's stack. A `Park` can be sent to another thread.
 
-/// Bytes of stack that no call goes beyond, whatever it is given; the figures are in docs/EMBEDDING.md.
+/// Bytes of stack that a thread should have for any call; the measured figures are in docs/EMBEDDING.md.
 pub const STACK: usize = 1 << 20;
 
 const BODY_ROWS: usize = 64;
