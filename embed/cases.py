@@ -194,6 +194,11 @@ def shorter_scratch(at):
     return lambda case: case.scratch.__setitem__(at, case.scratch[at] - 1)
 
 
+def short_bodies(case):
+    """A row less than 64 for each rule."""
+    del case.lent['bodies'][256 * case.used['rules'] - 4:]
+
+
 def longer(name):
     """A word more than whole rows."""
     return lambda case: case.lent[name].append(0)
@@ -207,6 +212,7 @@ def damages():
         yield 2, 0, entries, count(name, 2**32 - 1)
         yield 6, 0, entries, longer(name)
     yield 6, 0, BOOKS, longer('bodies')
+    yield 2, 0, BOOKS, short_bodies
     yield 3, 1, BOOKS, word('types', 2, 1)
     yield 3, 0, BOOKS, word('types', 1, 9)
     yield 3, 0, BOOKS, word('relationships', 1, 32)
@@ -255,6 +261,8 @@ def too_small(case):
         last += case.used[name]
         if case.used[name]:
             yield reading(case, refusal=(2, last), rows={**case.rows, name: case.used[name] - 1})
+        if name == 'rules' and case.used[name]:  # each rule has 64 rows of bodies
+            yield reading(case, refusal=(2, last), rows={**case.rows, 'bodies': 64 * case.used[name] - 1})
 
 
 # ---------------------------------------------------------------- the largest

@@ -37,7 +37,7 @@ enum {
     CHECKER_MOST_TYPES = 32,
     CHECKER_MOST_RELATIONSHIPS = 32,
     CHECKER_MOST_RULES = 32,
-    CHECKER_BODY_ROWS = 64, /* of each rule: rule n's body starts at row 64 n */
+    CHECKER_BODY_ROWS = 64, /* to be lent for each used rule: rule n's body starts at row 64 n */
     CHECKER_MOST_OBJECTS = 1024,
     CHECKER_MOST_LINKS = 4096,
     CHECKER_MOST_EVENTS = 256,
