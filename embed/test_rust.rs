@@ -1,0 +1,289 @@
+// The wrapper of `checker.rs` beside document 01 taken by the letter (`bench/literal.rs`) and a plain full check (`bench/plain.rs`).
+#[allow(dead_code)]
+mod checker;
+#[path = "../bench/drawn.rs"]
+mod drawn;
+#[path = "../bench/fitters.rs"]
+mod fitters;
+#[allow(dead_code)]
+#[path = "../bench/incremental.rs"]
+mod incremental;
+mod lent;
+#[path = "../bench/literal.rs"]
+mod literal;
+#[allow(dead_code)]
+#[path = "../bench/park.rs"]
+mod park;
+#[path = "../bench/plain.rs"]
+mod plain;
+#[allow(dead_code)]
+#[path = "../bench/spelling.rs"]
+mod spelling;
+#[allow(dead_code)]
+#[path = "../bench/visits.rs"]
+mod visits;
+
+use checker::{Answer, EventType, Park, Refusal, Room};
+use park::Park as Plain;
+
+const DRAWN: u32 = 5_000;
+const DRAWN_ROOM: Room = Room { objects: drawn::ROOM.0, links: drawn::ROOM.1, pairs: 256 };
+
+#[derive(Default)]
+struct Tally {
+    cases: usize,
+    accepted: usize,
+    broken: usize,
+    refused: usize,
+    disagreements: usize,
+}
+
+impl Tally {
+    fn count(&mut self, answer: Answer) {
+        self.cases += 1;
+        *match answer {
+            Answer::Accepted => &mut self.accepted,
+            Answer::Broken { .. } => &mut self.broken,
+            Answer::Refused { .. } => &mut self.refused,
+        } += 1;
+    }
+
+    fn agree(&mut self, what: &str, same: bool) {
+        if !same {
+            self.disagreements += 1;
+            println!("case {}: {what} differs", self.cases);
+        }
+    }
+
+    // A text or a register that is refused.
+    fn refusal<T>(&mut self, what: &str, found: Result<T, Refusal>, (number, place): (u32, u32)) {
+        self.count(Answer::Refused { number, place });
+        self.agree(what, found.err() == Some(Refusal { number, place }));
+    }
+
+    fn tell(&self, what: &str) {
+        print!("{} {what}: {} accepted, {} broken, {} refused;", self.cases, self.accepted, self.broken, self.refused);
+        println!(" disagreements {}", self.disagreements);
+    }
+}
+
+fn told(answer: incremental::Answer) -> Answer {
+    match answer {
+        incremental::Answer::Accepted => Answer::Accepted,
+        incremental::Answer::Broken(rule, object) => Answer::Broken { rule, object },
+        incremental::Answer::Refused(number, place) => Answer::Refused { number, place },
+    }
+}
+
+// The park's register and text are the plain one's.
+fn same_park(t: &mut Tally, lent: &Park, plain: &Plain) {
+    t.agree("the objects", lent.objects().eq(lent::objects(plain)));
+    t.agree("the links", lent.links().eq(lent::links(plain)));
+    let text = spelling::text(plain).into_bytes();
+    let expected = if text.len() > 65_536 { Err(Refusal { number: 2, place: 0 }) } else { Ok(text) };
+    t.agree("the text", lent.text(&[]) == expected);
+}
+
+// The register that the events leave, by a plain run of them, unless an event is refused.
+fn ran(plain: &Plain, refused: incremental::Answer, rows: &[[u32; 4]]) -> Result<(Vec<checker::Object>, Vec<checker::Link>), Refusal> {
+    match refused {
+        incremental::Answer::Refused(number, place) if number < 14 => Err(Refusal { number, place }),
+        _ => {
+            let end = rows.iter().fold(literal::copy(plain), |now, row| literal::done(&now, *row));
+            Ok((lent::objects(&end), lent::links(&end)))
+        }
+    }
+}
+
+// One visit to a park. What is left of the plain one is returned.
+fn visit(t: &mut Tally, lent: &mut Park, plain: &Plain, room: Room, rows: &[[u32; 4]]) -> Plain {
+    let rows: Vec<[u32; 4]> = rows.iter().filter(|row| lent::event(row).is_some()).copied().collect();
+    let expected = literal::batch(plain, (room.objects, room.links), &rows, 2 * room.pairs);
+    let events = lent::events(&rows);
+    t.agree("the run", lent.run(&events) == ran(plain, expected.answer, &rows));
+    let found = lent.check(&events);
+    t.count(found);
+    t.agree("the answer", found == told(expected.answer));
+    t.agree("the list", lent.pairs().map(|p| (p.rule, p.object)).eq(expected.pairs.iter().copied()));
+    let after = Plain { rules: plain.rules.clone(), ..expected.register };
+    same_park(t, lent, &after);
+    let full = plain::Plain::new(&after).full_check(&after);
+    t.agree("the full check", lent.full() == full.map_or(Answer::Accepted, |(rule, object)| Answer::Broken { rule, object }));
+    after
+}
+
+fn spelled(rows: &[[u32; 4]]) -> String {
+    let line = |[kind, x, y, z]: &[u32; 4]| match kind {
+        0 => format!("(insert {x} {y})\n"),
+        1 => format!("(delete {x})\n"),
+        2 => format!("(set {x} {y} {})\n", *z as i32),
+        3 => format!("(join {x} {y} {z})\n"),
+        4 => format!("(part {x} {y} {z})\n"),
+        5 => format!("(special {x} {y})\n"),
+        6 => format!("(general {x} {y})\n"),
+        _ => String::new(),
+    };
+    rows.iter().filter(|row| lent::event(row).is_some()).map(line).collect()
+}
+
+// A damaged register in the place of the park's: refused with the park left as it was, or taken where the damage does none.
+fn damaged_register(t: &mut Tally, lent: &mut Park, plain: Plain, seed: u32) -> Plain {
+    let rules = plain.rules.clone();
+    let damaged = Plain { rules: plain.rules.clone(), ..drawn::damaged(literal::copy(&plain), seed) };
+    let found = lent.set_register(&lent::objects(&damaged), &lent::links(&damaged));
+    match literal::batch(&damaged, drawn::ROOM, &[], 512).answer {
+        incremental::Answer::Refused(number, place) => {
+            t.refusal("a damaged register", found, (number, place));
+            same_park(t, lent, &plain);
+            plain
+        }
+        _ => {
+            t.agree("a register", found.is_ok());
+            Plain { rules, ..damaged }
+        }
+    }
+}
+
+// Three visits one after the other to each drawn park, so that the counts have to stay in step with the tables.
+fn drawn_parks() -> Tally {
+    let mut t = Tally::default();
+    for seed in 1..=DRAWN {
+        let mut plain = drawn::book(seed);
+        // some lists are too short
+        let room = Room { pairs: if seed % 16 == 0 { 2 } else { 256 }, ..DRAWN_ROOM };
+        let rows = drawn::batch(&plain, seed + 1_000_000);
+        let text = spelling::text(&plain) + &spelled(&rows);
+        let (mut lent, events) = Park::read_into(text.as_bytes(), room).expect("a drawn text");
+        t.agree("the events that are read", events == lent::events(&rows));
+        let unknown = rows.iter().any(|row| literal::refusal(&plain, drawn::ROOM, *row) == Some(7));
+        t.agree("the text with its events", unknown || lent.text(&events) == Ok(text.into_bytes()));
+        if seed % 4 == 1 {
+            plain = damaged_register(&mut t, &mut lent, plain, seed);
+        }
+        for n in 1..=3 {
+            let rows = drawn::batch(&plain, seed + n * 1_000_000);
+            plain = visit(&mut t, &mut lent, &plain, room, &rows);
+        }
+    }
+    t
+}
+
+// The visits of the measurements, and parks without a row left.
+fn largest() -> Tally {
+    let mut t = Tally::default();
+    for (sections, room) in [(&visits::SMALL[..], Room { objects: 256, links: 1024, pairs: 4096 }), (&visits::LARGE, Room::LARGEST)] {
+        let plain = visits::wind_park(sections);
+        let (mut empty, _) = Park::read_into(lent::book_text(&plain).as_bytes(), room).expect("a book");
+        empty.set_register(&lent::objects(&plain), &lent::links(&plain)).expect("a register");
+        for v in visits::accepted().iter().chain(&visits::broken()).chain(&visits::refused()) {
+            visit(&mut t, &mut empty.clone(), &plain, room, &v.events);
+        }
+    }
+    let plain = park::park(1024, 4096, 7);
+    let full = lent::park(&plain);
+    let (r, a, b) = plain.links[0];
+    let (part, join) = ([4, r, a, b], [3, r, a, b]);
+    // an insert without a row, a row freed and used again, and one that is not freed
+    for rows in [vec![[0, 65_000, 0, 0]], vec![part, join], vec![[2, a, 0, 1]], vec![part, join, [3, 9, a, b], [3, 8, a, b]]] {
+        visit(&mut t, &mut full.clone(), &plain, Room::LARGEST, &rows);
+    }
+    t
+}
+
+// A line in another form, by its number and what is done to it: refusal 1 at that line.
+fn damaged_texts() -> Tally {
+    let damages: [fn(&str) -> String; 8] = [
+        |l| l[1..].to_string(),
+        |l| l[..l.len() - 1].to_string(),
+        |l| l.replacen(' ', "  ", 1),
+        |l| l.replacen('(', "( ", 1),
+        |l| l.replacen(' ', " 0", 1).replacen(" 0-", " -0", 1),
+        |l| format!("{l})"),
+        |l| format!("{} 0)", &l[..l.len() - 1]),
+        |_| String::new(),
+    ];
+    let mut t = Tally::default();
+    for seed in 1..=300 {
+        let text = spelling::text(&drawn::book(seed));
+        let lines: Vec<&str> = text.lines().collect();
+        for (k, damage) in damages.iter().enumerate() {
+            let at = (seed as usize * 5 + k * 3) % lines.len();
+            let bad: String = lines.iter().enumerate().map(|(n, l)| if n == at { damage(l) } else { l.to_string() } + "\n").collect();
+            t.refusal("a damaged text", Park::read(bad.as_bytes()), (1, at as u32 + 1));
+        }
+        t.refusal("a text without its last byte", Park::read(&text.as_bytes()[..text.len() - 1]), (1, lines.len() as u32));
+    }
+    t
+}
+
+fn lines(count: usize, line: impl Fn(usize) -> String) -> String {
+    (0..count).map(|n| line(n) + "\n").collect()
+}
+
+// One more than a limit or the room has.
+fn too_many() -> Tally {
+    let mut t = Tally::default();
+    let head = "(type 0 - 0)\n(rel 0 0 0)\n".to_string();
+    let objects = |n| lines(n, |i| format!("(ent {} 0)", i + 1));
+    let links = |n| lines(n, |i| format!("(link 0 {} {})", 1 + i / 65, 1 + i % 65));
+    let rule = |nots: usize| format!("{}(kind 0 0){}", "(not ".repeat(nots), ")".repeat(nots));
+    let cases = [
+        (lines(33, |n| format!("(type {n} - 0)")), 33),
+        ("(type 0 - 0)\n".to_string() + &lines(33, |n| format!("(rel {n} 0 0)")), 34),
+        (head.clone() + &lines(33, |n| format!("(rule {n} 0 (kind 0 0))")), 35),
+        (head.clone() + &lines(1, |n| format!("(rule {n} 0 {})", rule(64))), 3),
+        (head.clone() + &objects(1025), 1027),
+        (head.clone() + &objects(65) + &links(4097), 2 + 65 + 4097),
+        (head.clone() + &objects(1) + &lines(257, |_| "(delete 2)".to_string()), 2 + 1 + 257),
+        (head.clone() + &"x".repeat(65_536), 0),
+    ];
+    for (text, line) in &cases {
+        t.refusal("a text with too much", Park::read(text.as_bytes()), (2, *line));
+    }
+    let text = head + &objects(4) + &lines(3, |n| format!("(link 0 1 {})", n + 1));
+    let room = |objects, links| Room { objects, links, pairs: 0 };
+    t.refusal("too few rows for objects", Park::read_into(text.as_bytes(), room(3, 9)), (2, 6));
+    t.refusal("too few rows for links", Park::read_into(text.as_bytes(), room(9, 2)), (2, 9));
+    let (mut park, _) = Park::read_into(text.as_bytes(), room(4, 3)).expect("a text that fits");
+    let five: Vec<_> = (1..=5).map(|id| checker::Object { id, type_number: 0, cells: [0; 8] }).collect();
+    t.refusal("too few rows for a register", park.set_register(&five, &[]), (2, 0));
+    let many = vec![checker::Event::Delete { object: 4 }; 257];
+    t.count(park.check(&many));
+    t.agree("too many events", park.check(&many) == Answer::Refused { number: 2, place: 0 } && park.objects().count() == 4);
+    t
+}
+
+// The event list of the example's first rule, by hand: cabinets (0) with drives (1), and a sum of what they draw.
+fn event_lists() -> Tally {
+    let mut t = Tally::default();
+    let (park, events) = Park::read(include_bytes!("../docs/examples/park.txt")).expect("the example");
+    t.count(park.clone().check(&events));
+    let set = |type_number| EventType::Set { type_number, cell: 0 };
+    let join = EventType::Join { relationship: 0 };
+    let part = EventType::Part { relationship: 0 };
+    t.agree("an event list", park.events(0) == Ok(vec![EventType::Insert { type_number: 0 }, set(0), set(1), join, part]));
+    t.refusal("a rule that is not there", park.events(4), (4, 4));
+    t
+}
+
+fn tests() -> usize {
+    let groups: [(&str, fn() -> Tally); 5] = [
+        ("visits to drawn parks", drawn_parks),
+        ("visits to the largest parks", largest),
+        ("damaged texts", damaged_texts),
+        ("texts, registers and batches with too much", too_many),
+        ("event lists", event_lists),
+    ];
+    let tallies = groups.map(|(name, group)| {
+        let t = group();
+        t.tell(name);
+        t.disagreements
+    });
+    tallies.iter().sum()
+}
+
+// On a thread with no more stack than the wrapper says that it takes, and half as much again for the plain check.
+fn main() {
+    let thread = std::thread::Builder::new().stack_size(checker::STACK * 3 / 2).spawn(tests).expect("a thread");
+    std::process::exit(if thread.join().expect("tests") == 0 { 0 } else { 1 });
+}
