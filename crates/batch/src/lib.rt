@@ -1,7 +1,6 @@
 // Demand 3: the batch check of lent tables. The events are taken on a copy of the register, the pairs that they select are listed, and the first of them
 // that is broken at the end decides.
 use batch_selection::selected_pairs;
-use register::slots;
 use tables::Answer;
 use tables::Counts;
 use tables::Verdict;
@@ -53,7 +52,7 @@ fn judge(
         → Judges (endOutcome (bookOf n s) lent g c) (now (list .entry)) r (now (list .exit))) ⌝ }
 {
     let mut index = [0u16; 81920];
-    slots::index(n.objects, objects, n.links, links, &mut index);
+    link_index::index(n.objects, objects, n.links, links, &mut index);
     let mut chosen = [0u16; 32768];
     let count = selected_pairs(
         n,

@@ -145,7 +145,7 @@ fn contents(
         rules,
         bodies,
     );
-    let g = register::check(
+    let g = register_faults::check(
         n.types,
         types,
         n.relationships,

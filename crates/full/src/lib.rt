@@ -1,7 +1,6 @@
 // Demand 2: the full check of a lent register against a lent book, and one rule at one object.
 use full_search::breaks_at;
 use full_search::search;
-use register::slots;
 use tables::Answer;
 use tables::Counts;
 use tables::Verdict;
@@ -37,7 +36,7 @@ pub fn check(
         Verdict::Refused(number, place) => Answer::Refused(number, place),
         Verdict::Clear => {
             let mut index = [0u16; 81920];
-            slots::index(n.objects, objects, n.links, links, &mut index);
+            link_index::index(n.objects, objects, n.links, links, &mut index);
             search(
                 n,
                 types,
@@ -99,7 +98,7 @@ pub fn check_rule(
         Verdict::Refused(number, place) => Answer::Refused(number, place),
         Verdict::Clear => {
             let mut index = [0u16; 81920];
-            slots::index(n.objects, objects, n.links, links, &mut index);
+            link_index::index(n.objects, objects, n.links, links, &mut index);
             if breaks_at(
                 n,
                 types,

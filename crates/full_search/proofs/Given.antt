@@ -17,8 +17,8 @@ use Rattle.tables.specs.Bodies.{readBody}
 use Rattle.tables.specs.Columns.{ruleRow, relationshipRow, bookOf, registerIn}
 use Rattle.tables.specs.declared.Counts.{Counts}
 use Rattle.schema.proofs.Rows.{length-rows, row-there}
-use Rattle.register.specs.Slots.{Indexable}
-use Rattle.register.proofs.Fits.{indexable}
+use Rattle.link_index.specs.Slots.{Indexable}
+use Rattle.link_index.proofs.Fits.{indexable}
 use Rattle.body_rows.specs.Marks.{Starts}
 use Rattle.checks.specs.Given.{Given}
 use Rattle.ocl.specs.Site.{Site, siteOf, rowsAt}

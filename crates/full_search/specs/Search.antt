@@ -9,7 +9,7 @@ use Rattle.meaning.specs.Answers.{Answer, firstBroken}
 use Rattle.tables.specs.Layouts.{Sheet}
 use Rattle.tables.specs.Columns.{objectRow, bookOf, registerIn}
 use Rattle.tables.specs.declared.Counts.{Counts}
-use Rattle.register.specs.Slots.{Indexed}
+use Rattle.link_index.specs.Slots.{Indexed}
 use Rattle.checks.specs.Given.{Given}
 use Rattle.ocl.specs.Site.{Site, typesAt}
 use Rattle.ocl.specs.Values.{truthOf}

@@ -10,7 +10,7 @@ use Rattle.meaning.specs.Lists.{_∈_, Ascending}
 use Rattle.meaning.specs.Register.{farEnds}
 use Rattle.meaning.specs.Forms.{role}
 use Rattle.meaning.specs.Meaning.{meaning}
-use Rattle.register.specs.Slots.{Indexed}
+use Rattle.link_index.specs.Slots.{Indexed}
 use Rattle.register.proofs.Rows.{own-place}
 use Rattle.register.specs.Tables.{objectPlace}
 use Rattle.ocl.specs.Site.{Site, registerAt, idIn, idsOf}

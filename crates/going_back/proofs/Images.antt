@@ -15,7 +15,7 @@ use Rattle.meaning.specs.Reach.{Change}
 use Rattle.meaning.proofs.Lists.{any-cases}
 use Rattle.meaning.proofs.Registers.{instance-from, under-present}
 use Rattle.tables.specs.Columns.{registerOf}
-use Rattle.register.specs.Slots.{rowAt}
+use Rattle.register.specs.Tables.{rowAt}
 use Rattle.register.proofs.Rows.{place-there, row-is}
 use Rattle.ocl.specs.Site.{idIn}
 use Rattle.ocl.specs.Ready.{Steady, scoped}

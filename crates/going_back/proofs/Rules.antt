@@ -20,7 +20,7 @@ use Rattle.tables.specs.declared.Counts.{Counts}
 use Rattle.tables.proofs.Readings.{is-truth}
 use Rattle.tables.proofs.Forms.{whole-body, body-ending}
 use Rattle.schema.proofs.Rows.{length-rows}
-use Rattle.register.specs.Slots.{Indexed}
+use Rattle.link_index.specs.Slots.{Indexed}
 use Rattle.body_rows.specs.Marks.{bodyOf, Starts}
 use Rattle.book.specs.Types.{typedPart}
 use Rattle.ocl.specs.Site.{Site, siteOf, rowsAt, formAt, idIn}

@@ -2,7 +2,6 @@
 use directions::DOWN;
 use directions::UP;
 use reach::ask;
-use register::slots;
 use tables::Counts;
 ghost use mathlib.Core.Path.{_≡_};
 ghost use mathlib.Core.Bool.{true, false, _&&_, _||_};
@@ -13,7 +12,7 @@ ghost use Rattle.meaning.specs.Register.{farEnds};
 ghost use Rattle.meaning.specs.Reach.{Change, up, down};
 ghost use Rattle.tables.specs.Columns.{typesOf, registerOf};
 ghost use Rattle.directions.specs.Sets.{has};
-ghost use Rattle.register.specs.Slots.{Indexed};
+ghost use Rattle.link_index.specs.Slots.{Indexed};
 ghost use Rattle.ocl.specs.Ready.{Steady};
 ghost use Rattle.ocl.specs.Site.{idIn};
 ghost use Rattle.trace.specs.Questions.{asked, questionOf};
@@ -106,11 +105,11 @@ fn put_far(
         → idIn (now (objects .entry)) y ∈ farEnds (registerOf (n .objects) (now (objects .entry)) (n .links) (now (links .entry))) role (idIn (now (objects .entry)) row)
         → getD (now (sets .exit)) (v * 1024 + y) false ≡ true) ⌝ }
 {
-    let mut word = slots::first_slot(index, role, row);
+    let mut word = link_index::first_slot(index, role, row);
     while word != 0 {
         let slot = word - 1;
-        mark(n, v, slots::far_row(index, slot), sets);
-        word = slots::next_slot(index, slot);
+        mark(n, v, link_index::far_row(index, slot), sets);
+        word = link_index::next_slot(index, slot);
     }
 }
 

@@ -15,7 +15,7 @@ use Rattle.meaning.proofs.Lists.{decide}
 use Rattle.meaning.proofs.Registers.{RegisterFits}
 use Rattle.tables.specs.Bodies.{sortOf, sameSort, asTruth, wholeBody, readBody, ending}
 use Rattle.tables.proofs.Forms.{whole-body, body-ending, body-none}
-use Rattle.register.specs.Slots.{Indexed}
+use Rattle.link_index.specs.Slots.{Indexed}
 use Rattle.body_rows.specs.Marks.{Starts}
 use Rattle.ocl.specs.Site.{Site, typesAt, registerAt, rowsAt, formAt, idIn}
 use Rattle.ocl.specs.Values.{truthOf}

@@ -13,8 +13,8 @@ use Rattle.meaning.specs.Lists.{keep, first, Ascending}
 use Rattle.meaning.specs.Register.{instances, farEnds}
 use Rattle.meaning.specs.Forms.{truth, collection, Form, role, all, select, bind, variable}
 use Rattle.meaning.specs.Meaning.{meaning}
-use Rattle.register.specs.Slots.{farId, Place, Indexed}
-use Rattle.register.proofs.Walk.{first-placed, first-far, place-slot, far-there, far-member, next-placed, next-far}
+use Rattle.link_index.specs.Slots.{farId, Place, Indexed}
+use Rattle.link_index.proofs.Walk.{first-placed, first-far, place-slot, far-there, far-member, next-placed, next-far}
 use Rattle.ocl.specs.Site.{Site, typesAt, registerAt, idIn, idsOf}
 use Rattle.ocl.specs.Walks.{idFrom, isFrom, leftIn, instancesFrom, StandsIn, Anywhere, BegunIn, Went, Stepped, WalkedIn, farStep}
 use Rattle.ocl.specs.declared.Step.{Step}

@@ -11,7 +11,7 @@ use Rattle.meaning.specs.Register.{Register, objectKey, present, cellAt, farEnd
 use Rattle.meaning.specs.Forms.{Sort, truth, number, collection, Form, compare, negate, connect, quantify, kind, num, cell, size, sum, combine, role, all, select}
 use Rattle.meaning.specs.Lists.{_∈_, Ascending, Before}
 use Rattle.tables.specs.Bodies.{Part, asTruth, asNumber, asCollection, reads, ending}
-use Rattle.register.specs.Slots.{Indexed}
+use Rattle.link_index.specs.Slots.{Indexed}
 use Rattle.ocl.specs.Site.{Site, registerAt, rowsAt, formAt}
 
 -- Of a register that fits its schema: objects and the ends of links ascend, the ends are there, and cells are words.

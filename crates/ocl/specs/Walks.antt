@@ -15,7 +15,7 @@ use Rattle.meaning.specs.Meaning.{meaning}
 use Rattle.rows.specs.Rows.{rowsFrom}
 use Rattle.tables.specs.Bodies.{asCollection}
 use Rattle.tables.specs.Columns.{objectRow}
-use Rattle.register.specs.Slots.{farId, Place}
+use Rattle.link_index.specs.Slots.{farId, Place}
 use Rattle.ocl.specs.Site.{Site, typesAt, registerAt, formAt, idIn, idsOf}
 use Rattle.ocl.specs.declared.Step.{Step}
 use Rattle.ocl.specs.declared.Step.the-variants.{At, Done}

@@ -5,7 +5,6 @@ use body_rows::body::field;
 use operators::operators::decided;
 use operators::operators::joined;
 use operators::operators::stops;
-use register::slots;
 use tables::Counts;
 use walk::cell_value;
 use walk::next_far;
@@ -318,7 +317,7 @@ pub fn begin(
     let code = field(bodies, rule, row, 0);
     if code == 20 {
         let object = variable(vs, field(bodies, rule, row, 1));
-        return slots::first_slot(index, field(bodies, rule, row, 2), object);
+        return link_index::first_slot(index, field(bodies, rule, row, 2), object);
     }
     if code == 21 {
         return 0;

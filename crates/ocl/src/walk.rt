@@ -1,6 +1,5 @@
 // Variables and members by the rows of their objects.
 use crate::Step;
-use register::slots;
 ghost use mathlib.Core.Path.{_≡_};
 ghost use Prim.Native.Nat.{_<_, _≤_};
 ghost use lib.ListN.{getD};
@@ -53,7 +52,7 @@ pub fn next_far(index: &[u16; 81920], word: u32) -> Step
         return Step::Done;
     }
     let slot = word - 1;
-    Step::At(slots::far_row(index, slot), slots::next_slot(index, slot))
+    Step::At(link_index::far_row(index, slot), link_index::next_slot(index, slot))
 }
 
 // The first object under t from a row on.

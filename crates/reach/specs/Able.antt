@@ -8,7 +8,7 @@ use Rattle.meaning.specs.Limits.{maxForms, maxTypes, maxRelationships}
 use Rattle.meaning.specs.Schema.{Schema}
 use Rattle.meaning.specs.Forms.{collection}
 use Rattle.tables.specs.Bodies.{ending}
-use Rattle.register.specs.Slots.{Indexed}
+use Rattle.link_index.specs.Slots.{Indexed}
 use Rattle.book.specs.Types.{typedPart}
 use Rattle.ocl.specs.Site.{Site, typesAt, registerAt, rowsAt, formAt}
 use Rattle.ocl.specs.Ready.{Steady, Ready}

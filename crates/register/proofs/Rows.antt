@@ -12,8 +12,7 @@ use Rattle.meaning.specs.Lists.{holds}
 use Rattle.meaning.specs.Register.{Object, Link, objectKey, present}
 use Rattle.meaning.proofs.Order.{before-one}
 use Rattle.tables.specs.Columns.{objectRow}
-use Rattle.register.specs.Tables.{objectsWith, ObjectsAscend, objectPlace}
-use Rattle.register.specs.Slots.{orZero, rowAt}
+use Rattle.register.specs.Tables.{objectsWith, ObjectsAscend, objectPlace, orZero, rowAt}
 use Rattle.register.proofs.Hits.{missed-to, hit-at, hit-some}
 use Rattle.register.proofs.Places.{ordered}
 use Rattle.register.proofs.Searches.{object-row}

@@ -1,7 +1,3 @@
 -- What the register's functions are said to compute, where specs of other crates do not say it already.
 --   Tables   a register of which only one of the two tables is at hand, its rows and cells
---   Chains   chains over a key
---   Slots    an index of the links in both directions
 pub mod Tables
-pub mod Chains
-pub mod Slots

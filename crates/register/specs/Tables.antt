@@ -2,7 +2,7 @@
 use Prim.Native.Nat.{ℕ, _+_}
 use mathlib.Core.Bool.{cond}
 use mathlib.Core.List.{List}
-use mathlib.Core.Option.{Option}
+use mathlib.Core.Option.{Option, none, some}
 use lib.Dec.{ltb, eqb}
 use Rattle.meaning.specs.Lists.{firstFault, Ascending, Before}
 use Rattle.meaning.specs.Limits.{cellCount}
@@ -34,3 +34,12 @@ linkPlace linkCount links l = firstFault (λ n previous k. sameLink l k) (readRo
 -- the word in a cell of an object's row; "eight signed 32-bit cells", and 0 where there is none
 unfoldable pub cellWord : List ℕ → ℕ → ℕ → ℕ
 cellWord objects row cell = cond (ltb cell cellCount) (wordAt objects 10 row (2 + cell)) 0
+
+-- a row, if there is one; else 0
+abbrev pub orZero : Option ℕ → ℕ
+orZero none = 0
+orZero (some i) = i
+
+-- the row of the object of an id; 0 where there is none
+unfoldable pub rowAt : ℕ → List ℕ → ℕ → ℕ
+rowAt m objects id = orZero (objectPlace m objects id)

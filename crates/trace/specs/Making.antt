@@ -13,7 +13,7 @@ use Rattle.meaning.specs.Reach.{inserts, deletes, specials, generals, among, Di
 use Rattle.tables.specs.Columns.{eventRow}
 use Rattle.tables.specs.declared.Counts.{Counts}
 use Rattle.register.specs.Tables.{ObjectsAscend, LinksAscend, linksWith}
-use Rattle.register.specs.Chains.{Chained}
+use Rattle.link_index.specs.Chains.{Chained}
 use Rattle.directions.specs.Sets.{has}
 use Rattle.trace.specs.Questions.{metUnder}
 use Rattle.trace.specs.Traces.{placeRow, nextPlace, firstPlace, thereWord, metWord, allSet, itself}

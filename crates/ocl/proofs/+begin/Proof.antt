@@ -17,7 +17,7 @@ use Rattle.ocl.proofs.+begin.Lts-begin as begin-lts
 use Rattle.body_rows.proofs.body.field.Reads as field-reads
 use Rattle.ocl.proofs.walk.start_of.Reads as start-of-reads
 use Rattle.ocl.proofs.walk.variable.Reads as variable-reads
-use Rattle.register.proofs.slots.first_slot.Reads as first-slot-reads
+use Rattle.link_index.proofs.first_slot.Reads as first-slot-reads
 use Rattle.ocl.proofs.+begin.{statement}
 use Rattle.ocl.proofs.+begin.Tie.{close}
 
