@@ -6,7 +6,7 @@ use Rattle.meaning.specs.Answers.{Answer, Outcome}
 use Rattle.tables.specs.Answers.{answerOf}
 use Rattle.batch.specs.Checked.{Left}
 use Rattle.batch.specs.declared.Checked.{Checked}
-use Rattle.exports.specs.Coded.{answerWords}
+use Rattle.told.specs.Coded.{answerWords}
 use Rattle.exports.specs.Batches.{BatchTold}
 
 pub in-front : {x y z : ℕ} {words : List ℕ} (rest : List ℕ) → x ∷ y ∷ z ∷ [] ≡ words → x ∷ y ∷ z ∷ rest ≡ words ++ rest

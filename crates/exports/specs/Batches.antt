@@ -8,7 +8,7 @@ use Rattle.rows.specs.Rows.{inFront}
 use Rattle.tables.specs.Words.{objectWords, linkWords}
 use Rattle.pair_list.specs.Pairs.{pairWords}
 use Rattle.batch.specs.Checked.{tableAfter}
-use Rattle.exports.specs.Coded.{answerWords}
+use Rattle.told.specs.Coded.{answerWords}
 
 -- six words: the answer, how many pairs are listed, and how many rows of objects and links are used after the check
 abbrev pub outcomeWords : Outcome → List ℕ

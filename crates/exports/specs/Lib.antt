@@ -1,7 +1,5 @@
 -- Answers as words, for programs in other languages.
---   Coded      a refusal, an answer, a reading, an event list, a text
 --   Runs       a batch's run
 --   Batches    a batch check
-pub mod Coded
 pub mod Runs
 pub mod Batches

@@ -1,33 +1,11 @@
 // The batch check over pointers and numbers.
-use batch::Checked;
-use tables::Answer;
 use tables::Counts;
-ghost use mathlib.Core.Path.{_≡_};
-ghost use mathlib.Core.List.{[], _∷_, _++_};
 ghost use lib.ListN.{length};
-ghost use Rattle.meaning.specs.Answers as Meaning;
 ghost use Rattle.tables.specs.Layouts.{sheetOf};
-ghost use Rattle.tables.specs.Answers.{answerOf};
 ghost use Rattle.lent_run.specs.Lent.{scratchShort};
 ghost use Rattle.batch.specs.Checked.{lentOutcome};
-ghost use Rattle.exports.specs.Coded.{answerWords};
 ghost use Rattle.exports.specs.Runs.{allUsed};
 ghost use Rattle.exports.specs.Batches.{BatchTold};
-
-// What a batch check says, as six words.
-fn tell(done: Checked, answer: &mut [u32; 6])
-    ensures { λ _. ⌜ ((a : Meaning.Answer) → done .answer ≡ answerOf a → now (answer .exit) ≡ answerWords a ++ done .pairs ∷ done .objects ∷ done .links ∷ []) ⌝ }
-{
-    let pairs = done.pairs;
-    let objects = done.objects;
-    let links = done.links;
-    let said = done.answer;
-    *answer = match said {
-        Answer::Accepted => [0, 0, 0, pairs, objects, links],
-        Answer::Broken(rule, id) => [1, rule, id, pairs, objects, links],
-        Answer::Refused(number, place) => [2, number, place, pairs, objects, links],
-    };
-}
 
 // The batch check of a lent book, register and batch. The answer is 0 0 0 where it is accepted; 1, rule and id; or 2, a refusal's number and place; then how
 // many pairs are listed, and how many rows of objects and of links are used after it.
@@ -77,5 +55,5 @@ pub extern "C" fn checker_batch(
         scratch_links,
         list,
     );
-    tell(done, answer);
+    *answer = told::checked(done);
 }

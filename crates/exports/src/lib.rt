@@ -4,10 +4,7 @@ mod lists;
 mod runs;
 mod texts;
 
-use reader::Outcome;
-use tables::Answer;
 use tables::Counts;
-use tables::Verdict;
 ghost use mathlib.Core.Path.{_≡_};
 ghost use mathlib.Core.Bool.{false};
 ghost use mathlib.Core.List.{[]};
@@ -15,7 +12,8 @@ ghost use Rattle.tables.specs.Layouts.{sheetOf};
 ghost use Rattle.tables.specs.Refusals.{lentRefusal};
 ghost use Rattle.full.specs.Answers.{lentAnswer};
 ghost use Rattle.reader.specs.Reads.{lentReading, sheetAfter};
-ghost use Rattle.exports.specs.Coded.{coded, usedRows, answerWords, readWords};
+ghost use Rattle.told.specs.Coded.{coded, answerWords, readWords};
+ghost use Rattle.exports.specs.Runs.{usedRows};
 
 // Refusals 2, 6, 3, 4 and 5 of a lent book and register: a refusal's number times 2^32 plus its place, or 0.
 #[no_mangle]
@@ -42,7 +40,7 @@ pub extern "C" fn checker_check(
         links: links_used,
         events: 0,
     };
-    match checks::check(
+    let verdict = checks::check(
         n,
         types,
         relationships,
@@ -51,10 +49,8 @@ pub extern "C" fn checker_check(
         objects,
         links,
         false,
-    ) {
-        Verdict::Clear => 0,
-        Verdict::Refused(number, place) => (number as u64) * 4294967296 + (place as u64),
-    }
+    );
+    told::verdict(verdict)
 }
 
 // The full check of a lent book and register. The answer is 0 where it is accepted; 1, rule and id; or 2, a refusal's number and place.
@@ -83,11 +79,8 @@ pub extern "C" fn checker_full_check(
         links: links_used,
         events: 0,
     };
-    *answer = match full::check(n, types, relationships, rules, bodies, objects, links) {
-        Answer::Accepted => [0, 0, 0],
-        Answer::Broken(rule, id) => [1, rule, id],
-        Answer::Refused(number, place) => [2, number, place],
-    };
+    let said = full::check(n, types, relationships, rules, bodies, objects, links);
+    *answer = told::answer(said);
 }
 
 // Reads a text into lent tables. The answer is 0 and the rows of the six sections, bodies left out; or 1, a refusal's number and its line.
@@ -108,7 +101,7 @@ pub extern "C" fn checker_read(
         let reading = lentReading (now (text .entry)) before in
         (now (answer .exit) ≡ readWords reading) × (after ≡ sheetAfter reading before)) ⌝ }
 {
-    *answer = match reader::read(
+    let done = reader::read(
         text,
         types,
         relationships,
@@ -117,16 +110,6 @@ pub extern "C" fn checker_read(
         objects,
         links,
         events,
-    ) {
-        Outcome::Done(n) => [
-            0,
-            n.types,
-            n.relationships,
-            n.rules,
-            n.objects,
-            n.links,
-            n.events,
-        ],
-        Outcome::Refused(number, line) => [1, number, line, 0, 0, 0, 0],
-    };
+    );
+    *answer = told::reading(done);
 }

@@ -1,12 +1,12 @@
 // The event list of a rule over pointers and numbers.
-use event_list::Listed;
 use tables::Counts;
 ghost use mathlib.Core.Path.{_≡_};
 ghost use mathlib.Core.List.{[]};
 ghost use lib.ListN.{length};
 ghost use Rattle.tables.specs.Layouts.{sheetOf};
 ghost use Rattle.event_list.specs.Answers as EventLists;
-ghost use Rattle.exports.specs.Coded.{usedRows, listedWords};
+ghost use Rattle.told.specs.Coded.{listedWords};
+ghost use Rattle.exports.specs.Runs.{usedRows};
 
 // The event list of a rule of a lent book. The answer is 0, how many event types it has, and 0; or 1, a refusal's number and place.
 #[no_mangle]
@@ -34,8 +34,6 @@ pub extern "C" fn checker_events(
         links: 0,
         events: 0,
     };
-    *answer = match event_list::list(n, types, relationships, rules, bodies, rule, list) {
-        Listed::Types(count) => [0, count, 0],
-        Listed::Refused(number, place) => [1, number, place],
-    };
+    let listed = event_list::list(n, types, relationships, rules, bodies, rule, list);
+    *answer = told::listed(listed);
 }

@@ -1,6 +1,5 @@
 // A batch of events over pointers and numbers.
 use tables::Counts;
-use tables::Verdict;
 ghost use Rattle.tables.specs.Layouts.{sheetOf};
 ghost use Rattle.exports.specs.Runs.{allUsed, RunTold};
 
@@ -52,8 +51,5 @@ pub extern "C" fn checker_run(
     );
     let held = ran.held;
     let verdict = ran.verdict;
-    *answer = match verdict {
-        Verdict::Clear => [0, held.objects, held.links],
-        Verdict::Refused(number, place) => [1, number, place],
-    };
+    *answer = told::ran(verdict, held.objects, held.links);
 }

@@ -1,10 +1,9 @@
 // The writer over pointers and numbers.
 use tables::Counts;
-use writer::Written;
 ghost use mathlib.Core.Path.{_≡_};
 ghost use Rattle.tables.specs.Layouts.{sheetOf};
 ghost use Rattle.writer.specs.Answers.{answerFor, bytesLeft};
-ghost use Rattle.exports.specs.Coded.{writtenWords};
+ghost use Rattle.told.specs.Coded.{writtenWords};
 ghost use Rattle.exports.specs.Runs.{allUsed};
 
 // The text of lent tables, into lent bytes. The answer is 0, how many bytes were written, and 0; or 1, a refusal's number and place.
@@ -38,7 +37,7 @@ pub extern "C" fn checker_write(
         links: links_used,
         events: events_used,
     };
-    *answer = match writer::write(
+    let written = writer::write(
         n,
         types,
         relationships,
@@ -48,8 +47,6 @@ pub extern "C" fn checker_write(
         links,
         events,
         out,
-    ) {
-        Written::Done(size) => [0, size, 0],
-        Written::Refused(number, place) => [1, number, place],
-    };
+    );
+    *answer = told::written(written);
 }

@@ -7,8 +7,9 @@ use mathlib.Core.List.{List}
 use native.Mathlib.Omega.{arith}
 use lib.Dec.{T}
 use Rattle.ocl.specs.Site.{idIn}
-use Rattle.going_back.specs.Back.{Covered, GrownBelow}
-use Rattle.going_back.proofs.Tests.{one-true}
+use Rattle.going_back.specs.Back.{Covered}
+use Rattle.row_sets.specs.Sets.{GrownBelow}
+use Rattle.row_sets.proofs.Tests.{one-true}
 
 module _ {objects : List ℕ} {rows depth : ℕ} where
   pub covered-all : {reach : ℕ → ℕ → Bool} {sets : List Bool} → Covered reach objects rows depth true sets

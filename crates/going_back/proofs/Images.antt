@@ -20,8 +20,8 @@ use Rattle.register.proofs.Rows.{place-there, row-is}
 use Rattle.ocl.specs.Site.{idIn}
 use Rattle.ocl.specs.Ready.{Steady, scoped}
 use Rattle.going_back.specs.Back.{leadsInto, baseOf, turned, Covered}
-use Rattle.going_back.proofs.Tests.{so-true, true-so, both-true}
-use Rattle.going_back.proofs.Turned.{leads-back}
+use Rattle.row_sets.proofs.Tests.{so-true, true-so, both-true}
+use Rattle.going_back.proofs.Turning.{leads-back}
 use Rattle.going_back.proofs.Bases.{leads-base}
 
 -- what is named below the selects is in scope

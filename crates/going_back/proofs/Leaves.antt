@@ -13,7 +13,7 @@ use Rattle.trace.specs.Questions.{asked, cellSet, joinedBy, partedBy, specialis
 use Rattle.reach.proofs.Leaves.{asked-set, asked-joined, asked-parted, asked-specialised, asked-generalised}
 use Rattle.reach.proofs.Nodes.{always}
 use Rattle.going_back.specs.Back.{leafReached, Covered}
-use Rattle.going_back.proofs.Tests.{both-true, and-more, or-more}
+use Rattle.row_sets.proofs.Tests.{both-true, and-more, or-more}
 use Rattle.going_back.proofs.Nodes.{some-and}
 use Rattle.going_back.proofs.Covers.{covered-as}
 

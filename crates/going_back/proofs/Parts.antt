@@ -17,7 +17,8 @@ use Rattle.event_marks.proofs.Nodes.{passTo}
 use Rattle.ocl.specs.Site.{Site, rowsAt, formAt, codeAt}
 use Rattle.reach.specs.Able.{Able}
 use Rattle.reach.proofs.Abilities.{whole, last-sound, op, sorts}
-use Rattle.going_back.specs.Back.{leadsInto, throughMembers, reachedBy, leafReached, Covered, GrownBelow}
+use Rattle.going_back.specs.Back.{leadsInto, throughMembers, reachedBy, leafReached, Covered}
+use Rattle.row_sets.specs.Sets.{GrownBelow}
 use Rattle.going_back.proofs.Covers.{covered-as, covered-then}
 use Rattle.going_back.proofs.Nodes.{sumReached, secondReached, leaf-here, one-here, two-here}
 

@@ -67,22 +67,6 @@ candidate c r s = reached c (r .body) 1 0 s down || broughtIn c r s
 pub record Covered (reach : (v u : ℕ) → Bool) (objects : List ℕ) (rows depth : ℕ) (everything : Bool) (sets : List Bool) : Type 0 where
   pub each : everything ≡ false → (v : ℕ) → v < depth → (row : ℕ) → row < rows → reach v (idIn objects row) ≡ true → getD sets (v * 1024 + row) false ≡ true
 
--- marks that only grow
-pub record Grown (before after : List Bool) : Type 0 where
-  pub long : length after ≡ length before
-  pub kept : (i : ℕ) → getD before i false ≡ true → getD after i false ≡ true
-
--- those of the first variables do; what later ones hold is free
-pub record GrownBelow (depth : ℕ) (before after : List Bool) : Type 0 where
-  pub long : length after ≡ length before
-  pub kept : (i : ℕ) → i < depth * 1024 → getD before i false ≡ true → getD after i false ≡ true
-
--- one variable's set is emptied of its rows, and those before it are as they were
-pub record Cleared (v rows : ℕ) (before after : List Bool) : Type 0 where
-  pub long : length after ≡ length before
-  pub kept : (i : ℕ) → i < v * 1024 → getD after i false ≡ getD before i false
-  pub empty : (row : ℕ) → row < rows → getD after (v * 1024 + row) false ≡ false
-
 -- "Role 2r goes from source to target of relationship r, role 2r + 1 back": the role turned round
 abbrev pub turned : ℕ → ℕ
 turned r = cond (forward r) (r + 1) (r - 1)

@@ -1,4 +1,401 @@
-// Going back from the events of a batch: the rows of objects at which a rule's body may turn false.
-mod back;
-pub mod rule;
-mod sets;
+// Going back from the events of a batch through a rule's body: each variable's set covers the objects at which the form may move.
+use body_rows::body::COLLECTION;
+use body_rows::body::FIRST;
+use body_rows::body::NONE;
+use body_rows::body::SECOND;
+use body_rows::body::field;
+use body_rows::body::shape;
+use ocl::Place;
+use row_sets::clear;
+use row_sets::has_some;
+use row_sets::put_answers;
+use row_sets::put_back;
+use row_sets::put_moved;
+use tables::Counts;
+ghost use mathlib.Core.Path.{_≡_};
+ghost use mathlib.Core.Bool.{Bool, true, false};
+ghost use mathlib.Core.List.{List};
+ghost use Prim.Native.Nat.{ℕ, _+_, _-_, _*_, _<_};
+ghost use lib.Dec.{T};
+ghost use lib.ListN.{length, getD};
+ghost use Rattle.meaning.specs.Forms.{collection};
+ghost use Rattle.meaning.specs.Reach.{Change, cellMoves};
+ghost use Rattle.tables.specs.Columns.{registerOf};
+ghost use Rattle.tables.specs.Bodies.{reads, ending, asCollection};
+ghost use Rattle.body_rows.specs.Marks.{bodyOf, Starts};
+ghost use Rattle.directions.specs.Sets.{someOf};
+ghost use Rattle.ocl.specs.Site.{siteOf, formAt, idIn};
+ghost use Rattle.ocl.specs.Ready.{Ready};
+ghost use Rattle.trace.specs.Traces.{Traced, Traces};
+ghost use Rattle.reach.specs.Able.{LeafAble};
+ghost use Rattle.going_back.specs.Back.{leadsInto, throughMembers, reachedBy, leafReached, Covered, turned, BaseRow};
+ghost use Rattle.row_sets.specs.Sets.{Grown, GrownBelow};
+ghost use Rattle.going_back.specs.Walkable.{Walkable, OverWalkable};
+
+// The codes of rows.
+const NUM: u32 = 14;
+
+const CELL: u32 = 15;
+
+const SUM: u32 = 17;
+
+const ROLE: u32 = 20;
+
+const ALL: u32 = 21;
+
+const SELECT: u32 = 22;
+
+// The row of the collection below the selects of a collection.
+fn base_row(bodies: &[u32], spans: &[u32; 65], of: Place) -> u32
+    requires { ⌜ (Starts (bodyOf (now bodies) (of .0)) (now spans) (of .1)) × T (reads collection (ending (bodyOf (now bodies) (of .0)) (of .1))) ⌝ }
+    ensures { λ r. ⌜ BaseRow (bodyOf (now (bodies .entry)) (of .0)) (of .1) r ⌝ }
+{
+    let rule = of.0;
+    let mut row = of.1 - 1;
+    while field(bodies, rule, row, 0) == SELECT {
+        let at = row as usize;
+        row = spans[at] - 1;
+    }
+    row
+}
+
+// The role turned round.
+fn turned(role: u32) -> u32
+    requires { ⌜ role < 64 ⌝ }
+    ensures { λ r. ⌜ (r ≡ turned role) × (r < 64) ⌝ }
+{
+    if role % 2 == 0 { role + 1 } else { role - 1 }
+}
+
+// Puts the rows from which a collection leads into the set of the variable after those that are bound, into the set of the variable that it names. Over
+// all objects of a type that is everything, if the set has a row.
+fn image(
+    n: Counts,
+    objects: &[u32],
+    links: &[u32],
+    index: &[u16; 81920],
+    bodies: &[u32],
+    spans: &[u32; 65],
+    of: Place,
+    sets: &mut [bool],
+) -> bool
+    requires { ⌜ ((types vars : List ℕ) × Ready (siteOf n types (now objects) (now links) (now index) (now bodies) (of .0)) (now spans) (of .1) vars (of .2) collection)
+        × (of .2 < 64) × (length (now sets) ≡ 65536) ⌝ }
+    ensures { λ r. ⌜ (Grown (now (sets .entry)) (now (sets .exit)))
+        × ((c : Change) → c .end ≡ registerOf (n .objects) (now (objects .entry)) (n .links) (now (links .entry)) → (set : ℕ → Bool)
+        → ((row : ℕ) → row < n .objects → set (idIn (now (objects .entry)) row) ≡ true → getD (now (sets .entry)) (of .2 * 1024 + row) false ≡ true)
+        → Covered (leadsInto c (asCollection ((ending (bodyOf (now (bodies .entry)) (of .0)) (of .1)) .form)) set)
+        (now (objects .entry)) (n .objects) (of .2) r (now (sets .exit))) ⌝ }
+{
+    let rule = of.0;
+    let depth = of.2;
+    let row = base_row(bodies, spans, of);
+    if field(bodies, rule, row, 0) == ALL {
+        return has_some(n, depth, sets);
+    }
+    let v = field(bodies, rule, row, 1);
+    let role = field(bodies, rule, row, 2);
+    let back = turned(role);
+    put_back(n, objects, links, index, back, depth, v, sets);
+    false
+}
+
+// Goes back from the members of a collection whose cell was set.
+fn members(
+    n: Counts,
+    types: &[u32],
+    objects: &[u32],
+    links: &[u32],
+    index: &[u16; 81920],
+    bodies: &[u32],
+    spans: &[u32; 65],
+    events: &[u32],
+    trace: &[u16; 2593],
+    of: Place,
+    cell: u32,
+    sets: &mut [bool],
+) -> bool
+    requires { ⌜ ((vars : List ℕ) × Ready (siteOf n (now types) (now objects) (now links) (now index) (now bodies) (of .0)) (now spans) (of .1) vars (of .2) collection)
+        × (Traces n (now types) (now objects) (now links) (now events) (now trace)) × (of .2 < 64) × (length (now sets) ≡ 65536) ⌝ }
+    ensures { λ r. ⌜ (GrownBelow (of .2) (now (sets .entry)) (now (sets .exit)))
+        × ((c : Change) → Traced c n (now (types .entry)) (now (objects .entry)) (now (links .entry)) (now (events .entry)) (now (trace .entry))
+        → Covered (leadsInto c (asCollection (formAt (siteOf n (now (types .entry)) (now (objects .entry)) (now (links .entry)) (now (index .entry)) (now (bodies .entry)) (of .0)) (of .1))) (λ x. cellMoves c x cell))
+        (now (objects .entry)) (n .objects) (of .2) r (now (sets .exit))) ⌝ }
+{
+    let new = of.2;
+    clear(n, new, sets);
+    put_answers(
+        n,
+        types,
+        objects,
+        links,
+        events,
+        trace,
+        questions::CELL_SET,
+        cell,
+        new,
+        sets,
+    );
+    image(n, objects, links, index, bodies, spans, of, sets)
+}
+
+// Goes back from a form without parts, by its code and its first two fields. Of what is brought into a type it does not matter here whether it is there at the end.
+fn leaf(
+    n: Counts,
+    types: &[u32],
+    objects: &[u32],
+    links: &[u32],
+    events: &[u32],
+    trace: &[u16; 2593],
+    depth: u32,
+    code: u32,
+    x: u32,
+    y: u32,
+    set: u32,
+    sets: &mut [bool],
+) -> bool
+    requires { ⌜ ((vars : List ℕ) × LeafAble (n .objects) vars depth code x)
+        × (Traces n (now types) (now objects) (now links) (now events) (now trace)) × (0 < set) × (set < 4) × (length (now sets) ≡ 65536) ⌝ }
+    ensures { λ r. ⌜ (Grown (now (sets .entry)) (now (sets .exit)))
+        × ((c : Change) → Traced c n (now (types .entry)) (now (objects .entry)) (now (links .entry)) (now (events .entry)) (now (trace .entry))
+        → Covered (λ v u. someOf set (leafReached c code x y v u)) (now (objects .entry)) (n .objects) depth r (now (sets .exit))) ⌝ }
+{
+    if code == ALL {
+        return reach::all_moved(n, types, objects, links, events, trace, x, set);
+    }
+    if code == NUM {
+        return false;
+    }
+    if code == CELL {
+        put_answers(
+            n,
+            types,
+            objects,
+            links,
+            events,
+            trace,
+            questions::CELL_SET,
+            y,
+            x,
+            sets,
+        );
+        return false;
+    }
+    if code == ROLE {
+        put_moved(
+            n,
+            types,
+            objects,
+            links,
+            events,
+            trace,
+            questions::JOINED,
+            questions::PARTED,
+            y,
+            x,
+            set,
+            sets,
+        );
+        return false;
+    }
+    put_moved(
+        n,
+        types,
+        objects,
+        links,
+        events,
+        trace,
+        questions::SPECIALISED,
+        questions::GENERALISED,
+        y,
+        x,
+        set,
+        sets,
+    );
+    false
+}
+
+// Goes back from a movement, in some direction of the set, of the form that ends before the place. It answers whether everything is reached.
+pub fn back(
+    n: Counts,
+    types: &[u32],
+    objects: &[u32],
+    links: &[u32],
+    index: &[u16; 81920],
+    bodies: &[u32],
+    spans: &[u32; 65],
+    events: &[u32],
+    trace: &[u16; 2593],
+    at: Place,
+    set: u32,
+    sets: &mut [bool],
+) -> bool
+    requires { ⌜ (Walkable (siteOf n (now types) (now objects) (now links) (now index) (now bodies) (at .0)) (now spans) (at .1) (at .2))
+        × (Traces n (now types) (now objects) (now links) (now events) (now trace)) × (set < 4) × (length (now sets) ≡ 65536) ⌝ }
+    ensures { λ r. ⌜ (GrownBelow (at .2) (now (sets .entry)) (now (sets .exit)))
+        × ((c : Change) → Traced c n (now (types .entry)) (now (objects .entry)) (now (links .entry)) (now (events .entry)) (now (trace .entry))
+        → Covered (reachedBy c (formAt (siteOf n (now (types .entry)) (now (objects .entry)) (now (links .entry)) (now (index .entry)) (now (bodies .entry)) (at .0)) (at .1)) (at .2) set)
+        (now (objects .entry)) (n .objects) (at .2) r (now (sets .exit))) ⌝ }
+{
+    if set == 0 {
+        return false;
+    }
+    let rule = at.0;
+    let row = at.1 - 1;
+    let depth = at.2;
+    let code = field(bodies, rule, row, 0);
+    let x = field(bodies, rule, row, 1);
+    if shape(code, SECOND) == NONE {
+        let y = field(bodies, rule, row, 2);
+        return leaf(
+            n,
+            types,
+            objects,
+            links,
+            events,
+            trace,
+            depth,
+            code,
+            x,
+            y,
+            set,
+            sets,
+        );
+    }
+    let to = directions::pass(code, directions::SECOND, set);
+    let second = Place(rule, row, depth);
+    if shape(code, FIRST) == NONE {
+        if back(
+            n,
+            types,
+            objects,
+            links,
+            index,
+            bodies,
+            spans,
+            events,
+            trace,
+            second,
+            to,
+            sets,
+        ) {
+            return true;
+        }
+        if code != SUM {
+            return false;
+        }
+        return members(
+            n,
+            types,
+            objects,
+            links,
+            index,
+            bodies,
+            spans,
+            events,
+            trace,
+            second,
+            x,
+            sets,
+        );
+    }
+    let from = row as usize;
+    let first = Place(rule, spans[from], depth);
+    let to_first = directions::pass(code, directions::FIRST, set);
+    if back(
+        n,
+        types,
+        objects,
+        links,
+        index,
+        bodies,
+        spans,
+        events,
+        trace,
+        first,
+        to_first,
+        sets,
+    ) {
+        return true;
+    }
+    if shape(code, FIRST) != COLLECTION {
+        return back(
+            n,
+            types,
+            objects,
+            links,
+            index,
+            bodies,
+            spans,
+            events,
+            trace,
+            second,
+            to,
+            sets,
+        );
+    }
+    over(
+        n,
+        types,
+        objects,
+        links,
+        index,
+        bodies,
+        spans,
+        events,
+        trace,
+        at,
+        to,
+        sets,
+    )
+}
+
+// Goes back from a movement of the second part of a form over a collection: its members are the new variable, and lead back through the collection.
+fn over(
+    n: Counts,
+    types: &[u32],
+    objects: &[u32],
+    links: &[u32],
+    index: &[u16; 81920],
+    bodies: &[u32],
+    spans: &[u32; 65],
+    events: &[u32],
+    trace: &[u16; 2593],
+    at: Place,
+    dirs: u32,
+    sets: &mut [bool],
+) -> bool
+    requires { ⌜ (OverWalkable (siteOf n (now types) (now objects) (now links) (now index) (now bodies) (at .0)) (now spans) (at .1) (at .2))
+        × (Traces n (now types) (now objects) (now links) (now events) (now trace)) × (dirs < 4) × (length (now sets) ≡ 65536) ⌝ }
+    ensures { λ r. ⌜ (GrownBelow (at .2) (now (sets .entry)) (now (sets .exit)))
+        × ((c : Change) → Traced c n (now (types .entry)) (now (objects .entry)) (now (links .entry)) (now (events .entry)) (now (trace .entry))
+        → Covered (throughMembers c
+        (asCollection (formAt (siteOf n (now (types .entry)) (now (objects .entry)) (now (links .entry)) (now (index .entry)) (now (bodies .entry)) (at .0)) (getD (now (spans .entry)) (at .1 - 1) 0)))
+        (at .2) (reachedBy c (formAt (siteOf n (now (types .entry)) (now (objects .entry)) (now (links .entry)) (now (index .entry)) (now (bodies .entry)) (at .0)) (at .1 - 1)) (at .2 + 1) dirs))
+        (now (objects .entry)) (n .objects) (at .2) r (now (sets .exit))) ⌝ }
+{
+    let rule = at.0;
+    let row = at.1 - 1;
+    let new = at.2;
+    clear(n, new, sets);
+    let inner = Place(rule, row, new + 1);
+    if back(
+        n,
+        types,
+        objects,
+        links,
+        index,
+        bodies,
+        spans,
+        events,
+        trace,
+        inner,
+        dirs,
+        sets,
+    ) {
+        return true;
+    }
+    let from = row as usize;
+    let of = Place(rule, spans[from], new);
+    image(n, objects, links, index, bodies, spans, of, sets)
+}

@@ -52,7 +52,10 @@ pub fn next_far(index: &[u16; 81920], word: u32) -> Step
         return Step::Done;
     }
     let slot = word - 1;
-    Step::At(link_index::far_row(index, slot), link_index::next_slot(index, slot))
+    Step::At(
+        link_index::far_row(index, slot),
+        link_index::next_slot(index, slot),
+    )
 }
 
 // The first object under t from a row on.

@@ -4,10 +4,8 @@
 --   Leaves      the leaves by what is asked of events
 --   Members     a walk over members that stops at the first that passes a test
 --   Answers     what the forward rule answers of a form by its parts
---   Asking      a question about the object in a row, by the places that name it
 pub mod Abilities
 pub mod Nodes
 pub mod Leaves
 pub mod Members
 pub mod Answers
-pub mod Asking

@@ -1,11 +1,10 @@
 // The objects at which a rule is selected. The forward rule is asked at marked objects only.
 use body_rows::body::scan;
+use candidates::candidates;
 use directions::DOWN;
-use going_back::rule::candidates;
 use ocl::Place;
 use quietness::quiet::quiet;
-use reach::ask;
-use reach::forward::moved;
+use reach::moved;
 use tables::Counts;
 ghost use mathlib.Core.Path.{_≡_};
 ghost use mathlib.Core.Bool.{_&&_, _||_, not};
@@ -37,7 +36,7 @@ fn brought_in(
     ensures { λ r. ⌜ ((c : Change) → Traced c n (now (types .entry)) (now (objects .entry)) (now (links .entry)) (now (events .entry)) (now (trace .entry))
         → r ≡ ((inserted c (idIn (now (objects .entry)) row) context && not still) || specialised c (idIn (now (objects .entry)) row) context)) ⌝ }
 {
-    if ask::ask_if(
+    if questions::ask_if(
         !still,
         true,
         n,
@@ -47,12 +46,12 @@ fn brought_in(
         events,
         trace,
         row,
-        ask::INSERTED,
+        questions::INSERTED,
         context,
     ) {
         return true;
     }
-    ask::ask(
+    questions::ask(
         n,
         types,
         objects,
@@ -60,7 +59,7 @@ fn brought_in(
         events,
         trace,
         row,
-        ask::SPECIALISED,
+        questions::SPECIALISED,
         context,
     )
 }

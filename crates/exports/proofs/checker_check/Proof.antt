@@ -1,7 +1,7 @@
 -- `checker_check` meets its contract. The number is the verdict's.
 use mathlib.Core.Path.{sym, _∙_}
 use borrow.Author.Needs.{needs}
-use Rattle.exports.proofs.Coded.{coded-clear, coded-refused}
+use Rattle.told.proofs.Coded.{coded-clear, coded-refused}
 use Rattle.exports.proofs.checker_check.Statement.{statement}
 use Rattle.exports.proofs.checker_check.Tie as tie
 

@@ -1,7 +1,7 @@
 -- `checker_full_check` meets its contract. The words are the answer's.
 use mathlib.Core.Path.{sym, _∙_}
 use borrow.Author.Needs.{needs}
-use Rattle.exports.proofs.Coded.{words-accepted, words-broken, words-refused}
+use Rattle.told.proofs.Coded.{words-accepted, words-broken, words-refused}
 use Rattle.exports.proofs.checker_full_check.Statement.{statement}
 use Rattle.exports.proofs.checker_full_check.Tie as tie
 

@@ -1,7 +1,7 @@
 -- `checker_read` meets its contract. The words are those of the reading, and the tables are as the reader leaves them.
 use mathlib.Core.Path.{sym, _∙_}
 use borrow.Author.Needs.{needs}
-use Rattle.exports.proofs.Coded.{words-taken, words-unread}
+use Rattle.told.proofs.Coded.{words-taken, words-unread}
 use Rattle.exports.proofs.checker_read.Statement.{statement}
 use Rattle.exports.proofs.checker_read.Tie as tie
 

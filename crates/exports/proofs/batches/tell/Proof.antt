@@ -1,7 +1,7 @@
 -- `tell` meets its contract. The first three words are the answer's.
 use mathlib.Core.Path.{sym, _∙_}
 use borrow.Author.Needs.{needs}
-use Rattle.exports.proofs.Coded.{words-accepted, words-broken, words-refused}
+use Rattle.told.proofs.Coded.{words-accepted, words-broken, words-refused}
 use Rattle.exports.proofs.Outcomes.{in-front}
 use Rattle.exports.proofs.batches.tell.Statement.{statement}
 use Rattle.exports.proofs.batches.tell.Tie as tie

@@ -1,7 +1,7 @@
 -- `checker_events` meets its contract. The words are those of the list's answer.
 use mathlib.Core.Path.{sym, ap, _∙_}
 use borrow.Author.Needs.{needs}
-use Rattle.exports.specs.Coded.{listedWords}
+use Rattle.told.specs.Coded.{listedWords}
 use Rattle.exports.proofs.lists.checker_events.Statement.{statement}
 use Rattle.exports.proofs.lists.checker_events.Tie as tie
 

@@ -1,7 +1,7 @@
 -- `checker_write` meets its contract. The words are those of the writer's answer.
 use mathlib.Core.Path.{sym, ap, _∙_}
 use borrow.Author.Needs.{needs}
-use Rattle.exports.specs.Coded.{writtenWords}
+use Rattle.told.specs.Coded.{writtenWords}
 use Rattle.exports.proofs.texts.checker_write.Statement.{statement}
 use Rattle.exports.proofs.texts.checker_write.Tie as tie
 

@@ -1,0 +1,170 @@
+// The candidates of a rule: the objects at which the forward rule is asked.
+use directions::DOWN;
+use going_back::back;
+use ocl::Place;
+use row_sets::clear;
+use row_sets::put_answers;
+use tables::Counts;
+ghost use mathlib.Core.Path.{_≡_};
+ghost use mathlib.Core.Bool.{true, false, _||_};
+ghost use Prim.Native.Nat.{ℕ, _+_, _≤_, _<_};
+ghost use lib.Dec.{T};
+ghost use lib.ListN.{length, getD};
+ghost use Rattle.meaning.specs.Schema.{Schema};
+ghost use Rattle.meaning.specs.Reach.{Change, inserted, specialised};
+ghost use Rattle.rows.specs.Rows.{wordAt};
+ghost use Rattle.tables.specs.Bodies.{wholeBody};
+ghost use Rattle.tables.specs.Columns.{ruleRow};
+ghost use Rattle.body_rows.specs.Marks.{bodyOf};
+ghost use Rattle.ocl.specs.Site.{siteOf, idIn};
+ghost use Rattle.trace.specs.Traces.{Traced, Traces};
+ghost use Rattle.going_back.specs.Back.{candidate};
+ghost use Rattle.going_back.specs.Walkable.{BodyAble};
+
+// The first set becomes that of the objects that were brought into a type. Of an insert it does not matter here whether a body is quiet.
+fn put_brought(
+    n: Counts,
+    types: &[u32],
+    objects: &[u32],
+    links: &[u32],
+    events: &[u32],
+    trace: &[u16; 2593],
+    context: u32,
+    sets: &mut [bool],
+)
+    requires { ⌜ (Traces n (now types) (now objects) (now links) (now events) (now trace)) × (length (now sets) ≡ 65536) ⌝ }
+    ensures { λ _. ⌜ (length (now (sets .exit)) ≡ length (now (sets .entry)))
+        × ((c : Change) → Traced c n (now (types .entry)) (now (objects .entry)) (now (links .entry)) (now (events .entry)) (now (trace .entry))
+        → (row : ℕ) → row < n .objects
+        → (inserted c (idIn (now (objects .entry)) row) context || specialised c (idIn (now (objects .entry)) row) context) ≡ true
+        → getD (now (sets .exit)) (0 + row) false ≡ true) ⌝ }
+{
+    clear(n, 0, sets);
+    put_answers(
+        n,
+        types,
+        objects,
+        links,
+        events,
+        trace,
+        questions::INSERTED,
+        context,
+        0,
+        sets,
+    );
+    put_answers(
+        n,
+        types,
+        objects,
+        links,
+        events,
+        trace,
+        questions::SPECIALISED,
+        context,
+        0,
+        sets,
+    );
+}
+
+// Puts the rows of a rule's candidates into the first set: of the objects that were brought into its context type, and of those from which a fall of its body
+// is reached. It answers whether everything is.
+fn put_candidates(
+    n: Counts,
+    types: &[u32],
+    objects: &[u32],
+    links: &[u32],
+    index: &[u16; 81920],
+    rules: &[u32],
+    bodies: &[u32],
+    spans: &[u32; 65],
+    events: &[u32],
+    trace: &[u16; 2593],
+    rule: u32,
+    sets: &mut [bool],
+) -> bool
+    requires { ⌜ T (wholeBody (bodyOf (now bodies) rule) (wordAt (now rules) 2 rule 1))
+        × ((S : Schema) × BodyAble S (siteOf n (now types) (now objects) (now links) (now index) (now bodies) rule) (now spans) (wordAt (now rules) 2 rule 1))
+        × (Traces n (now types) (now objects) (now links) (now events) (now trace)) × (length (now sets) ≡ 65536) ⌝ }
+    ensures { λ r. ⌜ (length (now (sets .exit)) ≡ length (now (sets .entry)))
+        × ((c : Change) → Traced c n (now (types .entry)) (now (objects .entry)) (now (links .entry)) (now (events .entry)) (now (trace .entry))
+        → r ≡ false → (row : ℕ) → row < n .objects
+        → candidate c (ruleRow (now (rules .entry)) (now (bodies .entry)) rule) (idIn (now (objects .entry)) row) ≡ true
+        → getD (now (sets .exit)) (0 + row) false ≡ true) ⌝ }
+{
+    if n.objects == 0 {
+        return false;
+    }
+    let context = rows::word(rules, tables::RULE_WIDTH, rule, 0);
+    put_brought(n, types, objects, links, events, trace, context, sets);
+    let body = Place(rule, rows::word(rules, tables::RULE_WIDTH, rule, 1), 1);
+    back(
+        n,
+        types,
+        objects,
+        links,
+        index,
+        bodies,
+        spans,
+        events,
+        trace,
+        body,
+        DOWN,
+        sets,
+    )
+}
+
+// The first set as marks of rows; every row, if everything is reached.
+fn marks_of(n: Counts, everything: bool, sets: &[bool]) -> [bool; 1024]
+    requires { ⌜ (n .objects ≤ 1024) × (length (now sets) ≡ 65536) ⌝ }
+    ensures { λ r. ⌜ ((row : ℕ) → row < n .objects → getD r row false ≡ (everything || getD (now (sets .entry)) row false)) ⌝ }
+{
+    let mut marks = [false; 1024];
+    let mut row: u32 = 0;
+    while row < n.objects {
+        let at = row as usize;
+        marks[at] = if everything { true } else { sets[at] };
+        row += 1;
+    }
+    marks
+}
+
+// The candidates of a rule as marks of rows. The sets are room for the variables' sets, whatever they hold.
+pub fn candidates(
+    n: Counts,
+    types: &[u32],
+    objects: &[u32],
+    links: &[u32],
+    index: &[u16; 81920],
+    rules: &[u32],
+    bodies: &[u32],
+    spans: &[u32; 65],
+    events: &[u32],
+    trace: &[u16; 2593],
+    rule: u32,
+    sets: &mut [bool],
+) -> [bool; 1024]
+    requires { ⌜ T (wholeBody (bodyOf (now bodies) rule) (wordAt (now rules) 2 rule 1))
+        × ((S : Schema) × BodyAble S (siteOf n (now types) (now objects) (now links) (now index) (now bodies) rule) (now spans) (wordAt (now rules) 2 rule 1))
+        × (Traces n (now types) (now objects) (now links) (now events) (now trace)) × (length (now sets) ≡ 65536) ⌝ }
+    ensures { λ r. ⌜ (length (now (sets .exit)) ≡ length (now (sets .entry)))
+        × ((c : Change) → Traced c n (now (types .entry)) (now (objects .entry)) (now (links .entry)) (now (events .entry)) (now (trace .entry))
+        → (row : ℕ) → row < n .objects
+        → candidate c (ruleRow (now (rules .entry)) (now (bodies .entry)) rule) (idIn (now (objects .entry)) row) ≡ true
+        → getD r row false ≡ true) ⌝ }
+{
+    let everything = put_candidates(
+        n,
+        types,
+        objects,
+        links,
+        index,
+        rules,
+        bodies,
+        spans,
+        events,
+        trace,
+        rule,
+        sets,
+    );
+    marks_of(n, everything, sets)
+}

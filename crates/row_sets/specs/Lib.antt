@@ -1,0 +1,3 @@
+-- Sets of rows.
+--   Sets   how they grow, and how one is emptied
+pub mod Sets

@@ -1,0 +1,284 @@
+// Sets of rows, one for each variable: the mark of a row is at 1,024 times the variable's number, and the row.
+use directions::DOWN;
+use directions::UP;
+use tables::Counts;
+ghost use mathlib.Core.Path.{_≡_};
+ghost use mathlib.Core.Bool.{true, false, _&&_, _||_};
+ghost use Prim.Native.Nat.{ℕ, _+_, _*_, _≤_, _<_};
+ghost use lib.ListN.{length, getD};
+ghost use Rattle.meaning.specs.Lists.{_∈_};
+ghost use Rattle.meaning.specs.Register.{farEnds};
+ghost use Rattle.meaning.specs.Reach.{Change, up, down};
+ghost use Rattle.tables.specs.Columns.{typesOf, registerOf};
+ghost use Rattle.directions.specs.Sets.{has};
+ghost use Rattle.link_index.specs.Slots.{Indexed};
+ghost use Rattle.ocl.specs.Ready.{Steady};
+ghost use Rattle.ocl.specs.Site.{idIn};
+ghost use Rattle.trace.specs.Questions.{asked, questionOf};
+ghost use Rattle.trace.specs.Traces.{placeAnswers, Traced, Traces};
+ghost use Rattle.row_sets.specs.Sets.{Grown, Cleared};
+
+// Puts an object's row into a variable's set. What is past the objects is no row of one.
+fn mark(n: Counts, v: u32, row: u32, sets: &mut [bool])
+    requires { ⌜ (v < 64) × (n .objects ≤ 1024) × (length (now sets) ≡ 65536) ⌝ }
+    ensures { λ _. ⌜ (Grown (now (sets .entry)) (now (sets .exit))) × (row < n .objects → getD (now (sets .exit)) (v * 1024 + row) false ≡ true) ⌝ }
+{
+    if n.objects <= row {
+        return;
+    }
+    let at = (v * 1024 + row) as usize;
+    sets[at] = true;
+}
+
+// Puts the row that a place names into a variable's set, if the event of the place answers a question.
+fn put_answer(
+    n: Counts,
+    types: &[u32],
+    events: &[u32],
+    trace: &[u16; 2593],
+    place: u32,
+    question: u32,
+    x: u32,
+    v: u32,
+    sets: &mut [bool],
+)
+    requires { ⌜ (place < 512) × (question < 6) × (v < 64) × (n .objects ≤ 1024) × (length (now sets) ≡ 65536) ⌝ }
+    ensures { λ _. ⌜ (Grown (now (sets .entry)) (now (sets .exit)))
+        × (getD (now (trace .entry)) place 0 < n .objects → placeAnswers (typesOf (n .types) (now (types .entry))) (questionOf question x) (now (events .entry)) (now (trace .entry)) place ≡ true
+        → getD (now (sets .exit)) (v * 1024 + getD (now (trace .entry)) place 0) false ≡ true) ⌝ }
+{
+    let at = place as usize;
+    let row = rows::wide(trace[at]);
+    if n.objects <= row {
+        return;
+    }
+    if !questions::answered(n.types, types, events, trace, place, question, x) {
+        return;
+    }
+    let mark = (v * 1024 + row) as usize;
+    sets[mark] = true;
+}
+
+// Puts the rows of the objects for which some event answers a question into a variable's set.
+pub fn put_answers(
+    n: Counts,
+    types: &[u32],
+    objects: &[u32],
+    links: &[u32],
+    events: &[u32],
+    trace: &[u16; 2593],
+    question: u32,
+    x: u32,
+    v: u32,
+    sets: &mut [bool],
+)
+    requires { ⌜ (Traces n (now types) (now objects) (now links) (now events) (now trace)) × (question < 6) × (v < 64) × (length (now sets) ≡ 65536) ⌝ }
+    ensures { λ _. ⌜ (Grown (now (sets .entry)) (now (sets .exit)))
+        × ((c : Change) → Traced c n (now (types .entry)) (now (objects .entry)) (now (links .entry)) (now (events .entry)) (now (trace .entry))
+        → (row : ℕ) → row < n .objects → asked c (questionOf question x) (idIn (now (objects .entry)) row) ≡ true
+        → getD (now (sets .exit)) (v * 1024 + row) false ≡ true) ⌝ }
+{
+    let mut place: u32 = 0;
+    while place < 2 * n.events {
+        put_answer(n, types, events, trace, place, question, x, v, sets);
+        place += 1;
+    }
+}
+
+// Puts the rows at the far end of a role from an object's row into a variable's set.
+fn put_far(
+    n: Counts,
+    objects: &[u32],
+    links: &[u32],
+    index: &[u16; 81920],
+    role: u32,
+    row: u32,
+    v: u32,
+    sets: &mut [bool],
+)
+    requires { ⌜ (Indexed (n .objects) (now objects) (n .links) (now links) (now index))
+        × (Steady (registerOf (n .objects) (now objects) (n .links) (now links)))
+        × (role < 64) × (row < n .objects) × (v < 64) × (length (now sets) ≡ 65536) ⌝ }
+    ensures { λ _. ⌜ (Grown (now (sets .entry)) (now (sets .exit)))
+        × ((y : ℕ) → y < n .objects
+        → idIn (now (objects .entry)) y ∈ farEnds (registerOf (n .objects) (now (objects .entry)) (n .links) (now (links .entry))) role (idIn (now (objects .entry)) row)
+        → getD (now (sets .exit)) (v * 1024 + y) false ≡ true) ⌝ }
+{
+    let mut word = link_index::first_slot(index, role, row);
+    while word != 0 {
+        let slot = word - 1;
+        mark(n, v, link_index::far_row(index, slot), sets);
+        word = link_index::next_slot(index, slot);
+    }
+}
+
+// Puts the rows at the far end of a role from a row into a variable's set, if the row is in another one's set.
+fn put_row(
+    n: Counts,
+    objects: &[u32],
+    links: &[u32],
+    index: &[u16; 81920],
+    role: u32,
+    from: u32,
+    row: u32,
+    v: u32,
+    sets: &mut [bool],
+)
+    requires { ⌜ (Indexed (n .objects) (now objects) (n .links) (now links) (now index))
+        × (Steady (registerOf (n .objects) (now objects) (n .links) (now links)))
+        × (role < 64) × (row < n .objects) × (v < 64) × (length (now sets) ≡ 65536) × (from < 64) ⌝ }
+    ensures { λ _. ⌜ (Grown (now (sets .entry)) (now (sets .exit)))
+        × (getD (now (sets .entry)) (from * 1024 + row) false ≡ true → (y : ℕ) → y < n .objects
+        → idIn (now (objects .entry)) y ∈ farEnds (registerOf (n .objects) (now (objects .entry)) (n .links) (now (links .entry))) role (idIn (now (objects .entry)) row)
+        → getD (now (sets .exit)) (v * 1024 + y) false ≡ true) ⌝ }
+{
+    let at = (from * 1024 + row) as usize;
+    if !sets[at] {
+        return;
+    }
+    put_far(n, objects, links, index, role, row, v, sets);
+}
+
+// Puts the rows at the far end of a role from each row of a set into a variable's set.
+pub fn put_back(
+    n: Counts,
+    objects: &[u32],
+    links: &[u32],
+    index: &[u16; 81920],
+    role: u32,
+    from: u32,
+    v: u32,
+    sets: &mut [bool],
+)
+    requires { ⌜ (Indexed (n .objects) (now objects) (n .links) (now links) (now index))
+        × (Steady (registerOf (n .objects) (now objects) (n .links) (now links)))
+        × (role < 64) × (v < 64) × (length (now sets) ≡ 65536) × (from < 64) ⌝ }
+    ensures { λ _. ⌜ (Grown (now (sets .entry)) (now (sets .exit)))
+        × ((x : ℕ) → x < n .objects → getD (now (sets .entry)) (from * 1024 + x) false ≡ true → (y : ℕ) → y < n .objects
+        → idIn (now (objects .entry)) y ∈ farEnds (registerOf (n .objects) (now (objects .entry)) (n .links) (now (links .entry))) role (idIn (now (objects .entry)) x)
+        → getD (now (sets .exit)) (v * 1024 + y) false ≡ true) ⌝ }
+{
+    let mut row: u32 = 0;
+    while row < n.objects {
+        put_row(n, objects, links, index, role, from, row, v, sets);
+        row += 1;
+    }
+}
+
+// The same, if it is wanted.
+fn put_if(
+    wanted: bool,
+    n: Counts,
+    types: &[u32],
+    objects: &[u32],
+    links: &[u32],
+    events: &[u32],
+    trace: &[u16; 2593],
+    question: u32,
+    x: u32,
+    v: u32,
+    sets: &mut [bool],
+)
+    requires { ⌜ (Traces n (now types) (now objects) (now links) (now events) (now trace)) × (question < 6) × (v < 64) × (length (now sets) ≡ 65536) ⌝ }
+    ensures { λ _. ⌜ (Grown (now (sets .entry)) (now (sets .exit)))
+        × ((c : Change) → Traced c n (now (types .entry)) (now (objects .entry)) (now (links .entry)) (now (events .entry)) (now (trace .entry))
+        → (row : ℕ) → row < n .objects → (wanted && asked c (questionOf question x) (idIn (now (objects .entry)) row)) ≡ true
+        → getD (now (sets .exit)) (v * 1024 + row) false ≡ true) ⌝ }
+{
+    if !wanted {
+        return;
+    }
+    put_answers(
+        n,
+        types,
+        objects,
+        links,
+        events,
+        trace,
+        question,
+        x,
+        v,
+        sets,
+    );
+}
+
+// Puts the rows of the objects for which some event answers the question of a direction of the set into a variable's set.
+pub fn put_moved(
+    n: Counts,
+    types: &[u32],
+    objects: &[u32],
+    links: &[u32],
+    events: &[u32],
+    trace: &[u16; 2593],
+    gain: u32,
+    loss: u32,
+    x: u32,
+    v: u32,
+    set: u32,
+    sets: &mut [bool],
+)
+    requires { ⌜ (Traces n (now types) (now objects) (now links) (now events) (now trace)) × (gain < 6) × (loss < 6) × (v < 64) × (length (now sets) ≡ 65536) ⌝ }
+    ensures { λ _. ⌜ (Grown (now (sets .entry)) (now (sets .exit)))
+        × ((c : Change) → Traced c n (now (types .entry)) (now (objects .entry)) (now (links .entry)) (now (events .entry)) (now (trace .entry))
+        → (row : ℕ) → row < n .objects
+        → ((has set up && asked c (questionOf gain x) (idIn (now (objects .entry)) row)) || (has set down && asked c (questionOf loss x) (idIn (now (objects .entry)) row))) ≡ true
+        → getD (now (sets .exit)) (v * 1024 + row) false ≡ true) ⌝ }
+{
+    let up = directions::contains(set, UP);
+    put_if(
+        up,
+        n,
+        types,
+        objects,
+        links,
+        events,
+        trace,
+        gain,
+        x,
+        v,
+        sets,
+    );
+    let down = directions::contains(set, DOWN);
+    put_if(
+        down,
+        n,
+        types,
+        objects,
+        links,
+        events,
+        trace,
+        loss,
+        x,
+        v,
+        sets,
+    );
+}
+
+// Empties a variable's set.
+pub fn clear(n: Counts, v: u32, sets: &mut [bool])
+    requires { ⌜ (v < 64) × (n .objects ≤ 1024) × (length (now sets) ≡ 65536) ⌝ }
+    ensures { λ _. ⌜ Cleared v (n .objects) (now (sets .entry)) (now (sets .exit)) ⌝ }
+{
+    let mut row: u32 = 0;
+    while row < n.objects {
+        let at = (v * 1024 + row) as usize;
+        sets[at] = false;
+        row += 1;
+    }
+}
+
+// Whether a variable's set has a row.
+pub fn has_some(n: Counts, v: u32, sets: &[bool]) -> bool
+    requires { ⌜ (v < 64) × (n .objects ≤ 1024) × (length (now sets) ≡ 65536) ⌝ }
+    ensures { λ r. ⌜ ((row : ℕ) → row < n .objects → getD (now (sets .entry)) (v * 1024 + row) false ≡ true → r ≡ true) ⌝ }
+{
+    let mut row: u32 = 0;
+    while row < n.objects {
+        let at = (v * 1024 + row) as usize;
+        if sets[at] {
+            return true;
+        }
+        row += 1;
+    }
+    false
+}

@@ -1,0 +1,3 @@
+-- Answers as numbers.
+--   Coded      a refusal, an answer, a reading, an event list, a text
+pub mod Coded
