@@ -34,7 +34,8 @@ pub fn answer(a: Answer) -> [u32; 3]
 pub fn checked(done: Checked) -> [u32; 6]
     ensures { λ r. ⌜ r ≡ saidWords (done .answer) ++ done .pairs ∷ done .objects ∷ done .links ∷ [] ⌝ }
 {
-    let said = answer(done.answer);
+    let given = done.answer;
+    let said = answer(given);
     [
         said[0],
         said[1],
