@@ -9,7 +9,7 @@ use lib.ListN.{length, take, drop, replicate, length-append, length-drop}
 use lib.Seq.{take-at, length-take-le}
 use Rattle.rows.specs.Rows.{wordAt, readRows, padded, clearedPast, copied}
 use Rattle.rows.proofs.Fronts.{rows-words}
-use Rattle.batch.specs.Judged.{broughtBack}
+use Rattle.batch.specs.Settled.{broughtBack}
 
 module _ {A : Type 0} (width : ℕ) (table copy : List ℕ) (used : ℕ) (row : ℕ → A) (columns : A → List ℕ)
     (back : (i : ℕ) → columns (row i) ≡ readRows (wordAt copy width i) width) (lent : used * width ≤ length table) (there : used * width ≤ length copy) where

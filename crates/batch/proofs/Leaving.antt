@@ -27,10 +27,11 @@ use Rattle.tables.proofs.Determined.{Words, object-back, link-back}
 use Rattle.events.specs.Runs.{lentBy, RunLeft}
 use Rattle.lent_run.specs.Lent.{scratchShort, runRefusal}
 use Rattle.pair_list.specs.Pairs.{pairWords}
-use Rattle.batch.specs.declared.Judged.{Judged}
+use Rattle.batch_judge.specs.declared.Judged.{Judged}
 use Rattle.batch.specs.declared.Checked.{Checked}
 use Rattle.batch.specs.Checked.{lentOutcome, tableAfter, Left}
-use Rattle.batch.specs.Judged.{endOutcome, Judges, kept, broughtBack, Settles}
+use Rattle.batch_judge.specs.Judged.{endOutcome, Judges}
+use Rattle.batch.specs.Settled.{kept, broughtBack, Settles}
 use Rattle.batch.proofs.Outcomes.{Unrefused, outcome-end, outcome-refused}
 use Rattle.batch.proofs.Back.{back-is}
 

@@ -19,7 +19,7 @@ use Rattle.tables.specs.declared.Counts.{Counts}
 use Rattle.events.specs.Runs.{lentBy}
 use Rattle.lent_run.specs.Lent.{scratchShort, eventsMeet, runRefusal}
 use Rattle.batch.specs.Checked.{lentOutcome}
-use Rattle.batch.specs.Judged.{endOutcome}
+use Rattle.batch_judge.specs.Judged.{endOutcome}
 
 -- ---- the words that are lent for a list are no matter of an event
 

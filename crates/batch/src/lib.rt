@@ -1,22 +1,16 @@
 // Demand 3: the batch check of lent tables. The events are taken on a copy of the register, the pairs that they select are listed, and the first of them
 // that is broken at the end decides.
-use batch_selection::selected_pairs;
+use batch_judge::Judged;
+use batch_judge::judge;
 use tables::Answer;
 use tables::Counts;
 use tables::Verdict;
 ghost use mathlib.Core.Path.{_≡_};
-ghost use mathlib.Core.List.{[]};
 ghost use lib.ListN.{length};
-ghost use Rattle.meaning.specs.Events.{Lent};
-ghost use Rattle.meaning.specs.Register.{Register};
-ghost use Rattle.meaning.specs.Reach.{Change};
-ghost use Rattle.tables.specs.Columns.{bookOf};
 ghost use Rattle.tables.specs.Layouts.{sheetOf};
-ghost use Rattle.checks.specs.Given.{Given};
 ghost use Rattle.lent_run.specs.Lent.{scratchShort};
-ghost use Rattle.batch_selection.specs.Ended.{Ended};
 ghost use Rattle.batch.specs.Checked.{lentOutcome, Left};
-ghost use Rattle.batch.specs.Judged.{endOutcome, Judges, broughtBack, Settles};
+ghost use Rattle.batch.specs.Settled.{broughtBack, Settles};
 
 // What a batch check says: its answer, how many pairs it listed, and how many rows of objects and links are used after it.
 pub struct Checked {
@@ -24,72 +18,6 @@ pub struct Checked {
     pub pairs: u32,
     pub objects: u32,
     pub links: u32,
-}
-
-// What the listed pairs say, and how many there are.
-pub struct Judged {
-    pub answer: Answer,
-    pub pairs: u32,
-}
-
-// Lists the pairs that the batch selects, and finds the first of them that is broken at its end. 14 is met before a word is written.
-fn judge(
-    n: Counts,
-    types: &[u32],
-    relationships: &[u32],
-    rules: &[u32],
-    bodies: &[u32],
-    objects: &[u32],
-    links: &[u32],
-    events: &[u32],
-    met: &[u32; 256],
-    list: &mut [u16],
-) -> Judged
-    requires { ⌜ (Given n (sheetOf (now types) (now relationships) (now rules) (now bodies) (now objects) (now links) []))
-        × ((c : Change) × Ended c n (sheetOf (now types) (now relationships) (now rules) (now bodies) (now objects) (now links) (now events)) (now met)) ⌝ }
-    ensures { λ r. ⌜ (let s = sheetOf (now (types .entry)) (now (relationships .entry)) (now (rules .entry)) (now (bodies .entry)) (now (objects .entry)) (now (links .entry)) (now (events .entry)) in
-        (c : Change) → Ended c n s (now (met .entry)) → (lent : Lent) → lent .words ≡ length (now (list .entry)) → (g : Register)
-        → Judges (endOutcome (bookOf n s) lent g c) (now (list .entry)) r (now (list .exit))) ⌝ }
-{
-    let mut index = [0u16; 81920];
-    link_index::index(n.objects, objects, n.links, links, &mut index);
-    let mut chosen = [0u16; 32768];
-    let count = selected_pairs(
-        n,
-        types,
-        relationships,
-        rules,
-        bodies,
-        objects,
-        links,
-        &index,
-        events,
-        met,
-        &mut chosen,
-    );
-    if list.len() < (count as usize) * 2 {
-        return Judged {
-            answer: Answer::Refused(14, 0),
-            pairs: 0,
-        };
-    }
-    pair_list::write(n, count, &chosen, objects, list);
-    let answer = pair_list::search(
-        n,
-        types,
-        relationships,
-        rules,
-        bodies,
-        objects,
-        links,
-        &index,
-        count,
-        &chosen,
-    );
-    Judged {
-        answer,
-        pairs: count,
-    }
 }
 
 // A table's copy brought back: its used rows, and zeros past them.

@@ -1,4 +1,4 @@
--- `batch::judge` meets its contract.
+-- `batch_judge::judge` meets its contract.
 use Prim.Native.Nat.{ℕ}
 use mathlib.Core.Path.{refl, _∙_}
 use mathlib.Core.List.{List, []}
@@ -8,10 +8,10 @@ use lib.ListN.{length-replicate}
 use Rattle.tables.specs.Layouts.{Sheet, sheetOf}
 use Rattle.full_search.specs.Search.{Clear}
 use Rattle.full_search.proofs.Given.{register-fits, can-index, zeros}
-use Rattle.batch.proofs.Judging.{id-low, no-room, listed}
+use Rattle.batch_judge.proofs.Judging.{id-low, no-room, listed}
 use borrow.Author.Needs.{needs}
-use Rattle.batch.proofs.judge.Statement.{statement}
-use Rattle.batch.proofs.judge.Tie as tie
+use Rattle.batch_judge.proofs.judge.Statement.{statement}
+use Rattle.batch_judge.proofs.judge.Tie as tie
 
 -- the function's entry, and its tables
 abbrev entry : tie.After-index → tie.Start

@@ -28,8 +28,8 @@ use Rattle.ocl.specs.Site.{idIn}
 use Rattle.full_search.proofs.Given.{register-fits}
 use Rattle.pair_list.specs.Pairs.{pairAt, pairsOf, pairWords, Chosen}
 use Rattle.batch_selection.specs.Ended.{Ended}
-use Rattle.batch.specs.declared.Judged.{Judged}
-use Rattle.batch.specs.Judged.{endOutcome, Judges}
+use Rattle.batch_judge.specs.declared.Judged.{Judged}
+use Rattle.batch_judge.specs.Judged.{endOutcome, Judges}
 
 -- "id 1 to 65,535": an id is a half word
 pub id-low : (n : Counts) (s : Sheet) → Given n s → (row : ℕ) → row < n .objects → idIn (s .objects) row < 65536

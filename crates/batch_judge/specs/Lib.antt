@@ -1,0 +1,3 @@
+-- What the listed pairs say.
+--   Judged     14, or the first of them that is broken at the end
+pub mod Judged
