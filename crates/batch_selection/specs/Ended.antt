@@ -10,7 +10,7 @@ use Rattle.meaning.specs.EventList.{touched}
 use Rattle.tables.specs.Layouts.{Sheet}
 use Rattle.tables.specs.Columns.{ruleRow, bookOf}
 use Rattle.tables.specs.declared.Counts.{Counts}
-use Rattle.trace.specs.Traces.{Seen}
+use Rattle.trace_places.specs.Traces.{Seen}
 
 -- the tables are those of the batch's end, with the type that each event met; "a rule none of whose listed event types occurs has no pair"
 pub record Ended (c : Change) (n : Counts) (s : Sheet) (met : List ℕ) : Type 0 where

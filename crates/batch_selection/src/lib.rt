@@ -16,7 +16,7 @@ ghost use Rattle.rows.specs.Rows.{readRows};
 ghost use Rattle.tables.specs.Columns.{ruleRow, schemaOf, bookOf};
 ghost use Rattle.tables.specs.Layouts.{sheetOf};
 ghost use Rattle.register.specs.Tables.{ObjectsAscend};
-ghost use Rattle.trace.specs.Traces.{Seen};
+ghost use Rattle.trace_places.specs.Traces.{Seen};
 ghost use Rattle.bits.specs.Bits.{bitsIn};
 ghost use Rattle.touched.specs.Books.{BookGiven};
 ghost use Rattle.full_search.specs.Search.{Clear};

@@ -26,7 +26,7 @@ ghost use Rattle.body_rows.specs.Marks.{bodyOf, Starts};
 ghost use Rattle.directions.specs.Sets.{someOf};
 ghost use Rattle.ocl.specs.Site.{siteOf, formAt, idIn};
 ghost use Rattle.ocl.specs.Ready.{Ready};
-ghost use Rattle.trace.specs.Traces.{Traced, Traces};
+ghost use Rattle.trace_places.specs.Traces.{Traced, Traces};
 ghost use Rattle.reach.specs.Able.{LeafAble};
 ghost use Rattle.going_back.specs.Back.{leadsInto, throughMembers, reachedBy, leafReached, Covered, turned, BaseRow};
 ghost use Rattle.row_sets.specs.Sets.{Grown, GrownBelow};

@@ -13,11 +13,11 @@ use Rattle.meaning.specs.Register.{Register, isUnder}
 use Rattle.meaning.specs.Reach.{inserts, sets, joins, parts, specials, generals}
 use Rattle.meaning.specs.EventList.{EventType, insertOf, deleteOf, setOf, joinOf, partOf, specialOf, generalOf, eventTypeWords}
 use Rattle.tables.specs.Columns.{eventOf}
-use Rattle.trace.specs.Questions.{metUnder}
-use Rattle.trace.specs.Making.{ForTypes, deleteWords}
-use Rattle.trace.proofs.Questions.{type-words, whole-words}
-use Rattle.trace.proofs.Coming.{delete-words, delete-past}
-use Rattle.trace.proofs.Climbing.{no-truths}
+use Rattle.trace_places.specs.Questions.{metUnder}
+use Rattle.trace_places.specs.Making.{ForTypes, deleteWords}
+use Rattle.trace_places.proofs.Questions.{type-words, whole-words}
+use Rattle.trace_types.proofs.Coming.{delete-words, delete-past}
+use Rattle.trace_types.proofs.Climbing.{no-truths}
 use Rattle.event_marks.specs.Marks.{wordsAt, Added}
 use Rattle.occurring.specs.Counting.{counts, readKind, Counted}
 use Rattle.occurring.proofs.Types.{butNot}

@@ -10,8 +10,8 @@ use Rattle.meaning.specs.Register.{Register, isUnder}
 use Rattle.meaning.specs.Events.{Event}
 use Rattle.meaning.specs.Reach.{inserts, deletes, sets, joins, parts, specials, generals, among}
 use Rattle.meaning.specs.EventList.{EventType, insertOf, deleteOf, setOf, joinOf, partOf, specialOf, generalOf, eventTypeWords}
-use Rattle.trace.specs.Questions.{metUnder}
-use Rattle.trace.specs.Making.{deleteWords}
+use Rattle.trace_places.specs.Questions.{metUnder}
+use Rattle.trace_places.specs.Making.{deleteWords}
 use Rattle.event_marks.specs.Marks.{places, wordsAt}
 
 -- "An insert, delete, special or general counts for every type it brings the object into or out of; a set counts for every type its

@@ -20,9 +20,9 @@ use Rattle.link_index.proofs.Chains.{Lead, lead-some, lead-none}
 use Rattle.register.proofs.Hits.{hit-some}
 use Rattle.register.proofs.Rows.{guessed-place}
 use Rattle.ocl.specs.Site.{idIn}
-use Rattle.trace.specs.Questions.{Question, answers, asked, answersAt}
-use Rattle.trace.specs.Traces.{itself, placeAnswers, namedAt, orPast, rowNamed, placeRow, thereWord, metWord, Traced}
-use Rattle.trace.proofs.Questions.{names, step-places}
+use Rattle.trace_places.specs.Questions.{Question, answers, asked, answersAt}
+use Rattle.trace_places.specs.Traces.{itself, placeAnswers, namedAt, orPast, rowNamed, placeRow, thereWord, metWord, Traced}
+use Rattle.trace_places.proofs.Questions.{names, step-places}
 use Rattle.trace.proofs.Steps.{any-none-at, any-some-at, step-at, step-within, step-event}
 
 so-true : (b : Bool) → T b → b ≡ true

@@ -1,6 +1,6 @@
 // What the leaves of the reach rules ask of the events that name an object: a chain of places for each row.
 use tables::Counts;
-use trace::types::was_under;
+use trace_types::types::was_under;
 ghost use mathlib.Core.Path.{_≡_};
 ghost use mathlib.Core.Bool.{Bool, _&&_, not};
 ghost use Prim.Native.Nat.{ℕ, _/_, _%_, _≤_, _<_};
@@ -8,8 +8,8 @@ ghost use lib.Dec.{eqb};
 ghost use Rattle.meaning.specs.Reach.{Change};
 ghost use Rattle.tables.specs.Columns.{typesOf, eventOf, eventRow};
 ghost use Rattle.ocl.specs.Site.{idIn};
-ghost use Rattle.trace.specs.Questions.{asked, questionOf, answersAt};
-ghost use Rattle.trace.specs.Traces.{thereWord, metWord, Traced, Traces};
+ghost use Rattle.trace_places.specs.Questions.{asked, questionOf, answersAt};
+ghost use Rattle.trace_places.specs.Traces.{thereWord, metWord, Traced, Traces};
 
 // The questions, by what they are about: a cell; a role; a type.
 pub const CELL_SET: u32 = 0;

@@ -17,7 +17,7 @@ use Rattle.body_rows.specs.Marks.{firstSort, secondSort}
 use Rattle.event_marks.proofs.Nodes.{passTo}
 use Rattle.ocl.specs.Site.{Site, typesAt, registerAt, rowsAt, formAt, codeAt, idsOf}
 use Rattle.ocl.specs.Values.{membersOf}
-use Rattle.trace.specs.Traces.{Traced}
+use Rattle.trace_places.specs.Traces.{Traced}
 use Rattle.reach.specs.Moves.{movedBy, leafMoves, movesAt, movesOver}
 use Rattle.reach.specs.Able.{Able}
 use Rattle.reach.proofs.Abilities.{whole, last-sound, op, sorts}

@@ -12,8 +12,8 @@ use Rattle.tables.specs.declared.Counts.{Counts}
 use Rattle.directions.specs.Sets.{has, someOf}
 use Rattle.ocl.specs.Site.{idIn}
 use Rattle.ocl.proofs.Objects.{under-in}
-use Rattle.trace.specs.Questions.{answers, asked, cellSet, joinedBy, partedBy, insertedInto, specialisedInto, generalisedFrom}
-use Rattle.trace.specs.Traces.{Traced}
+use Rattle.trace_places.specs.Questions.{answers, asked, cellSet, joinedBy, partedBy, insertedInto, specialisedInto, generalisedFrom}
+use Rattle.trace_places.specs.Traces.{Traced}
 use Rattle.reach.specs.Moves.{leafMoves}
 use Rattle.reach.proofs.Nodes.{always}
 

@@ -23,7 +23,7 @@ ghost use Rattle.directions.specs.Sets.{someOf};
 ghost use Rattle.ocl.specs.Site.{siteOf, idIn};
 ghost use Rattle.ocl.specs.Values.{membersOf};
 ghost use Rattle.ocl.specs.Ready.{Ready};
-ghost use Rattle.trace.specs.Traces.{Traced, Traces};
+ghost use Rattle.trace_places.specs.Traces.{Traced, Traces};
 ghost use Rattle.reach.specs.Moves.{leafMoves, movesAt, movesOver};
 ghost use Rattle.reach.specs.Able.{Able, LeafAble, OverAble};
 

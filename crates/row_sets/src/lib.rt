@@ -14,8 +14,8 @@ ghost use Rattle.directions.specs.Sets.{has};
 ghost use Rattle.link_index.specs.Slots.{Indexed};
 ghost use Rattle.ocl.specs.Ready.{Steady};
 ghost use Rattle.ocl.specs.Site.{idIn};
-ghost use Rattle.trace.specs.Questions.{asked, questionOf};
-ghost use Rattle.trace.specs.Traces.{placeAnswers, Traced, Traces};
+ghost use Rattle.trace_places.specs.Questions.{asked, questionOf};
+ghost use Rattle.trace_places.specs.Traces.{placeAnswers, Traced, Traces};
 ghost use Rattle.row_sets.specs.Sets.{Grown, Cleared};
 
 // Puts an object's row into a variable's set. What is past the objects is no row of one.

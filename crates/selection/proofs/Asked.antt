@@ -16,8 +16,8 @@ use Rattle.tables.specs.Columns.{typesOf, objectRow, ruleRow}
 use Rattle.tables.specs.declared.Counts.{Counts}
 use Rattle.body_rows.specs.Marks.{bodyOf}
 use Rattle.ocl.specs.Site.{Site, siteOf, rowsAt, formAt, idIn}
-use Rattle.trace.specs.Questions.{asked, insertedInto}
-use Rattle.trace.specs.Traces.{Traced}
+use Rattle.trace_places.specs.Questions.{asked, insertedInto}
+use Rattle.trace_places.specs.Traces.{Traced}
 use Rattle.reach.specs.Moves.{partMoves, movesAt}
 use Rattle.reach.proofs.Leaves.{asked-inserted, under-end}
 use Rattle.meaning.proofs.Lists.{decide}

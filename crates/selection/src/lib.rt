@@ -13,7 +13,7 @@ ghost use Rattle.meaning.specs.Reach.{Change};
 ghost use Rattle.rows.specs.Rows.{readRows};
 ghost use Rattle.tables.specs.Columns.{schemaOf};
 ghost use Rattle.tables.specs.Layouts.{sheetOf};
-ghost use Rattle.trace.specs.Traces.{Traced, Traces};
+ghost use Rattle.trace_places.specs.Traces.{Traced, Traces};
 ghost use Rattle.bits.specs.Bits.{bitsIn};
 ghost use Rattle.full_search.specs.Search.{Clear};
 ghost use Rattle.selection.specs.Selected.{ruleCodes};

@@ -15,7 +15,7 @@ ghost use Rattle.meaning.specs.Reach.{Change, quiet, inserted, specialised, sel
 ghost use Rattle.tables.specs.Columns.{ruleRow, schemaOf};
 ghost use Rattle.tables.specs.Layouts.{sheetOf};
 ghost use Rattle.ocl.specs.Site.{idIn};
-ghost use Rattle.trace.specs.Traces.{Traced, Traces};
+ghost use Rattle.trace_places.specs.Traces.{Traced, Traces};
 ghost use Rattle.full_search.specs.Search.{Clear};
 ghost use Rattle.selection.specs.Selected.{ruleCodes};
 ghost use Rattle.selection.specs.Ready.{RuleReady, TypedBy, Marked};

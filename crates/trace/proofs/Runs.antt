@@ -21,9 +21,9 @@ use Rattle.tables.specs.declared.Verdict.the-variants.{Clear}
 use Rattle.schema.proofs.Rows.{length-rows}
 use Rattle.events.specs.Runs.{objectOf, metBy, RunLeft}
 use Rattle.events.proofs.MetTypes.{met-named, met-unnamed, type-low, met-at, step-fits, step-under}
-use Rattle.trace.specs.Questions.{metUnder}
-use Rattle.trace.specs.Traces.{Seen}
-use Rattle.trace.specs.Making.{CanTrace}
+use Rattle.trace_places.specs.Questions.{metUnder}
+use Rattle.trace_places.specs.Traces.{Seen}
+use Rattle.trace_places.specs.Making.{CanTrace}
 use Rattle.trace.proofs.Steps.{some-within, step-at}
 
 -- a verdict that refuses nothing

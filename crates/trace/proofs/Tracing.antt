@@ -15,9 +15,9 @@ use Rattle.tables.specs.Columns.{typesOf, objectRow, linkRow, eventRow}
 use Rattle.tables.specs.declared.Counts.{Counts}
 use Rattle.register.specs.Tables.{objectsWith}
 use Rattle.directions.specs.Sets.{has}
-use Rattle.trace.specs.Questions.{metUnder}
-use Rattle.trace.specs.Traces.{Seen, metWord, allSet, Traced}
-use Rattle.trace.specs.Making.{Placed, Kept, eventMoves, someBelow, SetsWith, CanTrace}
+use Rattle.trace_places.specs.Questions.{metUnder}
+use Rattle.trace_places.specs.Traces.{Seen, metWord, allSet, Traced}
+use Rattle.trace_places.specs.Making.{Placed, Kept, eventMoves, someBelow, SetsWith, CanTrace}
 use Rattle.trace.proofs.Steps.{step-within, all-below}
 
 -- a set of none

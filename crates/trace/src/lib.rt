@@ -1,14 +1,12 @@
 // What is kept of a batch that was run, for the reach rules: a trace of its events by the rows of the register at the end.
 use tables::Counts;
+use trace_places::keep;
+use trace_places::places;
+use trace_types::moves;
 ghost use Rattle.meaning.specs.Reach.{Change};
 ghost use lib.ListN.{getD};
-ghost use Rattle.trace.specs.Traces.{Seen, Traced};
-ghost use Rattle.trace.specs.Making.{CanTrace};
-
-mod keep;
-pub mod moves;
-mod places;
-pub mod types;
+ghost use Rattle.trace_places.specs.Traces.{Seen, Traced};
+ghost use Rattle.trace_places.specs.Making.{CanTrace};
 
 // The trace of a batch in a table of zeros. The counts are those at the end.
 pub fn make(

@@ -13,7 +13,7 @@ use Rattle.meaning.specs.Register.{Link, Register, isUnder}
 use Rattle.meaning.specs.EventList.{EventType}
 use Rattle.tables.specs.Columns.{typesOf, eventOf, eventRow}
 use Rattle.register.specs.Tables.{objectsWith}
-use Rattle.trace.specs.Questions.{metUnder}
+use Rattle.trace_places.specs.Questions.{metUnder}
 use Rattle.event_marks.specs.Marks.{Added}
 use Rattle.occurring.specs.Counting.{counts, Counted}
 use Rattle.occurring.proofs.Types.{butNot}

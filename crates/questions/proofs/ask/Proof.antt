@@ -9,8 +9,8 @@ use denote.Ref.{now}
 use borrow.Author.Needs.{needs}
 use Rattle.meaning.specs.Reach.{Change}
 use Rattle.tables.specs.Columns.{typesOf, eventRow}
-use Rattle.trace.specs.Questions.{Question, questionOf, answersAt}
-use Rattle.trace.specs.Traces.{placeRow, thereWord, metWord, Traced}
+use Rattle.trace_places.specs.Questions.{Question, questionOf, answersAt}
+use Rattle.trace_places.specs.Traces.{placeRow, thereWord, metWord, Traced}
 use Rattle.questions.proofs.Asking.{leftOf, Walk, here, all-passed, goes-on, less-left, found, not-found}
 use Rattle.questions.proofs.ask.Statement.{statement}
 use Rattle.questions.proofs.ask.Tie as tie

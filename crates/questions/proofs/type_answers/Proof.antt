@@ -7,8 +7,8 @@ use lib.Dec.{eqb}
 use denote.Ref.{now}
 use Rattle.meaning.specs.Schema.{ObjectType}
 use Rattle.tables.specs.Columns.{typesOf, eventOf}
-use Rattle.trace.specs.Questions.{questionOf, answersAt}
-use Rattle.trace.proofs.Questions.{insert-answer, special-answer, general-answer}
+use Rattle.trace_places.specs.Questions.{questionOf, answersAt}
+use Rattle.trace_places.proofs.Questions.{insert-answer, special-answer, general-answer}
 use borrow.Author.Needs.{needs}
 use Rattle.questions.proofs.type_answers.Statement.{statement}
 use Rattle.questions.proofs.type_answers.Tie as tie

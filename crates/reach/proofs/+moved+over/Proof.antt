@@ -27,7 +27,7 @@ use Rattle.ocl.specs.Values.{membersOf}
 use Rattle.ocl.specs.Walks.{leftAt, Stands}
 use Rattle.ocl.proofs.Steps.{fewer-left}
 use Rattle.ocl.proofs.Variables.{one-more}
-use Rattle.trace.specs.Traces.{Traced, Traces}
+use Rattle.trace_places.specs.Traces.{Traced, Traces}
 use Rattle.reach.specs.Moves.{movedBy, movesAt, movesOver}
 use Rattle.reach.specs.Able.{Able, LeafAble, OverAble}
 use Rattle.reach.proofs.Abilities.{positive, whole, last-sound, op, sorts, coded, ready, leaf-able, deep, one-able, first-low, first-able, plain-able, over-able}

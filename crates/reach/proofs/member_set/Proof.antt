@@ -11,7 +11,7 @@ use Rattle.meaning.specs.Reach.{Change, cellMoves}
 use Rattle.ocl.specs.Site.{Site, siteOf}
 use Rattle.ocl.specs.Walks.{leftAt, Stands}
 use Rattle.ocl.proofs.Steps.{fewer-left}
-use Rattle.trace.specs.Traces.{Traced}
+use Rattle.trace_places.specs.Traces.{Traced}
 use Rattle.reach.proofs.Leaves.{asked-set}
 use Rattle.reach.proofs.Members.{Left, any-starts, any-ends, any-stops, any-goes-on}
 use Rattle.reach.proofs.member_set.Statement.{statement}

@@ -7,8 +7,8 @@ use native.Mathlib.Omega.{arith}
 use lib.ListN.{getD}
 use borrow.Author.Count.{below-more}
 use Rattle.tables.specs.Columns.{typesOf}
-use Rattle.trace.specs.Questions.{questionOf}
-use Rattle.trace.specs.Traces.{placeAnswers}
+use Rattle.trace_places.specs.Questions.{questionOf}
+use Rattle.trace_places.specs.Traces.{placeAnswers}
 use Rattle.row_sets.specs.Sets.{Grown}
 use Rattle.questions.proofs.Asking.{covers}
 use Rattle.row_sets.proofs.Growth.{grown-none, grown-then}

@@ -7,7 +7,7 @@ use denote.Ref.{now}
 use Rattle.meaning.specs.Reach.{up, down}
 use Rattle.directions.specs.Sets.{has}
 use Rattle.ocl.specs.Site.{idIn}
-use Rattle.trace.specs.Questions.{asked, questionOf}
+use Rattle.trace_places.specs.Questions.{asked, questionOf}
 use Rattle.row_sets.proofs.Tests.{one-true}
 use Rattle.row_sets.proofs.Growth.{grown-then}
 use borrow.Author.Needs.{needs}

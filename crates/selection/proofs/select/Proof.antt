@@ -7,7 +7,7 @@ use denote.Ref.{now}
 use lib.ListN.{length, take, length-replicate}
 use Rattle.meaning.specs.Reach.{Change}
 use Rattle.tables.specs.Columns.{schemaOf}
-use Rattle.trace.specs.Traces.{Traced}
+use Rattle.trace_places.specs.Traces.{Traced}
 use Rattle.bits.specs.Bits.{bitsIn}
 use Rattle.selection.specs.Selected.{ruleCodes}
 use Rattle.selection.proofs.Going.{Going, going-starts, next-low, next-room, going-on, codes-on, going-ends}

@@ -9,7 +9,7 @@ use lib.ListN.{length, take}
 use Rattle.meaning.specs.Reach.{Change, selected}
 use Rattle.tables.specs.Columns.{ruleRow}
 use Rattle.ocl.specs.Site.{idIn}
-use Rattle.trace.specs.Traces.{Traced}
+use Rattle.trace_places.specs.Traces.{Traced}
 use Rattle.selection.specs.Selected.{selectedRows}
 use Rattle.selection.specs.Ready.{TypedBy}
 use Rattle.selection.proofs.Chosen.{below, Choosing, one-taken, one-passed}

@@ -12,7 +12,7 @@ use Rattle.meaning.specs.Reach.{Change, inserted, specialised, broughtIn}
 use Rattle.rows.specs.Rows.{wordAt}
 use Rattle.tables.specs.Columns.{typesOf, objectRow, ruleRow}
 use Rattle.ocl.specs.Site.{siteOf, idIn}
-use Rattle.trace.specs.Traces.{Traced}
+use Rattle.trace_places.specs.Traces.{Traced}
 use Rattle.reach.specs.Moves.{movesAt}
 use Rattle.selection.proofs.Asked.{not-under, was-brought, body-moved}
 use borrow.Author.Needs.{needs}

@@ -1,0 +1,9 @@
+-- Laws of the places of a trace, and of what is kept of each event.
+--   Questions   questions at the places of an event, and by the words of its row
+--   Placing     the places of a batch in the trace that is made
+--   Naming      the ids that an event names, by its words
+--   Keeping     what is kept of each event
+pub mod Questions
+pub mod Placing
+pub mod Naming
+pub mod Keeping
