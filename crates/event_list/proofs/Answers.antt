@@ -29,7 +29,7 @@ use Rattle.body_rows.specs.Marks.{bodyOf}
 use Rattle.checks.specs.Given.{Given}
 use Rattle.checks.proofs.Given.{given, clear-none}
 use Rattle.checks.proofs.Stages.{first-assoc, first-none}
-use Rattle.event_marks.specs.Marks.{places, marked, Added}
+use Rattle.type_marks.specs.Marks.{places, marked, Added}
 use Rattle.event_marks.proofs.Bounds.{placed, book-placed}
 use Rattle.event_list.specs.Places.{markedBelow, placeWords}
 use Rattle.rows.specs.Rows.{inFront}

@@ -13,7 +13,7 @@ use Rattle.meaning.specs.Lists.{_∈_, before, sameList, Ascending, Before}
 use Rattle.meaning.specs.EventList.{EventType, eventTypeWords}
 use Rattle.meaning.proofs.Lists.{any-of, any-cases, ascending-append, ascending-map, ascending-unique}
 use Rattle.meaning.proofs.Order.{before-head, before-tail, before-irreflexive, before-transitive, same-list-refl, same-list-eq}
-use Rattle.event_marks.specs.Marks.{places, wordsAt, marked}
+use Rattle.type_marks.specs.Marks.{places, wordsAt, marked}
 use Rattle.event_marks.proofs.Bounds.{placed, placeOf, place-found}
 use Rattle.event_list.specs.Places.{markedBelow, placeWords}
 use Rattle.event_list.specs.Answers.{listWords}

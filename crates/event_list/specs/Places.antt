@@ -3,7 +3,7 @@ use Prim.Native.Nat.{ℕ, zero, suc}
 use mathlib.Core.Bool.{Bool, false, cond}
 use mathlib.Core.List.{List, [], _∷_, _++_, flatMap}
 use lib.ListN.{getD}
-use Rattle.event_marks.specs.Marks.{wordsAt}
+use Rattle.type_marks.specs.Marks.{wordsAt}
 
 -- the marked places below a place, in their order
 unfoldable pub markedBelow : List Bool → ℕ → List ℕ

@@ -21,7 +21,7 @@ use Rattle.meaning.proofs.Order.{put-from, fault-none}
 use Rattle.meaning.proofs.Schemas.{types-fit}
 use Rattle.meaning.proofs.Touched.{three-words}
 use Rattle.meaning.proofs.Agreement.{refusal-at-none}
-use Rattle.event_marks.specs.Marks.{places, wordsAt}
+use Rattle.type_marks.specs.Marks.{places, wordsAt}
 
 -- its three words are below 7, 32 and 8
 abbrev pub placed : EventType → Bool

@@ -22,9 +22,9 @@ use Rattle.directions.proofs.Passes.{first-passed, second-passed}
 use Rattle.body_rows.specs.Marks.{firstSort, secondSort}
 use Rattle.book.specs.Types.{memberOf}
 use Rattle.book.proofs.Types.{operatorHere, partsHere}
-use Rattle.event_marks.specs.Marks.{wordsAt, marked}
-use Rattle.event_marks.specs.Lists.{partLists, markedBy, partMarks, leafLists, sumMarks}
-use Rattle.event_marks.proofs.Marks.{none-listed}
+use Rattle.type_marks.specs.Marks.{wordsAt, marked}
+use Rattle.type_marks.specs.Lists.{partLists, markedBy, partMarks, leafLists, sumMarks}
+use Rattle.type_marks.proofs.Marks.{none-listed}
 
 module _ (place : ℕ) where
   abbrev hit : EventType → Bool

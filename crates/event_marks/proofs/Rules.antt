@@ -18,8 +18,8 @@ use Rattle.tables.specs.Columns.{ruleRow}
 use Rattle.tables.proofs.Readings.{is-truth}
 use Rattle.tables.proofs.Forms.{whole-body, body-ending}
 use Rattle.body_rows.specs.Marks.{bodyOf}
-use Rattle.event_marks.specs.Marks.{wordsAt, marked}
-use Rattle.event_marks.specs.Lists.{partLists, markedBy, partMarks, typeLists}
+use Rattle.type_marks.specs.Marks.{wordsAt, marked}
+use Rattle.type_marks.specs.Lists.{partLists, markedBy, partMarks, typeLists}
 use Rattle.event_marks.proofs.Nodes.{marked-append}
 
 -- ---- an order changes no mark

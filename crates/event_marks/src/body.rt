@@ -1,5 +1,4 @@
 // What the forms of a rule's body list.
-use crate::mark;
 use body_rows::body::COLLECTION;
 use body_rows::body::FIRST;
 use body_rows::body::NONE;
@@ -17,8 +16,8 @@ ghost use Rattle.meaning.specs.Forms.{collection};
 ghost use Rattle.tables.specs.Bodies.{reads, ending};
 ghost use Rattle.tables.specs.Columns.{relationshipsOf, schemaOf};
 ghost use Rattle.body_rows.specs.Marks.{bodyOf, Starts};
-ghost use Rattle.event_marks.specs.Marks.{places, Added};
-ghost use Rattle.event_marks.specs.Lists.{partMarks, sumMarks};
+ghost use Rattle.type_marks.specs.Marks.{places, Added};
+ghost use Rattle.type_marks.specs.Lists.{partMarks, sumMarks};
 
 const SUM: u32 = 17;
 
@@ -44,7 +43,7 @@ fn mark_sum(
         return;
     }
     let member = member_type(relationships, bodies, starts, at);
-    mark::put_cell(member, x, set, marks);
+    type_marks::put_cell(member, x, set, marks);
 }
 
 // Marks what moves a form in a direction of the set, by the types of its variables.
@@ -71,7 +70,7 @@ pub fn mark_form(
     let x = field(bodies, at.rule, row, 1);
     if shape(code, SECOND) == NONE {
         let y = field(bodies, at.rule, row, 2);
-        mark::put_leaf(at.types, types, env, at.depth, code, x, y, set, marks);
+        type_marks::put_leaf(at.types, types, env, at.depth, code, x, y, set, marks);
         return;
     }
     let mut second = at;

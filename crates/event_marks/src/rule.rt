@@ -1,11 +1,11 @@
 // The marks of a rule's event list.
 use crate::body::mark_form;
-use crate::mark::put_members;
 use body_rows::body::scan;
 use book::typing::Place;
 use directions::DOWN;
 use directions::UP;
 use quietness::quiet::quiet;
+use type_marks::put_members;
 ghost use mathlib.Core.Path.{_≡_};
 ghost use lib.Dec.{T};
 ghost use lib.ListN.{length};
@@ -14,7 +14,7 @@ ghost use Rattle.rows.specs.Rows.{wordAt};
 ghost use Rattle.tables.specs.Bodies.{wholeBody};
 ghost use Rattle.tables.specs.Columns.{ruleRow, schemaOf};
 ghost use Rattle.body_rows.specs.Marks.{bodyOf};
-ghost use Rattle.event_marks.specs.Marks.{places, marked, Added};
+ghost use Rattle.type_marks.specs.Marks.{places, marked, Added};
 
 // Marks what a rule of lent tables lists: what may turn its body false, and what brings an object into its context type. An insert
 // into it does so unless the body is quiet.

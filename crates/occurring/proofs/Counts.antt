@@ -18,7 +18,7 @@ use Rattle.trace_places.specs.Making.{ForTypes, deleteWords}
 use Rattle.trace_places.proofs.Questions.{type-words, whole-words}
 use Rattle.trace_types.proofs.Coming.{delete-words, delete-past}
 use Rattle.trace_types.proofs.Climbing.{no-truths}
-use Rattle.event_marks.specs.Marks.{wordsAt, Added}
+use Rattle.type_marks.specs.Marks.{wordsAt, Added}
 use Rattle.occurring.specs.Counting.{counts, readKind, Counted}
 use Rattle.occurring.proofs.Types.{butNot}
 

@@ -8,8 +8,8 @@ use lib.Dec.{ltb, eqb}
 use lib.ListN.{getD}
 use borrow.Author.Tests.{lt-ltb, le-ltb, eqb-true, eqb-false, ltb-true, ltb-false}
 use Rattle.meaning.specs.Lists.{sameList}
-use Rattle.event_marks.specs.Marks.{wordsAt, Added}
-use Rattle.event_marks.proofs.Marks.{added-none, added-then, added-as}
+use Rattle.type_marks.specs.Marks.{wordsAt, Added}
+use Rattle.type_marks.proofs.Marks.{added-none, added-then, added-as}
 
 -- a type is one of the first and none of the second
 abbrev pub butNot : List Bool → List Bool → ℕ → Bool

@@ -12,7 +12,7 @@ use Rattle.meaning.specs.Reach.{inserts, deletes, sets, joins, parts, specials,
 use Rattle.meaning.specs.EventList.{EventType, insertOf, deleteOf, setOf, joinOf, partOf, specialOf, generalOf, eventTypeWords}
 use Rattle.trace_places.specs.Questions.{metUnder}
 use Rattle.trace_places.specs.Making.{deleteWords}
-use Rattle.event_marks.specs.Marks.{places, wordsAt}
+use Rattle.type_marks.specs.Marks.{places, wordsAt}
 
 -- "An insert, delete, special or general counts for every type it brings the object into or out of; a set counts for every type its
 -- object is under at the end, with its cell; a join or part for its relationship." By the register at the end, and the type that the event met.

@@ -1,10 +1,10 @@
 // The event types that occur in a batch that was run: a mark for each, at its place among those of `event_marks`.
-use event_marks::mark::put;
 use tables::Counts;
 use trace_types::moves::is_delete;
 use trace_types::types::above;
 use trace_types::types::end_above;
 use trace_types::types::met_above;
+use type_marks::put;
 ghost use mathlib.Core.Path.{_≡_};
 ghost use mathlib.Core.Bool.{false, _&&_, not};
 ghost use mathlib.Core.List.{List};
@@ -18,7 +18,7 @@ ghost use Rattle.meaning.specs.EventList.{occurs};
 ghost use Rattle.tables.specs.Columns.{typesOf, eventRow};
 ghost use Rattle.register.specs.Tables.{ObjectsAscend, objectsWith};
 ghost use Rattle.trace_places.specs.Traces.{Seen};
-ghost use Rattle.event_marks.specs.Marks.{places, Added};
+ghost use Rattle.type_marks.specs.Marks.{places, Added};
 ghost use Rattle.occurring.specs.Counting.{counts, readKind, Counted};
 
 // The kinds of events, by their places in document 01's order.

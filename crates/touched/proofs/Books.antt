@@ -15,7 +15,7 @@ use Rattle.tables.specs.Columns.{typeRow, relationshipRow, ruleRow, bookOf, reg
 use Rattle.tables.specs.declared.Counts.{Counts}
 use Rattle.schema.proofs.Rows.{length-rows, row-there}
 use Rattle.checks.specs.Given.{Given}
-use Rattle.event_marks.specs.Marks.{places, marked, Added}
+use Rattle.type_marks.specs.Marks.{places, marked, Added}
 use Rattle.event_marks.proofs.Bounds.{book-placed}
 use Rattle.touched.specs.Shared.{sharedBelow, Occurring}
 use Rattle.touched.specs.Books.{lentBook, BookGiven}

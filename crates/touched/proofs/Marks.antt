@@ -18,7 +18,7 @@ use Rattle.meaning.specs.Reach.{Change}
 use Rattle.meaning.specs.EventList.{EventType, eventTypeWords, eventList, occurs, touched}
 use Rattle.meaning.proofs.Lists.{any-of, any-cases}
 use Rattle.meaning.proofs.Order.{same-list-refl, same-list-eq}
-use Rattle.event_marks.specs.Marks.{places, wordsAt, marked}
+use Rattle.type_marks.specs.Marks.{places, wordsAt, marked}
 use Rattle.event_marks.proofs.Bounds.{placed, placeOf, place-found}
 use Rattle.touched.specs.Shared.{sharedBelow, Occurring}
 

@@ -6,7 +6,7 @@ use mathlib.Core.List.{List}
 use lib.ListN.{getD}
 use Rattle.meaning.specs.Reach.{Change}
 use Rattle.meaning.specs.EventList.{EventType, eventTypeWords, occurs}
-use Rattle.event_marks.specs.Marks.{places, wordsAt}
+use Rattle.type_marks.specs.Marks.{places, wordsAt}
 
 -- some place below the end is marked in both
 unfoldable pub sharedBelow : List Bool → List Bool → ℕ → Bool

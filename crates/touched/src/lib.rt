@@ -8,7 +8,7 @@ ghost use Rattle.meaning.specs.Reach.{Change};
 ghost use Rattle.meaning.specs.EventList.{touched};
 ghost use Rattle.rows.specs.Rows.{readRows};
 ghost use Rattle.tables.specs.Columns.{ruleRow, schemaOf};
-ghost use Rattle.event_marks.specs.Marks.{places};
+ghost use Rattle.type_marks.specs.Marks.{places};
 ghost use Rattle.bits.specs.Bits.{bitsIn};
 ghost use Rattle.touched.specs.Shared.{sharedBelow, Occurring};
 ghost use Rattle.touched.specs.Books.{BookGiven};

@@ -14,7 +14,7 @@ use Rattle.meaning.specs.EventList.{EventType}
 use Rattle.tables.specs.Columns.{typesOf, eventOf, eventRow}
 use Rattle.register.specs.Tables.{objectsWith}
 use Rattle.trace_places.specs.Questions.{metUnder}
-use Rattle.event_marks.specs.Marks.{Added}
+use Rattle.type_marks.specs.Marks.{Added}
 use Rattle.occurring.specs.Counting.{counts, Counted}
 use Rattle.occurring.proofs.Types.{butNot}
 use Rattle.occurring.proofs.Counts.{kindCounts, rowCounts, counted-kind, counts-row, counted-as, cell-new, link-new, types-new, all-new}

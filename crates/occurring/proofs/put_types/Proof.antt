@@ -6,7 +6,7 @@ use native.Mathlib.Omega.{arith}
 use denote.Ref.{now}
 use borrow.Author.Needs.{needs}
 use Rattle.meaning.specs.Limits.{maxTypes}
-use Rattle.event_marks.specs.Marks.{Added}
+use Rattle.type_marks.specs.Marks.{Added}
 use Rattle.occurring.proofs.Types.{butNot, markedTo, types-none, types-more, types-all}
 use Rattle.occurring.proofs.put_types.Statement.{statement}
 use Rattle.occurring.proofs.put_types.Tie as tie

@@ -5,7 +5,7 @@ use mathlib.Core.Logic.{⊎-elim}
 use mathlib.Core.Bool.{false, _&&_, and-false}
 use native.Mathlib.Omega.{arith}
 use lib.ListN.{getD}
-use Rattle.event_marks.specs.Marks.{places}
+use Rattle.type_marks.specs.Marks.{places}
 use Rattle.touched.specs.Shared.{sharedBelow}
 use Rattle.touched.proofs.Marks.{shared-none, shared-next, shared-at}
 use Rattle.touched.proofs.shared.Statement.{statement}

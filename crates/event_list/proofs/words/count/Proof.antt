@@ -5,7 +5,7 @@ use mathlib.Core.Logic.{⊎-elim}
 use mathlib.Core.List.{[], _∷_}
 use native.Mathlib.Omega.{arith}
 use lib.ListN.{length, length-append}
-use Rattle.event_marks.specs.Marks.{places}
+use Rattle.type_marks.specs.Marks.{places}
 use Rattle.event_list.specs.Places.{markedBelow}
 use Rattle.event_list.proofs.Places.{below-marked, below-unmarked, below-few}
 use Rattle.event_list.proofs.words.count.Statement.{statement}

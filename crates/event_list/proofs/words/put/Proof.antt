@@ -6,7 +6,7 @@ use native.Mathlib.Omega.{arith}
 use lib.ListN.{set, length-set}
 use lib.Seq.{sets-eq}
 use borrow.Author.Needs.{needs}
-use Rattle.event_marks.specs.Marks.{wordsAt}
+use Rattle.type_marks.specs.Marks.{wordsAt}
 use Rattle.event_list.proofs.words.put.Statement.{statement}
 use Rattle.event_list.proofs.words.put.Tie as tie
 

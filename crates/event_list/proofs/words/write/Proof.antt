@@ -4,7 +4,7 @@ use mathlib.Core.Path.{_≡_, ap, _∙_}
 use mathlib.Core.Logic.{⊎-elim}
 use native.Mathlib.Omega.{arith}
 use lib.ListN.{length}
-use Rattle.event_marks.specs.Marks.{places}
+use Rattle.type_marks.specs.Marks.{places}
 use Rattle.event_list.specs.Places.{markedBelow, placeWords}
 use Rattle.rows.specs.Rows.{inFront}
 use Rattle.event_list.proofs.Places.{Written, written-none, written-marked, written-unmarked, room}

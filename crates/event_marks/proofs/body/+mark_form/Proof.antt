@@ -22,9 +22,9 @@ use Rattle.body_rows.specs.Marks.{bodyOf, firstSort, secondSort, Starts}
 use Rattle.book.specs.Types.{memberOf}
 use Rattle.body_rows.proofs.Kept.{starts-less}
 use Rattle.book.proofs.Types.{lent, operatorHere, partsHere, coded-here, code-here, second-here, first-here, binds-here, sums-here, bind-take}
-use Rattle.event_marks.specs.Marks.{places, Added}
-use Rattle.event_marks.specs.Lists.{markedBy, partMarks, leafLists, sumMarks}
-use Rattle.event_marks.proofs.Marks.{added-as, added-then}
+use Rattle.type_marks.specs.Marks.{places, Added}
+use Rattle.type_marks.specs.Lists.{markedBy, partMarks, leafLists, sumMarks}
+use Rattle.type_marks.proofs.Marks.{added-as, added-then}
 use Rattle.event_marks.proofs.Nodes.{passTo, inner, leaf-here, one-here, two-here}
 use Rattle.event_marks.proofs.body.mark_form.Reads as mark-form
 use Rattle.event_marks.proofs.body.mark_form.Kinds as mark-form-kinds
@@ -33,7 +33,7 @@ use Rattle.body_rows.proofs.body.field.Reads as field-reads
 use Rattle.body_rows.proofs.body.shape.Reads as shape-reads
 use Rattle.book.proofs.typing.member_type.Reads as member-type-reads
 use Rattle.directions.proofs.pass.Reads as pass-reads
-use Rattle.event_marks.proofs.mark.put_leaf.Reads as put-leaf-reads
+use Rattle.type_marks.proofs.put_leaf.Reads as put-leaf-reads
 use Rattle.event_marks.proofs.body.mark_sum.Reads as mark-sum-reads
 use Rattle.event_marks.proofs.body.+mark_form.{statement}
 use Rattle.event_marks.proofs.body.+mark_form.Tie.{close}

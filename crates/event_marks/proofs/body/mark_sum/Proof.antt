@@ -5,8 +5,8 @@ use native.Mathlib.Omega.{arith}
 use borrow.Author.Needs.{needs}
 use borrow.Author.Tests.{eq-eqb, ne-eqb}
 use Rattle.meaning.specs.EventList.{setOf}
-use Rattle.event_marks.specs.Lists.{markedBy}
-use Rattle.event_marks.proofs.Marks.{added-none, added-as}
+use Rattle.type_marks.specs.Lists.{markedBy}
+use Rattle.type_marks.proofs.Marks.{added-none, added-as}
 use Rattle.event_marks.proofs.body.mark_sum.Statement.{statement}
 use Rattle.event_marks.proofs.body.mark_sum.Tie as tie
 

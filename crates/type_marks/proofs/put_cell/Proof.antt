@@ -1,10 +1,10 @@
--- `event_marks::mark::put_cell` meets its contract.
+-- `type_marks::put_cell` meets its contract.
 use native.Mathlib.Omega.{arith}
 use Rattle.meaning.specs.EventList.{eventTypeWords}
-use Rattle.event_marks.proofs.Marks.{wordsMarked, any-way, added-as}
+use Rattle.type_marks.proofs.Marks.{wordsMarked, any-way, added-as}
 use borrow.Author.Needs.{needs}
-use Rattle.event_marks.proofs.mark.put_cell.Statement.{statement}
-use Rattle.event_marks.proofs.mark.put_cell.Tie as tie
+use Rattle.type_marks.proofs.put_cell.Statement.{statement}
+use Rattle.type_marks.proofs.put_cell.Tie as tie
 
 put-requires : tie.Need-put-requires
 put-requires c κs = search needs

@@ -1,4 +1,4 @@
--- `event_marks::mark::put_leaf` meets its contract.
+-- `type_marks::put_leaf` meets its contract.
 use mathlib.Core.Path.{ap}
 use mathlib.Core.Bool.{true, false}
 use mathlib.Core.List.{List, [], _∷_}
@@ -10,11 +10,11 @@ use Rattle.meaning.specs.Schema.{Relationship, Schema}
 use Rattle.meaning.specs.Reach.{Direction}
 use Rattle.meaning.specs.EventList.{EventType, setOf, roleLists}
 use Rattle.tables.specs.Columns.{typesOf}
-use Rattle.event_marks.specs.Lists.{typeLists, leafLists}
-use Rattle.event_marks.proofs.Marks.{none-listed, added-none, added-as, added-lists}
+use Rattle.type_marks.specs.Lists.{typeLists, leafLists}
+use Rattle.type_marks.proofs.Marks.{none-listed, added-none, added-as, added-lists}
 use borrow.Author.Needs.{needs}
-use Rattle.event_marks.proofs.mark.put_leaf.Statement.{statement}
-use Rattle.event_marks.proofs.mark.put_leaf.Tie as tie
+use Rattle.type_marks.proofs.put_leaf.Statement.{statement}
+use Rattle.type_marks.proofs.put_leaf.Tie as tie
 
 abbrev schemaHere : tie.Start → List Relationship → Schema
 schemaHere s rs = record { types = typesOf (s .args .type-count) (now (s .args .types)); relationships = rs }

@@ -1,4 +1,4 @@
--- A rule's event list as the code has it.
+-- Event types as marks.
 --   Marks      a mark for each event type, in document 01's order
 --   Lists      what a form lists, by a set of directions
 pub mod Marks

@@ -1,13 +1,13 @@
--- `event_marks::mark::put` meets its contract.
+-- `type_marks::put` meets its contract.
 use mathlib.Core.Path.{sym, ap, _∙_}
 use mathlib.Core.Bool.{_&&_, and-false}
 use native.Mathlib.Omega.{arith}
 use denote.Ref.{now}
 use borrow.Author.Needs.{needs}
 use borrow.Author.Tests.{not-true, not-false}
-use Rattle.event_marks.proofs.Marks.{added-none, added-as, added-one, named-high, named-deep}
-use Rattle.event_marks.proofs.mark.put.Statement.{statement}
-use Rattle.event_marks.proofs.mark.put.Tie as tie
+use Rattle.type_marks.proofs.Marks.{added-none, added-as, added-one, named-high, named-deep}
+use Rattle.type_marks.proofs.put.Statement.{statement}
+use Rattle.type_marks.proofs.put.Tie as tie
 
 returns : tie.Need-returns
 returns c = added-as (added-none _) (λ place h. rw (not-true (c .before .args .listed) (c .if1 .taken)))

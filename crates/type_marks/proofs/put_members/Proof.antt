@@ -1,12 +1,12 @@
--- `event_marks::mark::put_members` meets its contract.
+-- `type_marks::put_members` meets its contract.
 use Rattle.meaning.specs.Schema.{Schema}
 use denote.Ref.{now}
 use Rattle.tables.specs.Columns.{typesOf}
-use Rattle.event_marks.specs.Lists.{typeLists}
-use Rattle.event_marks.proofs.Marks.{added-set, type-up, type-down}
+use Rattle.type_marks.specs.Lists.{typeLists}
+use Rattle.type_marks.proofs.Marks.{added-set, type-up, type-down}
 use borrow.Author.Needs.{needs}
-use Rattle.event_marks.proofs.mark.put_members.Statement.{statement}
-use Rattle.event_marks.proofs.mark.put_members.Tie as tie
+use Rattle.type_marks.proofs.put_members.Statement.{statement}
+use Rattle.type_marks.proofs.put_members.Tie as tie
 
 has-parent-requires : tie.Need-has-parent-requires
 has-parent-requires c κs = search needs

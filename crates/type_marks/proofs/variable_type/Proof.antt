@@ -1,12 +1,12 @@
--- `event_marks::mark::variable_type` meets its contract.
+-- `type_marks::variable_type` meets its contract.
 use mathlib.Core.Path.{sym}
 use native.Mathlib.Omega.{arith}
 use lib.ListN.{take, List·getD-eq-default}
 use lib.Seq.{length-take-le, getD-take}
 use denote.Ref.{now}
 use borrow.Author.Needs.{needs}
-use Rattle.event_marks.proofs.mark.variable_type.Statement.{statement}
-use Rattle.event_marks.proofs.mark.variable_type.Tie as tie
+use Rattle.type_marks.proofs.variable_type.Statement.{statement}
+use Rattle.type_marks.proofs.variable_type.Tie as tie
 
 returns : tie.Need-returns
 returns c =

@@ -12,8 +12,8 @@ ghost use Rattle.meaning.specs.Schema.{Relationship};
 ghost use Rattle.meaning.specs.Forms.{variable};
 ghost use Rattle.meaning.specs.EventList.{setOf, roleLists};
 ghost use Rattle.tables.specs.Columns.{typesOf};
-ghost use Rattle.event_marks.specs.Marks.{places, wordsAt, Added};
-ghost use Rattle.event_marks.specs.Lists.{markedBy, typeLists, leafLists};
+ghost use Rattle.type_marks.specs.Marks.{places, wordsAt, Added};
+ghost use Rattle.type_marks.specs.Lists.{markedBy, typeLists, leafLists};
 
 // The kinds of events, by their places in document 01's order.
 const INSERT: u32 = 0;

@@ -1,12 +1,12 @@
--- `event_marks::mark::put_role` meets its contract.
+-- `type_marks::put_role` meets its contract.
 use Prim.Native.Nat.{_/_}
 use mathlib.Core.Path.{sym}
 use mathlib.Core.Bool.{or-false}
 use Rattle.meaning.specs.EventList.{eventTypeWords, roleLists}
-use Rattle.event_marks.proofs.Marks.{wordsMarked, added-set}
+use Rattle.type_marks.proofs.Marks.{wordsMarked, added-set}
 use borrow.Author.Needs.{needs}
-use Rattle.event_marks.proofs.mark.put_role.Statement.{statement}
-use Rattle.event_marks.proofs.mark.put_role.Tie as tie
+use Rattle.type_marks.proofs.put_role.Statement.{statement}
+use Rattle.type_marks.proofs.put_role.Tie as tie
 
 contains-requires : tie.Need-contains-requires
 contains-requires c κs = search needs

@@ -10,7 +10,7 @@ use Rattle.meaning.specs.EventList.{EventType, setOf, roleLists, allLists, kind
 use Rattle.tables.specs.Bodies.{Part, part}
 use Rattle.directions.specs.Sets.{someOf}
 use Rattle.book.specs.Types.{memberOf}
-use Rattle.event_marks.specs.Marks.{marked}
+use Rattle.type_marks.specs.Marks.{marked}
 
 -- of a form of any sort
 unfoldable pub partLists : Schema → Part → List ℕ → Direction → List EventType

@@ -1,8 +1,8 @@
--- `event_marks::mark::put_type` meets its contract.
-use Rattle.event_marks.proofs.Marks.{wordsMarked, added-both}
+-- `type_marks::put_type` meets its contract.
+use Rattle.type_marks.proofs.Marks.{wordsMarked, added-both}
 use borrow.Author.Needs.{needs}
-use Rattle.event_marks.proofs.mark.put_type.Statement.{statement}
-use Rattle.event_marks.proofs.mark.put_type.Tie as tie
+use Rattle.type_marks.proofs.put_type.Statement.{statement}
+use Rattle.type_marks.proofs.put_type.Tie as tie
 
 both-requires : tie.Need-both-requires
 both-requires c κs = search needs

@@ -14,8 +14,8 @@ use Rattle.meaning.specs.Schema.{Schema, hasParent}
 use Rattle.meaning.specs.Reach.{Direction, up, down}
 use Rattle.meaning.specs.EventList.{EventType, specialOf, generalOf, eventTypeWords, whereParent, allLists, kindLists}
 use Rattle.directions.specs.Sets.{has, someOf}
-use Rattle.event_marks.specs.Marks.{places, wordsAt, marked, Added}
-use Rattle.event_marks.specs.Lists.{markedBy, typeLists}
+use Rattle.type_marks.specs.Marks.{places, wordsAt, marked, Added}
+use Rattle.type_marks.specs.Lists.{markedBy, typeLists}
 
 pub added-none : (before : List Bool) → Added before before (λ place. false)
 added-none before = record { long = refl; each = λ place h. sym (or-false (getD before place false)) }

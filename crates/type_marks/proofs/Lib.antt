@@ -1,0 +1,3 @@
+-- Laws of marks.
+--   Marks      marks added to marks
+pub mod Marks
