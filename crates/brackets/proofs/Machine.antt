@@ -18,7 +18,7 @@ use Rattle.text.specs.Bodies.{Written, leaf, over, both, Need, needOf, need, fo
 use Rattle.text.specs.Entries.{rule, onlyEnd, bodyIn}
 use Rattle.text.proofs.Bodies.{form-spelled}
 use Rattle.brackets.specs.declared.BodyFound.{BodyFound}
-use Rattle.brackets.specs.Brackets.{bodyHeld, bodyAt}
+use Rattle.brackets.specs.Steps.{bodyHeld, bodyAt}
 use Rattle.brackets.specs.Steps.{noForm, lackOf, openedBy, filledBy, closedBy, noBody}
 
 unfoldable pub run : List Token → List ℕ → ℕ → BodyFound

@@ -14,12 +14,13 @@ use lib.Seq.{drop-cons, getD-set-same, getD-set-other}
 use Rattle.text.specs.Tokens.{Token, begin, item, end, tokenIn, tokensIn}
 use Rattle.text.specs.Texts.{maxText}
 use Rattle.text.proofs.Tokens.{tokens-none}
-use Rattle.brackets.specs.declared.Found.{Found}
-use Rattle.brackets.specs.declared.Found.the-variants.{Begin, Item, End, Bad}
+use Rattle.tokens.specs.declared.Found.{Found}
+use Rattle.tokens.specs.declared.Found.the-variants.{Begin, Item, End, Bad}
 use Rattle.brackets.specs.declared.BodyFound.{BodyFound}
-use Rattle.brackets.specs.Brackets.{foundAt, bodyAt}
+use Rattle.tokens.specs.Tokens.{foundAt}
+use Rattle.brackets.specs.Steps.{bodyAt}
 use Rattle.brackets.specs.Steps.{noForm, openedBy, filledBy, closedBy, lackingAfter, noBody, endedAt}
-use Rattle.brackets.proofs.Tokens.{Stands, found-stands, found-bad, tokens-more}
+use Rattle.tokens.proofs.Tokens.{Stands, found-stands, found-bad, tokens-more}
 use Rattle.brackets.proofs.Machine.{run, runOn, body-run, open-not}
 
 abbrev pub room : ℕ

@@ -21,11 +21,11 @@ use Rattle.text.specs.Bodies.{Written, leaf, over, both, meets, wellWritten, fo
 use Rattle.text.specs.Entries.{rule, onlyEnd, bodyIn}
 use Rattle.text.proofs.Bodies.{meets-need, well-both, form-spelled, rows-length}
 use Rattle.text.proofs.Entries.{end-is, rule-if}
-use Rattle.brackets.specs.declared.Found.the-variants.{Bad}
-use Rattle.brackets.specs.Brackets.{foundAt}
+use Rattle.tokens.specs.declared.Found.the-variants.{Bad}
+use Rattle.tokens.specs.Tokens.{foundAt}
 use Rattle.tables.specs.Layouts.{bodyWords}
 use Rattle.brackets.specs.Whole.{WholeBody, rowsPut}
-use Rattle.brackets.proofs.Tokens.{Stands, found-bad}
+use Rattle.tokens.proofs.Tokens.{Stands, found-bad}
 use Rattle.brackets.proofs.Machine.{need-few}
 use Rattle.brackets.proofs.Stack.{under, under-put, under-got}
 

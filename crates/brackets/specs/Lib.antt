@@ -1,4 +1,5 @@
--- What the functions over a line's bytes answer, by the definitions of the text.
-pub mod Brackets
+-- What the functions over a rule's body answer, by the definitions of the text.
+--   Steps    what an open form lacks, and a body
+--   Whole    the rows of a body
 pub mod Steps
 pub mod Whole

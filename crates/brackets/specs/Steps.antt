@@ -1,19 +1,15 @@
--- What the parts of the reader answer.
+-- A body by its tokens: what an open form lacks, and what is found of the whole.
 use Prim.Native.Nat.{ℕ, zero, suc, _+_, _*_}
 use mathlib.Core.Bool.{true, false, cond}
 use mathlib.Core.List.{List, [], _∷_}
-use mathlib.Core.Option.{Option, none, some}
+use mathlib.Core.Option.{Option, none, some, bind}
 use lib.Dec.{leb}
-use Rattle.text.specs.Tokens.{isWord}
-use Rattle.text.specs.Bodies.{Need, needNamed}
-use Rattle.brackets.specs.declared.Found.{Found}
-use Rattle.brackets.specs.declared.Found.the-variants.{Begin, Item, End, Bad}
+use Rattle.text.specs.Tokens.{isWord, tokensIn}
+use Rattle.text.specs.Bodies.{Need, needNamed, formsIn}
+use Rattle.text.specs.Entries.{Entry, row, rule, bodyIn}
+use Rattle.tokens.specs.declared.Found.{Found}
+use Rattle.tokens.specs.declared.Found.the-variants.{Begin, Item, End, Bad}
 use Rattle.brackets.specs.declared.BodyFound.{BodyFound}
-
--- bytes as one number: the digits at base 256, the first the least
-unfoldable pub packed : List ℕ → ℕ
-packed [] = 0
-packed (b ∷ l) = b + 256 * packed l
 
 -- ---- an open form, by what it lacks: four times how many parts, and how many fields
 
@@ -55,3 +51,12 @@ noBody = record { good = false; forms = 0 }
 abbrev pub endedAt : List ℕ → ℕ → BodyFound
 endedAt [] forms = record { good = true; forms = forms }
 endedAt (b ∷ l) forms = noBody
+
+-- how many forms the body of a rule has, from its place to the end of the line
+unfoldable pub bodyHeld : Option Entry → BodyFound
+bodyHeld none = record { good = false; forms = 0 }
+bodyHeld (some (row s words)) = record { good = false; forms = 0 }
+bodyHeld (some (rule t body)) = record { good = true; forms = formsIn body }
+
+unfoldable pub bodyAt : List ℕ → BodyFound
+bodyAt l = bodyHeld (bind (tokensIn l) (bodyIn 0))

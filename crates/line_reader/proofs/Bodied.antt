@@ -13,7 +13,7 @@ use Rattle.text.specs.Names.{ruleName, typeName, relationshipName, objectName, 
 use Rattle.text.specs.Tokens.{Token, begin, item, end, isWord, Bracket, tokenIn, tokensIn, bracketIn}
 use Rattle.text.specs.Bodies.{Written, formsIn, padded, Formed, formIn}
 use Rattle.text.specs.Entries.{Entry, row, rule, sectionOf, countOf, lastSection, itemsIn, rowIf, eventSection, parentWord, isTypeLine, isRelationshipLine, isObjectLine, isLinkLine, isEventLine, typeIn, relationshipIn, objectIn, linkIn, eventIn, rowIn, onlyEnd, bodyIn, ruleIn, insideIn, inOrder, entryIn}
-use Rattle.brackets.specs.Brackets.{foundAt}
+use Rattle.tokens.specs.Tokens.{foundAt}
 use Rattle.brackets.specs.Whole.{WholeBody}
 use Rattle.line_reader.specs.declared.line.ItemAt.{ItemAt}
 use Rattle.line_reader.specs.Rows.{noRow, rowHeld, itemOf, bodyPlace}

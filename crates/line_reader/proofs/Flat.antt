@@ -16,8 +16,8 @@ use Rattle.text.specs.Tokens.{dash, isWord}
 use Rattle.text.specs.Bodies.{padded}
 use Rattle.text.specs.Entries.{Entry, sectionOf, entryWords, countOf, cellsIn, eventSection, parentWord, eventFields, rowIf, isTypeLine, typeIn, isRelationshipLine, relationshipIn, isObjectLine, objectIn, isLinkLine, linkIn, isEventLine, eventIn, rowIn}
 use Rattle.text.proofs.Entries.{fields-few}
-use Rattle.brackets.specs.Brackets.{maxItems, noItems, itemsHeld}
-use Rattle.brackets.specs.declared.ItemsFound.{ItemsFound}
+use Rattle.tokens.specs.Tokens.{maxItems, noItems, itemsHeld}
+use Rattle.tokens.specs.declared.ItemsFound.{ItemsFound}
 use Rattle.line_reader.specs.declared.line.Row.{Row}
 use Rattle.line_reader.specs.Rows.{noRow, rowHeld, valueAt, rowWhen, typeHeld, relationshipHeld, objectHeld, linkHeld, eventHeld, flatHeld, Follows}
 

@@ -16,7 +16,8 @@ use Rattle.text.specs.Bodies.{formsIn, Formed, formIn}
 use Rattle.text.specs.Entries.{Entry, rule, sectionOf, entryWords, countOf, lastSection, itemsIn, rowIn, onlyEnd, bodyIn, ruleIn, insideIn, inOrder}
 use Rattle.text.proofs.Names.{name-found}
 use Rattle.text.proofs.Tokens.{tokens-none, tokens-step}
-use Rattle.brackets.specs.Brackets.{placeOr, tokenAt, foundAt, itemsAt, bodyHeld, bodyAt}
+use Rattle.tokens.specs.Tokens.{placeOr, tokenAt, foundAt, itemsAt}
+use Rattle.brackets.specs.Steps.{bodyHeld, bodyAt}
 use Rattle.brackets.specs.declared.BodyFound.{BodyFound}
 use Rattle.line_reader.specs.declared.line.ItemAt.{ItemAt}
 use Rattle.line_reader.specs.declared.line.Row.{Row}

@@ -14,7 +14,7 @@ use Rattle.text.specs.Names.{typeName, relationshipName, objectName, linkName}
 use Rattle.text.specs.Tokens.{dash, isWord}
 use Rattle.text.specs.Bodies.{padded}
 use Rattle.text.specs.Entries.{eventSection, parentWord, eventFields}
-use Rattle.brackets.specs.declared.ItemsFound.{ItemsFound}
+use Rattle.tokens.specs.declared.ItemsFound.{ItemsFound}
 use Rattle.line_reader.specs.declared.line.Row.{Row}
 use Rattle.line_reader.specs.Rows.{noRow, rowWith, valueAt, rowWhen, typeHeld, relationshipHeld, objectHeld, linkHeld, eventHeld}
 

@@ -12,10 +12,10 @@ use Rattle.text.specs.Names.{lettersIn, typeName, relationshipName, ruleName, o
 use Rattle.text.specs.Tokens.{dash, isWord, tokenIn}
 use Rattle.text.specs.Bodies.{padded}
 use Rattle.text.specs.Entries.{Entry, sectionOf, entryWords, countOf, cellsIn, lastSection, eventSection, parentWord, eventFields}
-use Rattle.brackets.specs.Brackets.{foundAt}
-use Rattle.brackets.specs.declared.Found.{Found}
-use Rattle.brackets.specs.declared.Found.the-variants.{Begin, Item, End, Bad}
-use Rattle.brackets.specs.declared.ItemsFound.{ItemsFound}
+use Rattle.tokens.specs.Tokens.{foundAt}
+use Rattle.tokens.specs.declared.Found.{Found}
+use Rattle.tokens.specs.declared.Found.the-variants.{Begin, Item, End, Bad}
+use Rattle.tokens.specs.declared.ItemsFound.{ItemsFound}
 use Rattle.line_reader.specs.declared.line.ItemAt.{ItemAt}
 use Rattle.line_reader.specs.declared.line.Row.{Row}
 

@@ -1,6 +1,6 @@
 // One line of the text as a row of a table.
-use brackets::Found;
-use brackets::ItemsFound;
+use tokens::Found;
+use tokens::ItemsFound;
 ghost use mathlib.Core.Path.{_≡_};
 ghost use mathlib.Core.Bool.{true, _&&_, _||_, cond};
 ghost use mathlib.Core.List.{List};
@@ -13,7 +13,7 @@ ghost use Rattle.text.specs.Tokens.{dash, isWord, tokenIn, tokensIn, bracketIn}
 ghost use Rattle.text.specs.Names.{ruleName};
 ghost use Rattle.text.specs.Texts.{maxText};
 ghost use Rattle.text.specs.Entries.{Entry, countOf, lastSection, parentWord, eventFields, ruleIn, insideIn, inOrder, entryIn};
-ghost use Rattle.brackets.specs.Brackets.{foundAt};
+ghost use Rattle.tokens.specs.Tokens.{foundAt};
 ghost use Rattle.line_reader.specs.Rows.{noRow, rowHeld, Follows, itemOf, bodyPlace, typeHeld, relationshipHeld, objectHeld, linkHeld, eventHeld, flatHeld};
 
 // A row: its section, 6 where the line says none, and its words, zeros after them.
@@ -228,7 +228,7 @@ fn item_at(line: &[u8], at: usize) -> ItemAt
         value: 0,
         next: 0,
     };
-    match brackets::token(line, at) {
+    match tokens::token(line, at) {
         Found::Item { value, next } => ItemAt {
             good: true,
             value,
@@ -273,7 +273,7 @@ fn inside_row(line: &[u8], types: u32, relationships: u32, rules: u32, cells: &[
     if line[0] != 40 {
         return no_row();
     }
-    let name = brackets::name(line, 1);
+    let name = tokens::name(line, 1);
     let place = name.place;
     if place == 35 {
         return no_row();
@@ -281,7 +281,7 @@ fn inside_row(line: &[u8], types: u32, relationships: u32, rules: u32, cells: &[
     if place == 2 {
         return rule_row(line, name.end, rules);
     }
-    let items = brackets::items(line, name.end);
+    let items = tokens::items(line, name.end);
     flat_row(items, place, types, relationships, cells)
 }
 
@@ -315,7 +315,7 @@ pub fn read_line(
 pub fn body_place(line: &[u8]) -> usize
     ensures { λ r. ⌜ r ≡ bodyPlace (now (line .entry)) ⌝ }
 {
-    let name = brackets::name(line, 1);
+    let name = tokens::name(line, 1);
     let number = item_at(line, name.end);
     let context = item_at(line, number.next);
     context.next

@@ -4,9 +4,9 @@ use mathlib.Core.Path.{refl, sym, ap, _∙_}
 use native.Mathlib.Omega.{arith}
 use borrow.Author.Needs.{needs}
 use lib.ListN.{length, drop}
-use Rattle.brackets.specs.Brackets.{bodyAt}
+use Rattle.brackets.specs.Steps.{bodyAt}
 use Rattle.brackets.specs.Steps.{lackingAfter}
-use Rattle.brackets.proofs.Tokens.{found-stands}
+use Rattle.tokens.proofs.Tokens.{found-stands}
 use Rattle.brackets.proofs.Stack.{opened-lacks, Running, running-first, begin-room, running-refused, running-begin, running-item, running-end, running-done}
 use Rattle.brackets.proofs.body.Statement.{statement}
 use Rattle.brackets.proofs.body.Tie as tie

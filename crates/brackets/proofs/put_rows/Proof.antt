@@ -6,7 +6,7 @@ use borrow.Author.Needs.{needs}
 use lib.ListN.{length, drop}
 use Rattle.text.specs.Bodies.{Written, rowsOf}
 use Rattle.brackets.specs.Whole.{WholeBody}
-use Rattle.brackets.proofs.Tokens.{found-stands}
+use Rattle.tokens.proofs.Tokens.{found-stands}
 use Rattle.brackets.proofs.Whole.{Putting, putting-first, begin-fits, putting-begin, item-fits, putting-item, end-fits, putting-end, putting-last, putting-wide, putting-size, putting-bad}
 use Rattle.brackets.proofs.put_rows.Statement.{statement}
 use Rattle.brackets.proofs.put_rows.Tie as tie

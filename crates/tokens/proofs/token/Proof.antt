@@ -1,9 +1,9 @@
--- `brackets::token` meets its contract, by the first byte.
+-- `tokens::token` meets its contract, by the first byte.
 use borrow.Author.Needs.{needs}
 use borrow.Author.Tests.{eq-eqb, ne-eqb}
-use Rattle.brackets.proofs.Tokens.{token-at, token-past}
-use Rattle.brackets.proofs.token.Statement.{statement}
-use Rattle.brackets.proofs.token.Tie as tie
+use Rattle.tokens.proofs.Tokens.{token-at, token-past}
+use Rattle.tokens.proofs.token.Statement.{statement}
+use Rattle.tokens.proofs.token.Tie as tie
 
 returns : tie.Need-returns
 returns c = rw (token-past _ _ (c .if1 .taken))

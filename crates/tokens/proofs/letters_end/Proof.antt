@@ -1,4 +1,4 @@
--- `brackets::letters_end` meets its contract. The loop's invariant: the letters from i on end where those at the place do.
+-- `tokens::letters_end` meets its contract. The loop's invariant: the letters from i on end where those at the place do.
 use Prim.Native.Nat.{_+_, _-_, _<_}
 use mathlib.Core.Path.{_≡_, refl, ap}
 use native.Mathlib.Omega.{arith}
@@ -6,9 +6,9 @@ use borrow.Author.Needs.{needs}
 use lib.ListN.{length, getD, drop}
 use Rattle.lexical.proofs.Runs.{run-go, run-stop, run-end}
 use Rattle.text.specs.Names.{isLetter, lettersIn}
-use Rattle.brackets.proofs.Names.{is-letter, below-letters, above-letters}
-use Rattle.brackets.proofs.letters_end.Statement.{statement}
-use Rattle.brackets.proofs.letters_end.Tie as tie
+use Rattle.tokens.proofs.Names.{is-letter, below-letters, above-letters}
+use Rattle.tokens.proofs.letters_end.Statement.{statement}
+use Rattle.tokens.proofs.letters_end.Tie as tie
 
 abbrev Inv-loop : tie.InvT-loop
 Inv-loop line at i₀ i = i + length (lettersIn (drop i line)) ≡ at + length (lettersIn (drop at line))

@@ -1,14 +1,14 @@
--- `brackets::items` meets its contract. The loop's invariant: the items in the array and the tokens from i on give the answer.
+-- `tokens::items` meets its contract. The loop's invariant: the items in the array and the tokens from i on give the answer.
 use Prim.Native.Nat.{_-_}
 use mathlib.Core.Path.{refl, sym, _∙_}
 use native.Mathlib.Omega.{arith}
 use borrow.Author.Needs.{needs}
 use lib.ListN.{length, drop}
-use Rattle.brackets.specs.Brackets.{itemsAt}
-use Rattle.brackets.proofs.Tokens.{found-stands}
-use Rattle.brackets.proofs.Counted.{Reading, reading-first, reading-bad, reading-begin, reading-end, reading-more, reading-many, reading-item}
-use Rattle.brackets.proofs.items.Statement.{statement}
-use Rattle.brackets.proofs.items.Tie as tie
+use Rattle.tokens.specs.Tokens.{itemsAt}
+use Rattle.tokens.proofs.Tokens.{found-stands}
+use Rattle.tokens.proofs.Counted.{Reading, reading-first, reading-bad, reading-begin, reading-end, reading-more, reading-many, reading-item}
+use Rattle.tokens.proofs.items.Statement.{statement}
+use Rattle.tokens.proofs.items.Tie as tie
 
 abbrev Inv-loop : tie.InvT-loop
 Inv-loop line at values₀ count₀ i₀ values count i = Reading line i values count (itemsAt (drop at line))

@@ -18,10 +18,10 @@ use Rattle.text.specs.Names.{isLetter, lettersIn, placeOf}
 use Rattle.text.specs.Tokens.{Token, begin, item, end, dash, Lexed, lexed, dashIn, itemOr, afterSpace, tokenIn, tokensIn}
 use Rattle.text.proofs.Names.{name-found}
 use Rattle.text.proofs.Tokens.{tokens-none, tokens-step}
-use Rattle.brackets.specs.declared.Found.{Found}
-use Rattle.brackets.specs.declared.Found.the-variants.{Begin, Item, End, Bad}
-use Rattle.brackets.specs.Brackets.{placeOr, tokenAt, foundAt}
-use Rattle.brackets.proofs.Names.{name-size}
+use Rattle.tokens.specs.declared.Found.{Found}
+use Rattle.tokens.specs.declared.Found.the-variants.{Begin, Item, End, Bad}
+use Rattle.tokens.specs.Tokens.{placeOr, tokenAt, foundAt}
+use Rattle.tokens.proofs.Names.{name-size}
 
 -- ---- by the first byte
 

@@ -1,14 +1,14 @@
--- `brackets::item` meets its contract: a number, or `-` alone where none is read.
+-- `tokens::item` meets its contract: a number, or `-` alone where none is read.
 use Prim.Native.Nat.{_+_, _<_}
 use mathlib.Core.Path.{sym, ap, _∙_}
 use native.Mathlib.Omega.{arith}
 use borrow.Author.Needs.{needs}
 use borrow.Author.Tests.{eq-eqb, ne-eqb}
 use lib.ListN.{length}
-use Rattle.brackets.specs.declared.Found.the-variants.{Item}
-use Rattle.brackets.proofs.Tokens.{dash-at, number-read, number-unread}
-use Rattle.brackets.proofs.item.Statement.{statement}
-use Rattle.brackets.proofs.item.Tie as tie
+use Rattle.tokens.specs.declared.Found.the-variants.{Item}
+use Rattle.tokens.proofs.Tokens.{dash-at, number-read, number-unread}
+use Rattle.tokens.proofs.item.Statement.{statement}
+use Rattle.tokens.proofs.item.Tie as tie
 
 add-start : tie.Need-add-start
 add-start c = search needs

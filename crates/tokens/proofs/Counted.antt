@@ -13,10 +13,10 @@ use lib.Seq.{take-suc-set, drop-set-lt, drop-drop}
 use Rattle.text.specs.Tokens.{Token, begin, item, end, tokenIn, tokensIn}
 use Rattle.text.specs.Bodies.{padded}
 use Rattle.text.specs.Entries.{itemsIn}
-use Rattle.brackets.specs.declared.Found.the-variants.{Bad}
-use Rattle.brackets.specs.declared.ItemsFound.{ItemsFound}
-use Rattle.brackets.specs.Brackets.{foundAt, maxItems, noItems, itemsHeld, itemsAt}
-use Rattle.brackets.proofs.Tokens.{Stands, found-bad, tokens-past, tokens-more}
+use Rattle.tokens.specs.declared.Found.the-variants.{Bad}
+use Rattle.tokens.specs.declared.ItemsFound.{ItemsFound}
+use Rattle.tokens.specs.Tokens.{foundAt, maxItems, noItems, itemsHeld, itemsAt}
+use Rattle.tokens.proofs.Tokens.{Stands, found-bad, tokens-past, tokens-more}
 
 -- what the items so far and the tokens that follow give
 unfoldable pub itemsWith : List ℕ → Option (List Token) → ItemsFound

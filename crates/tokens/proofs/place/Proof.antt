@@ -1,4 +1,4 @@
--- `brackets::place` meets its contract. The loop's invariant: letters that are the value are found from k on as among all names.
+-- `tokens::place` meets its contract. The loop's invariant: letters that are the value are found from k on as among all names.
 use Prim.Native.Nat.{ℕ, _-_, _≤_}
 use mathlib.Core.Path.{_≡_, refl, sym, ap, _∙_}
 use mathlib.Core.Bool.{true}
@@ -9,11 +9,11 @@ use borrow.Author.Tests.{eq-eqb, ne-eqb}
 use lib.ListN.{drop}
 use Rattle.meaning.specs.Lists.{every}
 use Rattle.text.specs.Names.{names, nameCount, isLetter, placeFrom, placeOf}
-use Rattle.brackets.specs.Brackets.{placeOr}
-use Rattle.brackets.specs.Steps.{packed}
-use Rattle.brackets.proofs.Names.{nameWords, place-one, place-past}
-use Rattle.brackets.proofs.place.Statement.{statement}
-use Rattle.brackets.proofs.place.Tie as tie
+use Rattle.tokens.specs.Tokens.{placeOr}
+use Rattle.tokens.specs.Tokens.{packed}
+use Rattle.tokens.proofs.Names.{nameWords, place-one, place-past}
+use Rattle.tokens.proofs.place.Statement.{statement}
+use Rattle.tokens.proofs.place.Tie as tie
 
 abbrev Inv-loop : tie.InvT-loop
 Inv-loop value k₀ k =

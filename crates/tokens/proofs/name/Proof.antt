@@ -1,4 +1,4 @@
--- `brackets::name` meets its contract: letters that are too many are no name, and others are found by their number.
+-- `tokens::name` meets its contract: letters that are too many are no name, and others are found by their number.
 use Prim.Native.Nat.{_-_}
 use mathlib.Core.Path.{_≡_, sym, ap, _∙_}
 use native.Mathlib.Omega.{arith}
@@ -6,10 +6,10 @@ use borrow.Author.Needs.{needs}
 use lib.ListN.{length, take, drop}
 use Rattle.lexical.proofs.Runs.{run-within, run-passes, take-run}
 use Rattle.text.specs.Names.{isLetter, lettersIn}
-use Rattle.brackets.specs.Steps.{packed}
-use Rattle.brackets.proofs.Names.{name-long}
-use Rattle.brackets.proofs.name.Statement.{statement}
-use Rattle.brackets.proofs.name.Tie as tie
+use Rattle.tokens.specs.Tokens.{packed}
+use Rattle.tokens.proofs.Names.{name-long}
+use Rattle.tokens.proofs.name.Statement.{statement}
+use Rattle.tokens.proofs.name.Tie as tie
 
 letters-end-requires : tie.Need-letters-end-requires
 letters-end-requires c κs = search needs

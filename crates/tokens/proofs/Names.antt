@@ -15,7 +15,7 @@ use Rattle.meaning.specs.Lists.{every, sameList}
 use Rattle.lexical.proofs.Runs.{both}
 use Rattle.text.specs.Names.{names, nameCount, nameOf, isLetter, placeFrom, placeOf}
 use Rattle.text.proofs.Names.{name-letters, name-found}
-use Rattle.brackets.specs.Steps.{packed}
+use Rattle.tokens.specs.Tokens.{packed}
 
 -- ---- letters
 

@@ -1,14 +1,14 @@
--- `brackets::pack` meets its contract. The loop's invariant: the value is that of the bytes from i on, and has as many digits at most.
+-- `tokens::pack` meets its contract. The loop's invariant: the value is that of the bytes from i on, and has as many digits at most.
 use Prim.Native.Nat.{_-_, _^_, _≤_, _<_}
 use mathlib.Core.Path.{_≡_}
 use native.Mathlib.Nat.{le-refl, pow-le-pow-right}
 use native.Mathlib.Omega.{arith}
 use borrow.Author.Needs.{needs}
 use lib.ListN.{getD, take, drop}
-use Rattle.brackets.specs.Steps.{packed}
-use Rattle.brackets.proofs.Names.{pack-more, power-more}
-use Rattle.brackets.proofs.pack.Statement.{statement}
-use Rattle.brackets.proofs.pack.Tie as tie
+use Rattle.tokens.specs.Tokens.{packed}
+use Rattle.tokens.proofs.Names.{pack-more, power-more}
+use Rattle.tokens.proofs.pack.Statement.{statement}
+use Rattle.tokens.proofs.pack.Tie as tie
 
 abbrev Inv-loop : tie.InvT-loop
 Inv-loop line at end value₀ i₀ value i =

@@ -1,18 +1,17 @@
--- What is found at a place of a line: a name, a token, the items of a line without an inner bracket, a body.
-use Prim.Native.Nat.{ℕ, _+_}
+-- What is found at a place of a line: a name, a token, the items of a line without an inner bracket.
+use Prim.Native.Nat.{ℕ, _+_, _*_}
 use mathlib.Core.Bool.{true, false, cond}
-use mathlib.Core.List.{List}
+use mathlib.Core.List.{List, [], _∷_}
 use mathlib.Core.Option.{Option, none, some, bind}
 use lib.Dec.{leb}
 use lib.ListN.{length, replicate}
 use Rattle.text.specs.Names.{nameCount}
 use Rattle.text.specs.Tokens.{Token, begin, item, end, Lexed, tokensIn}
-use Rattle.text.specs.Bodies.{formsIn, padded}
-use Rattle.text.specs.Entries.{Entry, row, rule, itemsIn, bodyIn}
-use Rattle.brackets.specs.declared.Found.{Found}
-use Rattle.brackets.specs.declared.Found.the-variants.{Begin, Item, End, Bad}
-use Rattle.brackets.specs.declared.ItemsFound.{ItemsFound}
-use Rattle.brackets.specs.declared.BodyFound.{BodyFound}
+use Rattle.text.specs.Bodies.{padded}
+use Rattle.text.specs.Entries.{itemsIn}
+use Rattle.tokens.specs.declared.Found.{Found}
+use Rattle.tokens.specs.declared.Found.the-variants.{Begin, Item, End, Bad}
+use Rattle.tokens.specs.declared.ItemsFound.{ItemsFound}
 
 -- a name's place among the names; past them all where there is none
 abbrev pub placeOr : Option ℕ → ℕ
@@ -44,11 +43,7 @@ itemsHeld (some is) = cond (leb (length is) maxItems) (record { good = true; cou
 unfoldable pub itemsAt : List ℕ → ItemsFound
 itemsAt l = itemsHeld (bind (tokensIn l) itemsIn)
 
--- how many forms the body of a rule has, from its place to the end of the line
-unfoldable pub bodyHeld : Option Entry → BodyFound
-bodyHeld none = record { good = false; forms = 0 }
-bodyHeld (some (row s words)) = record { good = false; forms = 0 }
-bodyHeld (some (rule t body)) = record { good = true; forms = formsIn body }
-
-unfoldable pub bodyAt : List ℕ → BodyFound
-bodyAt l = bodyHeld (bind (tokensIn l) (bodyIn 0))
+-- bytes as one number: the digits at base 256, the first the least
+unfoldable pub packed : List ℕ → ℕ
+packed [] = 0
+packed (b ∷ l) = b + 256 * packed l

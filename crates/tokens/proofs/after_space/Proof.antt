@@ -1,10 +1,10 @@
--- `brackets::after_space` meets its contract: an open bracket and its name, or an item.
+-- `tokens::after_space` meets its contract: an open bracket and its name, or an item.
 use native.Mathlib.Omega.{arith}
 use borrow.Author.Needs.{needs}
 use borrow.Author.Tests.{eq-eqb, ne-eqb}
-use Rattle.brackets.proofs.Tokens.{after-at, after-past, named, unnamed}
-use Rattle.brackets.proofs.after_space.Statement.{statement}
-use Rattle.brackets.proofs.after_space.Tie as tie
+use Rattle.tokens.proofs.Tokens.{after-at, after-past, named, unnamed}
+use Rattle.tokens.proofs.after_space.Statement.{statement}
+use Rattle.tokens.proofs.after_space.Tie as tie
 
 add-from : tie.Need-add-from
 add-from c = search needs

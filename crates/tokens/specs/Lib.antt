@@ -1,0 +1,3 @@
+-- What the functions over a line's bytes answer, by the definitions of the text.
+--   Tokens   names, tokens, items
+pub mod Tokens
