@@ -25,7 +25,7 @@ use Rattle.register.proofs.Rows.{place-there}
 use Rattle.event_effects.specs.Effects.{CanInsert, CanChange, CanJoin, CanPart, Can, Applied}
 use Rattle.events.specs.Steps.{Ready}
 use Rattle.event_refusals.proofs.Fields.{no-event-refused}
-use Rattle.event_refusals.proofs.Tests.{test-found, link-present, link-absent}
+use Rattle.event_tests.proofs.Tests.{test-found, link-present, link-absent}
 
 -- no check of the list is met
 abbrev Unmet : List Check → Type 0

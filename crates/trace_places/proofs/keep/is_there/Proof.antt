@@ -1,6 +1,6 @@
 -- `trace_places::keep::is_there` meets its contract.
 use Rattle.trace_places.proofs.Keeping.{JoinWords, join-words}
-use Rattle.event_refusals.proofs.Tests.{link-present, link-absent}
+use Rattle.event_tests.proofs.Tests.{link-present, link-absent}
 use Rattle.meaning.specs.Register.{Link, hasLink}
 use Rattle.register.specs.Tables.{linksWith}
 use Rattle.tables.specs.Columns.{eventOf, eventRow}

@@ -1,0 +1,3 @@
+-- Laws of what is asked of a register.
+--   Tests     what the code's tests say of the register
+pub mod Tests
