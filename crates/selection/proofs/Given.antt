@@ -17,7 +17,7 @@ use Rattle.ocl.specs.Site.{siteOf}
 use Rattle.full_search.specs.Search.{Clear}
 use Rattle.full_search.proofs.Given.{typed, register-fits}
 use Rattle.candidates.proofs.Rules.{body-form, rule-able}
-use Rattle.selection.specs.Ready.{RuleReady, TypedBy}
+use Rattle.selected.specs.Ready.{RuleReady, TypedBy}
 
 module _ {n : Counts} {s : Sheet} {index : List ℕ} (c : Clear n s index) {rule : ℕ} (h : rule < n .rules) where
   pub whole : T (wholeBody (bodyOf (s .bodies) rule) (wordAt (s .rules) 2 rule 1))

@@ -1,161 +1,20 @@
-// The objects at which a rule is selected. The forward rule is asked at marked objects only.
+// The objects at which a rule is selected.
 use body_rows::body::scan;
 use candidates::candidates;
-use directions::DOWN;
-use ocl::Place;
 use quietness::quiet::quiet;
-use reach::moved;
+use selected::chosen_at;
 use tables::Counts;
 ghost use mathlib.Core.Path.{_≡_};
-ghost use mathlib.Core.Bool.{_&&_, _||_, not};
 ghost use mathlib.Core.List.{[], _++_};
-ghost use Prim.Native.Nat.{ℕ, _+_, _*_, _≤_, _<_};
+ghost use Prim.Native.Nat.{_+_, _*_, _≤_, _<_};
 ghost use lib.ListN.{length, take, set};
-ghost use Rattle.meaning.specs.Reach.{Change, quiet, inserted, specialised, selected};
+ghost use Rattle.meaning.specs.Reach.{Change, quiet};
 ghost use Rattle.tables.specs.Columns.{ruleRow, schemaOf};
 ghost use Rattle.tables.specs.Layouts.{sheetOf};
-ghost use Rattle.ocl.specs.Site.{idIn};
 ghost use Rattle.trace_places.specs.Traces.{Traced, Traces};
 ghost use Rattle.full_search.specs.Search.{Clear};
 ghost use Rattle.selection.specs.Selected.{ruleCodes};
-ghost use Rattle.selection.specs.Ready.{RuleReady, TypedBy, Marked};
-
-// Whether an insert or a special brought the object in a row into a type; an insert does not count where the body is quiet.
-fn brought_in(
-    n: Counts,
-    types: &[u32],
-    objects: &[u32],
-    links: &[u32],
-    events: &[u32],
-    trace: &[u16; 2593],
-    context: u32,
-    still: bool,
-    row: u32,
-) -> bool
-    requires { ⌜ (Traces n (now types) (now objects) (now links) (now events) (now trace)) × (row < n .objects) ⌝ }
-    ensures { λ r. ⌜ ((c : Change) → Traced c n (now (types .entry)) (now (objects .entry)) (now (links .entry)) (now (events .entry)) (now (trace .entry))
-        → r ≡ ((inserted c (idIn (now (objects .entry)) row) context && not still) || specialised c (idIn (now (objects .entry)) row) context)) ⌝ }
-{
-    if questions::ask_if(
-        !still,
-        true,
-        n,
-        types,
-        objects,
-        links,
-        events,
-        trace,
-        row,
-        questions::INSERTED,
-        context,
-    ) {
-        return true;
-    }
-    questions::ask(
-        n,
-        types,
-        objects,
-        links,
-        events,
-        trace,
-        row,
-        questions::SPECIALISED,
-        context,
-    )
-}
-
-// Whether a rule is selected at the object in a row: it is under the context type, and its body may turn false or it was brought in.
-fn selected_at(
-    n: Counts,
-    types: &[u32],
-    objects: &[u32],
-    links: &[u32],
-    index: &[u16; 81920],
-    rules: &[u32],
-    bodies: &[u32],
-    spans: &[u32; 65],
-    events: &[u32],
-    trace: &[u16; 2593],
-    rule: u32,
-    still: bool,
-    row: u32,
-) -> bool
-    requires { ⌜ (RuleReady n (now types) (now objects) (now links) (now index) (now rules) (now bodies) (now spans) rule)
-        × (Traces n (now types) (now objects) (now links) (now events) (now trace))
-        × (still ≡ quiet ((ruleRow (now rules) (now bodies) rule) .body)) × (row < n .objects) ⌝ }
-    ensures { λ r. ⌜ ((c : Change) → Traced c n (now (types .entry)) (now (objects .entry)) (now (links .entry)) (now (events .entry)) (now (trace .entry))
-        → r ≡ selected c (ruleRow (now (rules .entry)) (now (bodies .entry)) rule) (idIn (now (objects .entry)) row)) ⌝ }
-{
-    let context = rows::word(rules, tables::RULE_WIDTH, rule, 0);
-    if !schema::under(n.types, types, register::type_of(objects, row), context) {
-        return false;
-    }
-    if brought_in(n, types, objects, links, events, trace, context, still, row) {
-        return true;
-    }
-    let mut vs = [0u32; 64];
-    vs[0] = row;
-    let body = Place(rule, rows::word(rules, tables::RULE_WIDTH, rule, 1), 1);
-    moved(
-        n,
-        types,
-        objects,
-        links,
-        index,
-        bodies,
-        spans,
-        events,
-        trace,
-        &vs,
-        body,
-        DOWN,
-    )
-}
-
-// The same, asked only where the row is marked.
-fn chosen_at(
-    n: Counts,
-    types: &[u32],
-    objects: &[u32],
-    links: &[u32],
-    index: &[u16; 81920],
-    rules: &[u32],
-    bodies: &[u32],
-    spans: &[u32; 65],
-    events: &[u32],
-    trace: &[u16; 2593],
-    rule: u32,
-    still: bool,
-    marks: &[bool; 1024],
-    row: u32,
-) -> bool
-    requires { ⌜ (RuleReady n (now types) (now objects) (now links) (now index) (now rules) (now bodies) (now spans) rule)
-        × (Traces n (now types) (now objects) (now links) (now events) (now trace))
-        × (still ≡ quiet ((ruleRow (now rules) (now bodies) rule) .body))
-        × (Marked n (now types) (now objects) (now links) (now events) (now trace) (now rules) (now bodies) rule (now marks)) × (row < n .objects) ⌝ }
-    ensures { λ r. ⌜ ((c : Change) → Traced c n (now (types .entry)) (now (objects .entry)) (now (links .entry)) (now (events .entry)) (now (trace .entry))
-        → TypedBy c (now (rules .entry)) (now (bodies .entry)) rule → r ≡ selected c (ruleRow (now (rules .entry)) (now (bodies .entry)) rule) (idIn (now (objects .entry)) row)) ⌝ }
-{
-    let at = row as usize;
-    if !marks[at] {
-        return false;
-    }
-    selected_at(
-        n,
-        types,
-        objects,
-        links,
-        index,
-        rules,
-        bodies,
-        spans,
-        events,
-        trace,
-        rule,
-        still,
-        row,
-    )
-}
+ghost use Rattle.selected.specs.Ready.{RuleReady, TypedBy, Marked};
 
 // A code at its place.
 fn put(chosen: &mut [u16], at: u32, code: u32)

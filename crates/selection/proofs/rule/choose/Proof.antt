@@ -11,7 +11,7 @@ use Rattle.tables.specs.Columns.{ruleRow}
 use Rattle.ocl.specs.Site.{idIn}
 use Rattle.trace_places.specs.Traces.{Traced}
 use Rattle.selection.specs.Selected.{selectedRows}
-use Rattle.selection.specs.Ready.{TypedBy}
+use Rattle.selected.specs.Ready.{TypedBy}
 use Rattle.selection.proofs.Chosen.{below, Choosing, one-taken, one-passed}
 use Rattle.selection.proofs.rule.choose.Statement.{statement}
 use Rattle.selection.proofs.rule.choose.Tie as tie

@@ -9,7 +9,7 @@ use Rattle.tables.specs.Bodies.{ending, asTruth}
 use Rattle.tables.specs.Columns.{ruleRow}
 use Rattle.body_rows.specs.Marks.{bodyOf, Starts}
 use Rattle.full_search.proofs.Given.{size-few}
-use Rattle.selection.specs.Ready.{RuleReady}
+use Rattle.selected.specs.Ready.{RuleReady}
 use Rattle.selection.proofs.Given.{sound, quiet-is, typed-by, rule-ready}
 use borrow.Author.Needs.{needs}
 use Rattle.selection.proofs.rule.select_rule.Statement.{statement}

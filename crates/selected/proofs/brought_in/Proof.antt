@@ -1,12 +1,12 @@
--- `selection::rule::brought_in` meets its contract.
+-- `selected::brought_in` meets its contract.
 use mathlib.Core.Path.{sym, _∙_}
 use denote.Ref.{now}
 use Rattle.ocl.specs.Site.{idIn}
 use Rattle.reach.proofs.Leaves.{asked-specialised}
-use Rattle.selection.proofs.Asked.{first-holds, second-decides, asked-insert}
+use Rattle.selected.proofs.Asked.{first-holds, second-decides, asked-insert}
 use borrow.Author.Needs.{needs}
-use Rattle.selection.proofs.rule.brought_in.Statement.{statement}
-use Rattle.selection.proofs.rule.brought_in.Tie as tie
+use Rattle.selected.proofs.brought_in.Statement.{statement}
+use Rattle.selected.proofs.brought_in.Tie as tie
 
 ask-if-requires : tie.Need-ask-if-requires
 ask-if-requires c κs = search needs

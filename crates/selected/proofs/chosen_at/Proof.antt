@@ -1,10 +1,10 @@
--- `selection::rule::chosen_at` meets its contract.
+-- `selected::chosen_at` meets its contract.
 use denote.Ref.{now}
 use borrow.Author.Tests.{not-true}
 use native.Mathlib.Omega.{arith}
-use Rattle.selection.proofs.Asked.{unmarked}
-use Rattle.selection.proofs.rule.chosen_at.Statement.{statement}
-use Rattle.selection.proofs.rule.chosen_at.Tie as tie
+use Rattle.selected.proofs.Asked.{unmarked}
+use Rattle.selected.proofs.chosen_at.Statement.{statement}
+use Rattle.selected.proofs.chosen_at.Tie as tie
 
 element-copy-out-if1 : tie.Need-element-copy-out-if1
 element-copy-out-if1 c =

@@ -1,4 +1,4 @@
--- `selection::rule::selected_at` meets its contract.
+-- `selected::selected_at` meets its contract.
 use mathlib.Core.Path.{_≡_, refl, ap, ap₂, _∙_}
 use denote.Ref.{now}
 use borrow.Author.Tests.{not-true, not-false}
@@ -14,10 +14,10 @@ use Rattle.tables.specs.Columns.{typesOf, objectRow, ruleRow}
 use Rattle.ocl.specs.Site.{siteOf, idIn}
 use Rattle.trace_places.specs.Traces.{Traced}
 use Rattle.reach.specs.Moves.{movesAt}
-use Rattle.selection.proofs.Asked.{not-under, was-brought, body-moved}
+use Rattle.selected.proofs.Asked.{not-under, was-brought, body-moved}
 use borrow.Author.Needs.{needs}
-use Rattle.selection.proofs.rule.selected_at.Statement.{statement}
-use Rattle.selection.proofs.rule.selected_at.Tie as tie
+use Rattle.selected.proofs.selected_at.Statement.{statement}
+use Rattle.selected.proofs.selected_at.Tie as tie
 
 word-requires : tie.Need-word-requires
 word-requires c κs = search needs

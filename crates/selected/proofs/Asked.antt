@@ -25,7 +25,7 @@ use Rattle.going_back.specs.Back.{candidate}
 use Rattle.row_sets.proofs.Tests.{so-true}
 use Rattle.candidates.proofs.Coverage.{selected-candidate}
 use Rattle.candidates.proofs.Rules.{body-form}
-use Rattle.selection.specs.Ready.{TypedBy, Marked}
+use Rattle.selected.specs.Ready.{TypedBy, Marked}
 
 -- ---- two parts, of which the first decides or not
 

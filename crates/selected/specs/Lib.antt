@@ -1,0 +1,3 @@
+-- Whether a rule is selected at an object.
+--   Ready      what is given of a rule
+pub mod Ready
