@@ -188,6 +188,8 @@ def limits():
     case('2: 513 links', 'refused 2 586', links(513))
     case('64 events', 'accepted;', events[:66])
     case('2: 65 events', 'refused 2 67', events)
+    sizes = ['(type 0 - 1)'] + [f'(rule {n} 0 (ge (size (all 0)) (num %d)))' % (129 * (n == 7)) for n in range(8)] + [f'(ent {n} 0 0)' for n in range(65408, 65536)]
+    case('14 is not met: every pair of 8 rules and 128 objects', 'broken 7 1; 1024 pairs', sizes + ['(delete 65408)', '(insert 1 0)'])
     case('2 before 3: a faulty type and 33 types', 'refused 2 33', changed(types, 0, '(type 0 - 9)'))
 
 

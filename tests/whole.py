@@ -217,8 +217,9 @@ def outcome(data):
 
 
 def said(answer, pairs):
-    """An answer and its pairs as the names of cases end in them."""
-    return ' '.join(str(part) for part in answer) + ('' if answer[0] == 'refused' else ';' + ''.join(' %d:%d' % pair for pair in pairs))
+    """An answer and its pairs as the names of cases end in them; of more than a hundred pairs their number."""
+    listed = ''.join(' %d:%d' % pair for pair in pairs) if len(pairs) <= 100 else f' {len(pairs)} pairs'
+    return ' '.join(str(part) for part in answer) + ('' if answer[0] == 'refused' else ';' + listed)
 
 
 def printed(answer, pairs):
