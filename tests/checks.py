@@ -342,6 +342,8 @@ def constraints():
 
 
 def blocks():
+    """Of each case its line, the lines of its block, and its text."""
+    CASES.clear()
     for make in (marked_cases, guesses, malformed_lines, limits, faulty_schemas, faulty_rules, faulty_registers, faulty_events, events_on_the_way, short_texts, constraints):
         make()
     return CASES
