@@ -1,11 +1,16 @@
 #!/usr/bin/env python3
-"""Puts one fault after the other into a copy of plain.py, and counts the cases that notice it.
+"""Puts one fault after the other into a copy of plain.py or whole.py, and counts the cases that notice it.
 
-    faults.py FILE        FILE has blocks; ends with an error if some fault is noticed by none
+    faults.py FILE        of plain.py, by the blocks of FILE
+    faults.py checks      of whole.py, by the texts of checks.py
+
+Ends with an error if some fault is noticed by none.
 """
 import os
 import re
 import sys
+
+import checks
 
 HERE = os.path.dirname(os.path.abspath(__file__))
 
@@ -94,11 +99,56 @@ FAULTS = [
     ('13 before 9', 'if not known(book, event):\n        return 7', 'if not known(book, event):\n        return 7\n    if kind == "insert" and full(register, event):\n        return 13'),
 ]
 
+# The same of whole.py.
+TEXT_FAULTS = [
+    ('a text of 8,193 bytes is taken', 'if len(data) > BYTES:', 'if len(data) > BYTES + 1:'),
+    ('a text of 8,192 bytes is not', 'if len(data) > BYTES:', 'if len(data) >= BYTES:'),
+    ('the last line needs no byte 10', "([None] if rest else [])", '([rest] if rest else [])'),
+    ('a line without its byte 10 is passed over', "lines + ([None] if rest else [])", 'lines'),
+    ('lines count from 0', 'if rest else []), 1):', 'if rest else [])):'),
+    ('a leading zero is taken', "NUMBER = r'(?:0|-?[1-9][0-9]*)'", "NUMBER = r'(?:0|-?[0-9][0-9]*)'"),
+    ('minus zero is taken', "NUMBER = r'(?:0|-?", "NUMBER = r'(?:-?0|-?"),
+    ('numbers of 33 bits are taken', '-2**31 <= int(word) < 2**31', '-2**32 <= int(word) < 2**32'),
+    ('2 to the 31st is taken', 'int(word) < 2**31', 'int(word) <= 2**31'),
+    ('sections in any order', 'list(ROOM).index(section) >= self.section)', 'True)'),
+    ('2 before 1 in a line', '            return 1\n', '            return 2 if len(self.rows["rule"]) == ROOM["rule"] else 1\n'),
+    ('a ninth rule is taken', "'rule': 8", "'rule': 9"),
+    ('a 33rd type is taken', "'type': 32", "'type': 33"),
+    ('a 33rd relationship is taken', "'rel': 32", "'rel': 33"),
+    ('a 513th link is taken', "'link': 512", "'link': 513"),
+    ('a 65th event is taken', "'event': 64", "'event': 65"),
+    ('65 forms are taken', 'forms(row[1]) > FORMS', 'forms(row[1]) > FORMS + 1'),
+    ('64 forms are not', 'forms(row[1]) > FORMS', 'forms(row[1]) >= FORMS'),
+    ('lines may have any number', "        ask(n == len(self.rows[section]))", '        ask(n >= 0)'),
+    ('a parent below 0 is taken', 'ask(parent is None or parent >= 0)', 'parent = parent if parent is None or parent >= 0 else None'),
+    ('an object may have fewer values', 'len(words) == 2 + cells', 'len(words) <= 2 + cells'),
+    ('nine cells are taken', 'if not 0 <= cells <= 8:', 'if not 0 <= cells <= 9:'),
+    ('a type may be its own parent', 'not (parent < n and', 'not (parent <= n and'),
+    ('a type may have fewer cells than its parent', 'cells >= types[parent][1])', 'True)'),
+    ('relationships before types', 'first(3, len(book.types), lambda n: faulty_type(book.types, n)) \\\n        or first(3, len(book.relationships), lambda n: not all(0 <= t < len(book.types) for t in book.relationships[n]))',
+     'first(3, len(book.relationships), lambda n: not all(0 <= t < len(book.types) for t in book.relationships[n])) \\\n        or first(3, len(book.types), lambda n: faulty_type(book.types, n))'),
+    ('a target type is not looked at', 'for t in book.relationships[n])', 'for t in book.relationships[n][:1])'),
+    ('any number is a context', 'not 0 <= context < len(book.types) or', 'context < 0 or'),
+    ('a role may leave from any type', ' or not book.under(scope[f[1]], ends[f[2] % 2])', ''),
+    ('a cell of a member is not looked at', "isinstance(sorts[0], int) and 0 <= f[2] < book.cells(sorts[0])", 'isinstance(sorts[0], int)'),
+    ('a number may be a condition', "sort_of(book, f[2], scope + [member]) != 'truth'", 'sort_of(book, f[2], scope + [member]) is None'),
+    ('any form is a body', "sort_of(book, body, [context]) != 'truth'", 'sort_of(book, body, [context]) is None'),
+    ('an id may stand twice', 'rows[n - 1][0] >= rows[n][0]', 'rows[n - 1][0] > rows[n][0]'),
+    ('ids may descend', 'rows[n - 1][0] >= rows[n][0]', 'rows[n - 1][0] == rows[n][0]'),
+    ('id 65,536 is taken', 'not 1 <= rows[n][0] <= 65535', 'not 1 <= rows[n][0] <= 65536'),
+    ('a link may stand twice', 'links[n - 1] >= links[n]', 'links[n - 1] > links[n]'),
+    ('links may descend', 'links[n - 1] >= links[n]', 'links[n - 1] == links[n]'),
+    ('an end may be of any type', 'i in register.objects and book.under(register.type_of(i), end)', 'i in register.objects'),
+    ('5 before 4', 'refused = first(3,', "refused = first(5, len(rows['ent']), lambda n: faulty_object(rows['ent'], n)) or first(3,"),
+    ('the register has a row too few', "plain.OBJECT_ROWS, plain.LINK_ROWS, plain.LIST_WORDS = ROOM['ent'], ROOM['link']", "plain.OBJECT_ROWS, plain.LINK_ROWS, plain.LIST_WORDS = ROOM['ent'] - 1, ROOM['link']"),
+    ('the links have a row more', "plain.OBJECT_ROWS, plain.LINK_ROWS, plain.LIST_WORDS = ROOM['ent'], ROOM['link']", "plain.OBJECT_ROWS, plain.LINK_ROWS, plain.LIST_WORDS = ROOM['ent'], ROOM['link'] + 1"),
+]
 
-def reading(source):
-    space = {'__name__': 'plain'}
-    exec(compile(source, 'plain.py', 'exec'), space)
-    return space['output']
+
+def reading(source, name='output'):
+    space = {'__name__': 'reading'}
+    exec(compile(source, 'reading', 'exec'), space)
+    return space[name]
 
 
 def noticed(good, bad):
@@ -112,20 +162,45 @@ def noticed(good, bad):
     return len(cases)
 
 
-def main():
+def by_blocks(name):
+    """The faults of plain.py, and how many cases of a file notice each."""
     source = open(os.path.join(HERE, 'plain.py')).read()
     # Faults may look at the register before the batch and before the event.
     source = source.replace('        self.sets, self.joined', '        self.start = register\n        self.sets, self.joined', 1)
     source = source.replace('        apply(self.book, self.end, event)', '        self.old = self.end.copy()\n        apply(self.book, self.end, event)', 1)
-    text = open(sys.argv[1]).read()
-    good, missed = list(reading(source)(text)), 0
+    text = open(name).read()
+    good = list(reading(source)(text))
     for label, old, new in FAULTS:
         assert source.count(old) == 1, f'{label}: {source.count(old)} places'
-        count = noticed(good, list(reading(source.replace(old, new))(text)))
-        missed += count == 0
+        yield label, noticed(good, list(reading(source.replace(old, new))(text)))
+
+
+def outcomes(source, texts):
+    """What a reading says of each text; what it fails at is an outcome of its own."""
+    outcome = reading(source, 'outcome')
+    for text in texts:
+        try:
+            yield outcome(text)
+        except Exception as failure:
+            yield failure
+
+
+def by_texts():
+    """The faults of whole.py, and how many texts notice each."""
+    source, texts = open(os.path.join(HERE, 'whole.py')).read(), [text for _, _, text in checks.blocks()]
+    good = list(outcomes(source, texts))
+    for label, old, new in TEXT_FAULTS:
+        assert source.count(old) == 1, f'{label}: {source.count(old)} places'
+        yield label, sum(a != b for a, b in zip(good, outcomes(source.replace(old, new), texts)))
+
+
+def main():
+    counts = []
+    for label, count in by_texts() if sys.argv[1] == 'checks' else by_blocks(sys.argv[1]):
+        counts.append(count)
         print(f'{count:6} {label}', flush=True)
-    print(f'{len(FAULTS)} faults, {missed} noticed by none')
-    sys.exit(1 if missed else 0)
+    print(f'{len(counts)} faults, {counts.count(0)} noticed by none')
+    sys.exit(0 in counts)
 
 
 if __name__ == '__main__':

@@ -24,50 +24,52 @@ def links(count):
     return BOOK[:3] + [f'(ent {n} {int(n > 10)} 0)' for n in range(1, 71)] + [f'(link 0 {s} {t})' for s, t in ends]
 
 
+# What the text is, the answer, its lines.
 CASES = [
-    ('refused 1 1', ['type 0 - 1']),
-    ('refused 1 3', BOOK[:2] + ['(rel 0 0  1)'] + BOOK[3:]),
-    ('refused 1 5', BOOK + ['(ent 10 0 2147483648)']),
-    ('refused 1 5', BOOK + ['(ent 10 2)']),
-    ('refused 1 9', BOOK + REGISTER + ['(type 2 - 1)']),
-    ('refused 2 12', RULES),
-    ('refused 2 131', objects(129)),
-    ('refused 2 74', [f'(type {n} - 1)' for n in range(9)] + ['(set 1 0 0)'] * 65),
-    ('refused 2 0', LONG + ['(set 10001 0 0)'] * 400),
-    ('refused 3 0', ['(type 0 - 9)'] + BOOK[1:]),
-    ('refused 3 1', ['(type 0 - 1)', '(type 1 1 1)'] + BOOK[2:]),
-    ('refused 3 0', BOOK[:2] + ['(rel 0 0 2)'] + BOOK[3:]),
-    ('refused 3 1', BOOK[:1] + ['(type 1 0 0)', '(rel 0 0 9)']),
-    ('refused 4 0', BOOK[:3] + ['(rule 0 0 (le (sum (role 0 0) 1) (cell 0 0)))']),
-    ('refused 4 1', BOOK + ['(rule 1 0 (forall (role 0 1) (not (kind 1 0))))']),
-    ('refused 4 0', BOOK[:3] + ['(rule 0 0 (cell 0 0))']),
-    ('refused 5 1', BOOK + ['(ent 10 0 30)', '(ent 10 0 30)']),
-    ('refused 5 0', BOOK + ['(ent 0 0 30)']),
-    ('refused 5 0', BOOK + REGISTER[:3] + ['(link 0 20 10)']),
-    ('refused 5 1', BOOK + REGISTER + ['(link 0 10 20)']),
-    ('refused 7 0', BOOK + REGISTER + ['(insert 12 2)']),
-    ('refused 7 1', BOOK + REGISTER + ['(insert 12 0)', '(set 12 8 1)']),
-    ('refused 8 0', BOOK + REGISTER + ['(set 12 0 1)']),
-    ('refused 9 0', BOOK + REGISTER + ['(join 0 10 20)']),
-    ('refused 10 0', BOOK + REGISTER + ['(part 0 11 20)']),
-    ('refused 11 0', BOOK + REGISTER + ['(set 20 1 1)']),
-    ('refused 12 0', BOOK + REGISTER + ['(delete 20)']),
-    ('refused 13 0', objects(128) + ['(insert 129 0)']),
-    ('accepted', objects(128) + ['(delete 1)', '(insert 129 0)']),
-    ('refused 13 0', links(512) + ['(join 0 10 70)']),
+    ('a line that is no bracket', 'refused 1 1', ['type 0 - 1']),
+    ('two spaces', 'refused 1 3', BOOK[:2] + ['(rel 0 0  1)'] + BOOK[3:]),
+    ('a value beyond 32 bits', 'refused 1 5', BOOK + ['(ent 10 0 2147483648)']),
+    ('an object of a type that the text lacks', 'refused 1 5', BOOK + ['(ent 10 2)']),
+    ('a type after the links', 'refused 1 9', BOOK + REGISTER + ['(type 2 - 1)']),
+    ('nine rules', 'refused 2 12', RULES),
+    ('129 objects', 'refused 2 131', objects(129)),
+    ('65 events', 'refused 2 74', [f'(type {n} - 1)' for n in range(9)] + ['(set 1 0 0)'] * 65),
+    ('a text of more than 8,192 bytes', 'refused 2 0', LONG + ['(set 10001 0 0)'] * 400),
+    ('nine cells', 'refused 3 0', ['(type 0 - 9)'] + BOOK[1:]),
+    ('a type that is its own parent', 'refused 3 1', ['(type 0 - 1)', '(type 1 1 1)'] + BOOK[2:]),
+    ('an end type that is not there', 'refused 3 0', BOOK[:2] + ['(rel 0 0 2)'] + BOOK[3:]),
+    ('fewer cells than the parent, and an end type that is not there', 'refused 3 1', BOOK[:1] + ['(type 1 0 0)', '(rel 0 0 9)']),
+    ('a cell that the members lack', 'refused 4 0', BOOK[:3] + ['(rule 0 0 (le (sum (role 0 0) 1) (cell 0 0)))']),
+    ('a role of another type, in the second rule', 'refused 4 1', BOOK + ['(rule 1 0 (forall (role 0 1) (not (kind 1 0))))']),
+    ('a number as the body', 'refused 4 0', BOOK[:3] + ['(rule 0 0 (cell 0 0))']),
+    ('an object twice', 'refused 5 1', BOOK + ['(ent 10 0 30)', '(ent 10 0 30)']),
+    ('id 0', 'refused 5 0', BOOK + ['(ent 0 0 30)']),
+    ('a link the other way round', 'refused 5 0', BOOK + REGISTER[:3] + ['(link 0 20 10)']),
+    ('a link twice', 'refused 5 1', BOOK + REGISTER + ['(link 0 10 20)']),
+    ('an insert of an unknown type', 'refused 7 0', BOOK + REGISTER + ['(insert 12 2)']),
+    ('a set of cell 8 after an insert', 'refused 7 1', BOOK + REGISTER + ['(insert 12 0)', '(set 12 8 1)']),
+    ('a set of an absent object', 'refused 8 0', BOOK + REGISTER + ['(set 12 0 1)']),
+    ('a join of a link that is there', 'refused 9 0', BOOK + REGISTER + ['(join 0 10 20)']),
+    ('a part of a link that is absent', 'refused 10 0', BOOK + REGISTER + ['(part 0 11 20)']),
+    ('a set of a cell that the type lacks', 'refused 11 0', BOOK + REGISTER + ['(set 20 1 1)']),
+    ('a delete of a linked object', 'refused 12 0', BOOK + REGISTER + ['(delete 20)']),
+    ('an insert into 128 objects', 'refused 13 0', objects(128) + ['(insert 129 0)']),
+    ('an insert into a row that was freed', 'accepted', objects(128) + ['(delete 1)', '(insert 129 0)']),
+    ('a join to 512 links', 'refused 13 0', links(512) + ['(join 0 10 70)']),
 ]
 
 
 def main():
     wrong = 0
-    for expected, lines in CASES:
+    for name, expected, lines in CASES:
         text = ''.join(line + '\n' for line in lines)
         got = subprocess.run([sys.argv[1]], input=text, capture_output=True, text=True).stdout
         if got != f'answer {expected}\n':
             wrong += 1
-            print(f'expected answer {expected}, printed {got!r}: {text[:200]}')
+            print(f'{name}: expected answer {expected}, printed {got!r}')
     print(f'{len(CASES)} texts, {wrong} disagreements')
     sys.exit(wrong > 0)
 
 
-main()
+if __name__ == '__main__':
+    main()

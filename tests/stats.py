@@ -5,7 +5,7 @@
 
 From a register where every rule holds, the batch check answers as a full check of the register after the batch; and a rule none of whose
 listed event types occurs has no pair. A name may end in what is to come, found by hand: `=> answer; pairs`, or `=> list` and the event list of
-rule 0. A case that is otherwise is written, and the program ends with an error.
+rule 0, or `=> lists` and that of each rule, parted by ` |`. A case that is otherwise is written, and the program ends with an error.
 """
 import collections
 import sys
@@ -39,6 +39,8 @@ def claims(book, register, checked):
 def by_hand(name, book, checked):
     """Whether a case is what its name says."""
     _, arrow, wanted = name.partition(' => ')
+    if wanted.startswith('lists'):
+        return wanted[5:] == ' |'.join(line.partition(':')[2] for line in plain.show_lists(book))
     if wanted.startswith('list'):
         return wanted[4:] == next(plain.show_lists(book))[2:]
     pairs = ''.join(f' {r}:{s}' for r, s in checked.pairs)

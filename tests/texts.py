@@ -43,8 +43,9 @@ def printed(text):
 
 def main():
     program, every = sys.argv[1], int(sys.argv[2]) if len(sys.argv) > 2 else 1
-    stored = (pathlib.Path(__file__).parent.parent / 'crates/test_batch/stdin').read_text()
-    marked = len((pathlib.Path(__file__).parent / 'marked.txt').read_text().strip('\n').split('\n\n'))
+    here = pathlib.Path(__file__).parent
+    stored = (here.parent / 'crates/test_batch/stdin').read_text()
+    marked = sum(len((here / name).read_text().strip('\n').split('\n\n')) for name in ('marked.txt', 'thesis.txt'))
     counts = {'accepted': 0, 'broken': 0, 'refused': 0, 'left out': 0, 'disagreements': 0}
     for n, (name, text) in enumerate(texts(stored)):
         if n >= marked and n % every:
@@ -62,4 +63,5 @@ def main():
     sys.exit(counts['disagreements'] > 0)
 
 
-main()
+if __name__ == '__main__':
+    main()
