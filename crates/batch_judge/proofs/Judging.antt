@@ -24,7 +24,7 @@ use Rattle.tables.specs.Answers.{answerOf}
 use Rattle.tables.specs.declared.Counts.{Counts}
 use Rattle.tables.specs.declared.Answer.the-variants.{Refused}
 use Rattle.checks.specs.Given.{Given}
-use Rattle.ocl.specs.Site.{idIn}
+use Rattle.walks.specs.Site.{idIn}
 use Rattle.full_search.proofs.Given.{register-fits}
 use Rattle.pair_list.specs.Pairs.{pairAt, pairsOf, pairWords, Chosen}
 use Rattle.batch_selection.specs.Ended.{Ended}

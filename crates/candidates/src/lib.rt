@@ -16,7 +16,7 @@ ghost use Rattle.rows.specs.Rows.{wordAt};
 ghost use Rattle.tables.specs.Bodies.{wholeBody};
 ghost use Rattle.tables.specs.Columns.{ruleRow};
 ghost use Rattle.body_rows.specs.Marks.{bodyOf};
-ghost use Rattle.ocl.specs.Site.{siteOf, idIn};
+ghost use Rattle.walks.specs.Site.{siteOf, idIn};
 ghost use Rattle.trace_places.specs.Traces.{Traced, Traces};
 ghost use Rattle.going_back.specs.Back.{candidate};
 ghost use Rattle.going_back.specs.Walkable.{BodyAble};

@@ -21,7 +21,7 @@ use Rattle.link_index.specs.Slots.{Indexable}
 use Rattle.link_index.proofs.Fits.{indexable}
 use Rattle.body_rows.specs.Marks.{Starts}
 use Rattle.checks.specs.Given.{Given}
-use Rattle.ocl.specs.Site.{Site, siteOf, rowsAt}
+use Rattle.walks.specs.Site.{Site, siteOf, rowsAt}
 use Rattle.ocl.specs.Ready.{BodyReady}
 use Rattle.ocl.proofs.Bodies.{body-few, body-ready}
 use Rattle.full_search.specs.Search.{Clear}

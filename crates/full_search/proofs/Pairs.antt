@@ -21,10 +21,10 @@ use Rattle.tables.specs.declared.Counts.{Counts}
 use Rattle.register.specs.Tables.{objectPlace}
 use Rattle.register.proofs.Searches.{under-missing}
 use Rattle.register.proofs.Rows.{place-row}
-use Rattle.ocl.specs.Site.{Site, siteOf, typesAt, idIn}
-use Rattle.ocl.specs.Values.{truthOf}
-use Rattle.ocl.specs.Walks.{instancesFrom}
-use Rattle.ocl.proofs.Objects.{under-in, from-start, one-row, none-left}
+use Rattle.walks.specs.Site.{Site, siteOf, typesAt, idIn}
+use Rattle.walks.specs.Values.{truthOf}
+use Rattle.walks.specs.Walks.{instancesFrom}
+use Rattle.walks.proofs.Objects.{under-in, from-start, one-row, none-left}
 use Rattle.ocl.proofs.Bodies.{body-is}
 use Rattle.tables.specs.Answers.{answerOf}
 use Rattle.full_search.specs.Search.{found, brokenIn, brokenRow, Clear}

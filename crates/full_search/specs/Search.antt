@@ -11,8 +11,8 @@ use Rattle.tables.specs.Columns.{objectRow, bookOf, registerIn}
 use Rattle.tables.specs.declared.Counts.{Counts}
 use Rattle.link_index.specs.Slots.{Indexed}
 use Rattle.checks.specs.Given.{Given}
-use Rattle.ocl.specs.Site.{Site, typesAt}
-use Rattle.ocl.specs.Values.{truthOf}
+use Rattle.walks.specs.Site.{Site, typesAt}
+use Rattle.walks.specs.Values.{truthOf}
 
 -- "the first broken pair, lowest rule and then lowest id, or accepted"
 unfoldable pub found : Counts → Sheet → Answer

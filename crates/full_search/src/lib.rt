@@ -7,7 +7,7 @@ ghost use mathlib.Core.List.{[]};
 ghost use Prim.Native.Nat.{_<_};
 ghost use Rattle.tables.specs.Layouts.{sheetOf};
 ghost use Rattle.tables.specs.Answers.{answerOf};
-ghost use Rattle.ocl.specs.Site.{siteOf};
+ghost use Rattle.walks.specs.Site.{siteOf};
 ghost use Rattle.ocl.specs.Ready.{BodyReady};
 ghost use Rattle.full_search.specs.Search.{found, brokenRow, brokenIn, Clear};
 

@@ -6,7 +6,7 @@ use mathlib.Core.Bool.{Bool, true, false, _||_}
 use mathlib.Core.List.{List}
 use native.Mathlib.Omega.{arith}
 use lib.Dec.{T}
-use Rattle.ocl.specs.Site.{idIn}
+use Rattle.walks.specs.Site.{idIn}
 use Rattle.going_back.specs.Back.{Covered}
 use Rattle.row_sets.specs.Sets.{GrownBelow}
 use Rattle.row_sets.proofs.Tests.{one-true}

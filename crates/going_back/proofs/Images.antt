@@ -17,7 +17,7 @@ use Rattle.meaning.proofs.Registers.{instance-from, under-present}
 use Rattle.tables.specs.Columns.{registerOf}
 use Rattle.register.specs.Tables.{rowAt}
 use Rattle.register.proofs.Rows.{place-there, row-is}
-use Rattle.ocl.specs.Site.{idIn}
+use Rattle.walks.specs.Site.{idIn}
 use Rattle.ocl.specs.Ready.{Steady, scoped}
 use Rattle.going_back.specs.Back.{leadsInto, baseOf, turned, Covered}
 use Rattle.row_sets.proofs.Tests.{so-true, true-so, both-true}

@@ -8,7 +8,7 @@ use lib.ListN.{getD}
 use borrow.Author.Tests.{eqb-true}
 use Rattle.meaning.specs.Reach.{Change, Direction, up, down, roleMoves, allMoves, cellMoves, kindMoves, specialised}
 use Rattle.directions.specs.Sets.{has, someOf}
-use Rattle.ocl.specs.Site.{idIn}
+use Rattle.walks.specs.Site.{idIn}
 use Rattle.trace_places.specs.Questions.{asked, cellSet, joinedBy, partedBy, specialisedInto, generalisedFrom}
 use Rattle.reach.proofs.Leaves.{asked-set, asked-joined, asked-parted, asked-specialised, asked-generalised}
 use Rattle.reach.proofs.Nodes.{always}

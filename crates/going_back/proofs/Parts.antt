@@ -14,7 +14,7 @@ use Rattle.tables.specs.Bodies.{asCollection, ending, firstPart}
 use Rattle.directions.specs.Sets.{someOf}
 use Rattle.body_rows.specs.Marks.{firstSort, secondSort}
 use Rattle.event_marks.proofs.Nodes.{passTo}
-use Rattle.ocl.specs.Site.{Site, rowsAt, formAt, codeAt}
+use Rattle.walks.specs.Site.{Site, rowsAt, formAt, codeAt}
 use Rattle.reach.specs.Able.{Able}
 use Rattle.reach.proofs.Abilities.{whole, last-sound, op, sorts}
 use Rattle.going_back.specs.Back.{leadsInto, throughMembers, reachedBy, leafReached, Covered}

@@ -12,7 +12,7 @@ use Rattle.meaning.specs.Register.{instances, farEnds}
 use Rattle.meaning.specs.Forms.{Sort, collection, Form, compare, negate, connect, quantify, kind, num, cell, size, sum, combine, role, all, select, Rule}
 use Rattle.tables.specs.Bodies.{BodyRow, Part, part, asCollection, ending}
 use Rattle.directions.specs.Sets.{someOf}
-use Rattle.ocl.specs.Site.{idIn}
+use Rattle.walks.specs.Site.{idIn}
 use Rattle.meaning.specs.Reach.{Change, Direction, down, same, reversed, either, through, leftOf, rightOf, firstTruth, secondTruth, sourceOf, secondTerm, roleMoves, allMoves, cellMoves, kindMoves, broughtIn}
 
 -- With u for variable v, the collection below its selects has a member in the set. Over all objects of a type this does not depend on v and u.

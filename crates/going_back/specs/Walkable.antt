@@ -4,7 +4,7 @@ use mathlib.Core.Path.{_≡_}
 use mathlib.Core.List.{List}
 use lib.ListN.{length, getD}
 use Rattle.meaning.specs.Schema.{Schema}
-use Rattle.ocl.specs.Site.{Site}
+use Rattle.walks.specs.Site.{Site}
 use Rattle.reach.specs.Able.{Able, OverAble}
 
 -- the form that ends before row e, in which self is bound

@@ -24,7 +24,7 @@ ghost use Rattle.tables.specs.Columns.{registerOf};
 ghost use Rattle.tables.specs.Bodies.{reads, ending, asCollection};
 ghost use Rattle.body_rows.specs.Marks.{bodyOf, Starts};
 ghost use Rattle.directions.specs.Sets.{someOf};
-ghost use Rattle.ocl.specs.Site.{siteOf, formAt, idIn};
+ghost use Rattle.walks.specs.Site.{siteOf, formAt, idIn};
 ghost use Rattle.ocl.specs.Ready.{Ready};
 ghost use Rattle.trace_places.specs.Traces.{Traced, Traces};
 ghost use Rattle.reach.specs.Able.{LeafAble};

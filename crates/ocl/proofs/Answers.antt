@@ -18,18 +18,18 @@ use Rattle.rows.specs.Rows.{signed}
 use Rattle.tables.specs.Bodies.{BodyRow, asCollection, asTruth}
 use Rattle.tables.specs.Columns.{objectRow}
 use Rattle.number.specs.Comparing.{comparisonOf}
-use Rattle.ocl.specs.Site.{Site, typesAt, registerAt, rowsAt, formAt, codeAt, idIn, idsOf}
+use Rattle.walks.specs.Site.{Site, typesAt, registerAt, rowsAt, formAt, codeAt, idIn, idsOf}
 use Rattle.operators.specs.Operators.{connectiveOf, quantifierOf, arithmeticOf, stopping}
-use Rattle.ocl.specs.Values.{truthOf, numberOf, membersOf, cellIn, weightOf}
-use Rattle.ocl.specs.Walks.{Went, BegunIn, WalkedIn, Stepped, Anywhere, instancesFrom, farStep, leftIn, StandsIn, collectionAt, leftAt, Stands, Begun, Walked}
+use Rattle.walks.specs.Values.{truthOf, numberOf, membersOf, cellIn, weightOf}
+use Rattle.walks.specs.Walks.{Went, BegunIn, WalkedIn, Stepped, Anywhere, instancesFrom, farStep, leftIn, StandsIn, collectionAt, leftAt, Stands, Begun, Walked}
 use Rattle.ocl.specs.Ready.{Ready}
-use Rattle.ocl.specs.declared.Step.{Step}
-use Rattle.ocl.specs.declared.Step.the-variants.{At, Done}
-use Rattle.ocl.proofs.Objects.{under-in, cell-in}
+use Rattle.walks.specs.declared.Step.{Step}
+use Rattle.walks.specs.declared.Step.the-variants.{At, Done}
+use Rattle.walks.proofs.Objects.{under-in, cell-in}
 use Rattle.ocl.proofs.Loops.{quantified-none, quantified-stop, quantified-on, weighed, total-none, total-more}
 use Rattle.ocl.proofs.Nums.{members-few, number-within}
-use Rattle.ocl.proofs.Steps.{one-fewer}
-use Rattle.ocl.proofs.Walks.{role-begun, role-walked, word-low, all-begun, all-walked, select-left, select-begun, select-went, select-passed}
+use Rattle.walks.proofs.Steps.{one-fewer}
+use Rattle.walks.proofs.Walks.{role-begun, role-walked, word-low, all-begun, all-walked, select-left, select-begun, select-went, select-passed}
 use Rattle.ocl.proofs.Parts.{underOne, variable-is, under-row, truth-compare, truth-negate, truth-connect, truth-quantify, truth-kind, number-literal, number-cell, number-combine, number-total, role-is, all-is, select-is, role-scope, kind-scope, cell-scope}
 
 -- ---- truths

@@ -17,8 +17,8 @@ use Rattle.tables.specs.Bodies.{sortOf, sameSort, asTruth, wholeBody, readBody,
 use Rattle.tables.proofs.Forms.{whole-body, body-ending, body-none}
 use Rattle.link_index.specs.Slots.{Indexed}
 use Rattle.body_rows.specs.Marks.{Starts}
-use Rattle.ocl.specs.Site.{Site, typesAt, registerAt, rowsAt, formAt, idIn}
-use Rattle.ocl.specs.Values.{truthOf}
+use Rattle.walks.specs.Site.{Site, typesAt, registerAt, rowsAt, formAt, idIn}
+use Rattle.walks.specs.Values.{truthOf}
 use Rattle.ocl.specs.Ready.{scoped, BodyReady}
 use Rattle.ocl.proofs.Steady.{steady}
 use Rattle.ocl.proofs.Scopes.{in-scope}

@@ -17,9 +17,9 @@ use Rattle.tables.specs.Columns.{objectRow}
 use Rattle.tables.proofs.Readings.{is-number}
 use Rattle.tables.proofs.Forms.{partCount, count-read}
 use Rattle.schema.proofs.Rows.{length-rows}
-use Rattle.ocl.specs.Site.{Site, typesAt, registerAt, rowsAt, formAt, idsOf}
-use Rattle.ocl.specs.Values.{numberOf}
-use Rattle.ocl.specs.Walks.{collectionAt}
+use Rattle.walks.specs.Site.{Site, typesAt, registerAt, rowsAt, formAt, idsOf}
+use Rattle.walks.specs.Values.{numberOf}
+use Rattle.walks.specs.Walks.{collectionAt}
 use Rattle.ocl.specs.Ready.{scoped, Ready}
 use Rattle.ocl.proofs.Steady.{collections}
 

@@ -23,10 +23,10 @@ use Rattle.tables.specs.Codes.{Operator, comparing, negating, connecting, quant
 use Rattle.tables.specs.Bodies.{BodyRow, Part, asTruth, asNumber, asCollection, formOf, reads, ending}
 use Rattle.tables.proofs.Readings.{sound-pos}
 use Rattle.number.specs.Comparing.{comparisonOf}
-use Rattle.ocl.specs.Site.{Site, typesAt, registerAt, rowsAt, formAt, codeAt, idIn, idsOf}
+use Rattle.walks.specs.Site.{Site, typesAt, registerAt, rowsAt, formAt, codeAt, idIn, idsOf}
 use Rattle.operators.specs.Operators.{connectiveOf, quantifierOf, arithmeticOf}
-use Rattle.ocl.specs.Values.{truthOf, numberOf, membersOf}
-use Rattle.ocl.specs.Walks.{collectionAt}
+use Rattle.walks.specs.Values.{truthOf, numberOf, membersOf}
+use Rattle.walks.specs.Walks.{collectionAt}
 use Rattle.ocl.specs.Ready.{scoped, scopedAs, Ready}
 use Rattle.ocl.proofs.Variables.{bound-at, one-more}
 use Rattle.ocl.proofs.Loops.{weighed, ones}

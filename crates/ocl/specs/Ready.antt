@@ -12,7 +12,7 @@ use Rattle.meaning.specs.Forms.{Sort, truth, number, collection, Form, compare,
 use Rattle.meaning.specs.Lists.{_∈_, Ascending, Before}
 use Rattle.tables.specs.Bodies.{Part, asTruth, asNumber, asCollection, reads, ending}
 use Rattle.link_index.specs.Slots.{Indexed}
-use Rattle.ocl.specs.Site.{Site, registerAt, rowsAt, formAt}
+use Rattle.walks.specs.Site.{Site, registerAt, rowsAt, formAt}
 
 -- Of a register that fits its schema: objects and the ends of links ascend, the ends are there, and cells are words.
 pub record Steady (g : Register) : Type 0 where

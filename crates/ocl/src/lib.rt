@@ -1,34 +1,27 @@
 // The evaluators of rule bodies over an indexed register. Variables stand for objects by their rows.
-mod walk;
-
 use body_rows::body::field;
 use operators::operators::decided;
 use operators::operators::joined;
 use operators::operators::stops;
 use tables::Counts;
-use walk::cell_value;
-use walk::next_far;
-use walk::next_instance;
-use walk::start_of;
-use walk::variable;
-use walk::weight;
+use walks::Step;
+use walks::cell_value;
+use walks::next_far;
+use walks::next_instance;
+use walks::start_of;
+use walks::variable;
+use walks::weight;
 ghost use mathlib.Core.Path.{_≡_};
 ghost use mathlib.Core.List.{[], _∷_};
 ghost use Prim.Native.Nat.{_<_, _≤_};
 ghost use Rattle.meaning.specs.Forms.{truth, number, collection};
-ghost use Rattle.ocl.specs.Site.{Site, siteOf, codeAt};
-ghost use Rattle.ocl.specs.Values.{truthOf, numberOf};
-ghost use Rattle.ocl.specs.Walks.{Begun, Stands, Walked};
+ghost use Rattle.walks.specs.Site.{Site, siteOf, codeAt};
+ghost use Rattle.walks.specs.Values.{truthOf, numberOf};
+ghost use Rattle.walks.specs.Walks.{Begun, Stands, Walked};
 ghost use Rattle.ocl.specs.Ready.{Ready, BodyReady};
 
 // Where a form of a body ends: its rule, the row after its last one, and how many variables are bound there.
 pub struct Place(pub u32, pub u32, pub u32);
-
-// A step of a walk over a collection: the row of the next member and the word at which the walk goes on; or there is none left.
-pub enum Step {
-    At(u32, u32),
-    Done,
-}
 
 // Whether the truth that ends before the place holds.
 pub fn truth(

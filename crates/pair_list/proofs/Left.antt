@@ -23,7 +23,7 @@ use Rattle.tables.specs.Columns.{bookOf, registerIn}
 use Rattle.tables.specs.Answers.{answerOf}
 use Rattle.tables.specs.declared.Counts.{Counts}
 use Rattle.tables.specs.declared.Answer.the-variants.{Accepted, Broken}
-use Rattle.ocl.specs.Site.{siteOf, idIn}
+use Rattle.walks.specs.Site.{siteOf, idIn}
 use Rattle.full_search.specs.Search.{brokenRow, Clear}
 use Rattle.full_search.proofs.Pairs.{pair-row}
 use Rattle.pair_list.specs.Pairs.{pairAt, pairsOf, Chosen}

@@ -10,7 +10,7 @@ use Rattle.meaning.specs.Limits.{maxObjects}
 use Rattle.meaning.specs.Reach.{Pair, pairOf, pairKey}
 use Rattle.rows.specs.Rows.{inFront}
 use Rattle.rows.proofs.Fronts.{front-more}
-use Rattle.ocl.specs.Site.{idIn}
+use Rattle.walks.specs.Site.{idIn}
 use Rattle.pair_list.specs.Pairs.{pairAt, pairsOf, pairWords}
 
 pub words-more : (ps qs : List Pair) → pairWords (ps ++ qs) ≡ pairWords ps ++ pairWords qs

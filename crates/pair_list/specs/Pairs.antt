@@ -6,7 +6,7 @@ use mathlib.Core.List.{List, map, flatMap}
 use lib.ListN.{length, getD, take}
 use Rattle.meaning.specs.Limits.{maxObjects, maxRules}
 use Rattle.meaning.specs.Reach.{Pair, pairOf, pairKey}
-use Rattle.ocl.specs.Site.{idIn}
+use Rattle.walks.specs.Site.{idIn}
 use Rattle.tables.specs.declared.Counts.{Counts}
 
 -- rule · 1,024 + the object's row

@@ -13,7 +13,7 @@ ghost use Rattle.rows.specs.Rows.{inFront};
 ghost use Rattle.tables.specs.Layouts.{sheetOf};
 ghost use Rattle.tables.specs.Columns.{bookOf, registerIn};
 ghost use Rattle.tables.specs.Answers.{answerOf};
-ghost use Rattle.ocl.specs.Site.{idIn};
+ghost use Rattle.walks.specs.Site.{idIn};
 ghost use Rattle.full_search.specs.Search.{Clear};
 ghost use Rattle.pair_list.specs.Pairs.{pairsOf, pairWords, Chosen};
 

@@ -19,7 +19,7 @@ use Rattle.link_index.specs.Chains.{lead, slotWord}
 use Rattle.link_index.proofs.Chains.{Lead, lead-some, lead-none}
 use Rattle.register.proofs.Hits.{hit-some}
 use Rattle.register.proofs.Rows.{guessed-place}
-use Rattle.ocl.specs.Site.{idIn}
+use Rattle.walks.specs.Site.{idIn}
 use Rattle.trace_places.specs.Questions.{Question, answers, asked, answersAt}
 use Rattle.trace_places.specs.Traces.{itself, placeAnswers, namedAt, orPast, rowNamed, placeRow, thereWord, metWord, Traced}
 use Rattle.trace_places.proofs.Questions.{names, step-places}

@@ -7,7 +7,7 @@ ghost use Prim.Native.Nat.{ℕ, _/_, _%_, _≤_, _<_};
 ghost use lib.Dec.{eqb};
 ghost use Rattle.meaning.specs.Reach.{Change};
 ghost use Rattle.tables.specs.Columns.{typesOf, eventOf, eventRow};
-ghost use Rattle.ocl.specs.Site.{idIn};
+ghost use Rattle.walks.specs.Site.{idIn};
 ghost use Rattle.trace_places.specs.Questions.{asked, questionOf, answersAt};
 ghost use Rattle.trace_places.specs.Traces.{thereWord, metWord, Traced, Traces};
 

@@ -21,7 +21,7 @@ use Rattle.tables.proofs.Readings.{ending-start, sound-pos, code-of}
 use Rattle.body_rows.specs.Marks.{firstSort, secondSort}
 use Rattle.book.specs.Types.{typedPart, memberOf, summed, typedLeaf}
 use Rattle.book.proofs.Types.{operatorHere, partsHere, coded-here, second-here, first-here, binds-here, leaf-here, one-here, plain-here, bound-here, fails-here}
-use Rattle.ocl.specs.Site.{Site, rowsAt, formAt, codeAt}
+use Rattle.walks.specs.Site.{Site, rowsAt, formAt, codeAt}
 use Rattle.ocl.specs.Ready.{scopedAs, Ready}
 use Rattle.ocl.proofs.Scopes.{in-scope}
 use Rattle.reach.specs.Able.{Able, LeafAble, OverAble}

@@ -15,8 +15,8 @@ use Rattle.tables.specs.Bodies.{Part, asCollection, ending, firstPart, secondPa
 use Rattle.directions.specs.Sets.{someOf}
 use Rattle.body_rows.specs.Marks.{firstSort, secondSort}
 use Rattle.event_marks.proofs.Nodes.{passTo}
-use Rattle.ocl.specs.Site.{Site, typesAt, registerAt, rowsAt, formAt, codeAt, idsOf}
-use Rattle.ocl.specs.Values.{membersOf}
+use Rattle.walks.specs.Site.{Site, typesAt, registerAt, rowsAt, formAt, codeAt, idsOf}
+use Rattle.walks.specs.Values.{membersOf}
 use Rattle.trace_places.specs.Traces.{Traced}
 use Rattle.reach.specs.Moves.{movedBy, leafMoves, movesAt, movesOver}
 use Rattle.reach.specs.Able.{Able}

@@ -10,8 +10,8 @@ use Rattle.meaning.specs.Reach.{Change, Direction, up, down, roleMoves, allMove
 use Rattle.tables.specs.Columns.{objectRow, typesOf}
 use Rattle.tables.specs.declared.Counts.{Counts}
 use Rattle.directions.specs.Sets.{has, someOf}
-use Rattle.ocl.specs.Site.{idIn}
-use Rattle.ocl.proofs.Objects.{under-in}
+use Rattle.walks.specs.Site.{idIn}
+use Rattle.walks.proofs.Objects.{under-in}
 use Rattle.trace_places.specs.Questions.{answers, asked, cellSet, joinedBy, partedBy, insertedInto, specialisedInto, generalisedFrom}
 use Rattle.trace_places.specs.Traces.{Traced}
 use Rattle.reach.specs.Moves.{leafMoves}

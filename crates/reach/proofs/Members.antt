@@ -4,9 +4,9 @@ use mathlib.Core.Path.{_≡_, refl, sym, ap, _∙_}
 use mathlib.Core.Bool.{Bool, true, false, _||_}
 use mathlib.Core.List.{List, [], _∷_}
 use Rattle.meaning.specs.Lists.{any}
-use Rattle.ocl.specs.Site.{Site, idIn}
-use Rattle.ocl.specs.Values.{membersOf}
-use Rattle.ocl.specs.Walks.{leftAt, Stands, Begun, Went}
+use Rattle.walks.specs.Site.{Site, idIn}
+use Rattle.walks.specs.Values.{membersOf}
+use Rattle.walks.specs.Walks.{leftAt, Stands, Begun, Went}
 
 module _ (w : Site) (e : ℕ) (vars : List ℕ) (depth : ℕ) (test : ℕ → Bool) where
   -- no member that the walk has passed does

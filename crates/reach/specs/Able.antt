@@ -10,7 +10,7 @@ use Rattle.meaning.specs.Forms.{collection}
 use Rattle.tables.specs.Bodies.{ending}
 use Rattle.link_index.specs.Slots.{Indexed}
 use Rattle.book.specs.Types.{typedPart}
-use Rattle.ocl.specs.Site.{Site, typesAt, registerAt, rowsAt, formAt}
+use Rattle.walks.specs.Site.{Site, typesAt, registerAt, rowsAt, formAt}
 use Rattle.ocl.specs.Ready.{Steady, Ready}
 
 -- The form that ends before row e is there, of whichever sort, and well typed by the types of the first `depth` variables, which hold rows of objects.

@@ -9,7 +9,7 @@ use Rattle.meaning.specs.Forms.{bind, variable}
 use Rattle.meaning.specs.Reach.{Change, Direction, roleMoves, allMoves, cellMoves, kindMoves, moves}
 use Rattle.tables.specs.Bodies.{Part, part}
 use Rattle.directions.specs.Sets.{someOf}
-use Rattle.ocl.specs.Site.{Site, formAt, idsOf}
+use Rattle.walks.specs.Site.{Site, formAt, idsOf}
 
 -- a form of any sort moves in a direction
 unfoldable pub partMoves : Change → Part → List ℕ → Direction → Bool

@@ -13,9 +13,9 @@ use Rattle.meaning.specs.Meaning.{meaning}
 use Rattle.link_index.specs.Slots.{Indexed}
 use Rattle.register.proofs.Rows.{own-place}
 use Rattle.register.specs.Tables.{objectPlace}
-use Rattle.ocl.specs.Site.{Site, registerAt, idIn, idsOf}
-use Rattle.ocl.specs.Walks.{leftIn, StandsIn, Went}
-use Rattle.ocl.proofs.Walks.{role-begun, role-walked, word-low}
+use Rattle.walks.specs.Site.{Site, registerAt, idIn, idsOf}
+use Rattle.walks.specs.Walks.{leftIn, StandsIn, Went}
+use Rattle.walks.proofs.Walks.{role-begun, role-walked, word-low}
 
 module _ (w : Site) (r row : ℕ) where
   abbrev vars : List ℕ

@@ -13,7 +13,7 @@ ghost use Rattle.tables.specs.Columns.{typesOf, registerOf};
 ghost use Rattle.directions.specs.Sets.{has};
 ghost use Rattle.link_index.specs.Slots.{Indexed};
 ghost use Rattle.ocl.specs.Ready.{Steady};
-ghost use Rattle.ocl.specs.Site.{idIn};
+ghost use Rattle.walks.specs.Site.{idIn};
 ghost use Rattle.trace_places.specs.Questions.{asked, questionOf};
 ghost use Rattle.trace_places.specs.Traces.{placeAnswers, Traced, Traces};
 ghost use Rattle.row_sets.specs.Sets.{Grown, Cleared};

@@ -15,7 +15,7 @@ use Rattle.tables.specs.Bodies.{wholeBody, readBody, part}
 use Rattle.tables.specs.Columns.{typesOf, objectRow, ruleRow}
 use Rattle.tables.specs.declared.Counts.{Counts}
 use Rattle.body_rows.specs.Marks.{bodyOf}
-use Rattle.ocl.specs.Site.{Site, siteOf, rowsAt, formAt, idIn}
+use Rattle.walks.specs.Site.{Site, siteOf, rowsAt, formAt, idIn}
 use Rattle.trace_places.specs.Questions.{asked, insertedInto}
 use Rattle.trace_places.specs.Traces.{Traced}
 use Rattle.reach.specs.Moves.{partMoves, movesAt}

@@ -13,7 +13,7 @@ use Rattle.tables.specs.Bodies.{wholeBody}
 use Rattle.tables.specs.Columns.{ruleRow}
 use Rattle.tables.specs.declared.Counts.{Counts}
 use Rattle.body_rows.specs.Marks.{bodyOf}
-use Rattle.ocl.specs.Site.{siteOf, idIn}
+use Rattle.walks.specs.Site.{siteOf, idIn}
 use Rattle.trace_places.specs.Traces.{Traced}
 use Rattle.going_back.specs.Back.{candidate}
 use Rattle.going_back.specs.Walkable.{BodyAble}

@@ -9,7 +9,7 @@ ghost use mathlib.Core.Bool.{_&&_, _||_, not};
 ghost use Prim.Native.Nat.{_<_};
 ghost use Rattle.meaning.specs.Reach.{Change, quiet, inserted, specialised, selected};
 ghost use Rattle.tables.specs.Columns.{ruleRow};
-ghost use Rattle.ocl.specs.Site.{idIn};
+ghost use Rattle.walks.specs.Site.{idIn};
 ghost use Rattle.trace_places.specs.Traces.{Traced, Traces};
 ghost use Rattle.selected.specs.Ready.{RuleReady, TypedBy, Marked};
 

@@ -19,9 +19,9 @@ use Rattle.rows.specs.Rows.{rowsFrom, readRows}
 use Rattle.schema.proofs.Rows.{row-there}
 use Rattle.tables.specs.Columns.{objectRow, ruleRow, rulesOf, registerOf}
 use Rattle.register.specs.Tables.{ObjectsAscend}
-use Rattle.ocl.specs.Site.{idIn}
-use Rattle.ocl.specs.Walks.{instancesFrom}
-use Rattle.ocl.proofs.Objects.{under-in, from-start, one-row, none-left}
+use Rattle.walks.specs.Site.{idIn}
+use Rattle.walks.specs.Walks.{instancesFrom}
+use Rattle.walks.proofs.Objects.{under-in, from-start, one-row, none-left}
 use Rattle.pair_list.specs.Pairs.{codeOf, pairAt}
 use Rattle.selection.specs.Selected.{selectedRows, ruleCodes}
 

@@ -13,7 +13,7 @@ use Rattle.tables.specs.Columns.{ruleRow, bookOf}
 use Rattle.tables.specs.declared.Counts.{Counts}
 use Rattle.tables.proofs.Forms.{whole-body}
 use Rattle.body_rows.specs.Marks.{bodyOf, Starts}
-use Rattle.ocl.specs.Site.{siteOf}
+use Rattle.walks.specs.Site.{siteOf}
 use Rattle.full_search.specs.Search.{Clear}
 use Rattle.full_search.proofs.Given.{typed, register-fits}
 use Rattle.candidates.proofs.Rules.{body-form, rule-able}

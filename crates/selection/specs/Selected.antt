@@ -6,7 +6,7 @@ use Rattle.meaning.specs.Forms.{Rule}
 use Rattle.meaning.specs.Reach.{Change, selected}
 use Rattle.rows.specs.Rows.{readRows}
 use Rattle.tables.specs.Columns.{ruleRow}
-use Rattle.ocl.specs.Site.{idIn}
+use Rattle.walks.specs.Site.{idIn}
 use Rattle.pair_list.specs.Pairs.{codeOf}
 
 -- ascending, among the first m rows

@@ -3,7 +3,7 @@ use mathlib.Core.Path.{_∙_}
 use mathlib.Core.Logic.{⊎-elim}
 use denote.Ref.{now}
 use Rattle.meaning.specs.Reach.{inserted, specialised}
-use Rattle.ocl.specs.Site.{idIn}
+use Rattle.walks.specs.Site.{idIn}
 use Rattle.reach.proofs.Leaves.{asked-inserted, asked-specialised}
 use Rattle.row_sets.proofs.Tests.{one-true}
 use borrow.Author.Needs.{needs}

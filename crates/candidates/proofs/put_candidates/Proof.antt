@@ -7,7 +7,7 @@ use native.Mathlib.Omega.{arith}
 use lib.ListN.{replicate}
 use denote.Ref.{now}
 use Rattle.meaning.specs.Reach.{inserted, specialised}
-use Rattle.ocl.specs.Site.{Site, siteOf, formAt, idIn}
+use Rattle.walks.specs.Site.{Site, siteOf, formAt, idIn}
 use Rattle.reach.specs.Able.{Able}
 use Rattle.going_back.specs.Back.{reachedBy}
 use Rattle.going_back.specs.Walkable.{Walkable}

@@ -7,7 +7,7 @@ use lib.ListN.{getD}
 use borrow.Fn.Kinds.{In}
 use borrow.Fn.PlainCycle.{Measures, is, falls, and}
 use Rattle.meaning.specs.Forms.{collection}
-use Rattle.ocl.specs.Site.{Site, siteOf, codeAt}
+use Rattle.walks.specs.Site.{Site, siteOf, codeAt}
 use Rattle.ocl.specs.Ready.{Ready}
 use Rattle.ocl.proofs.Parts.{positive, shallow, role-scope, is-select, select-parts}
 use Rattle.ocl.proofs.Answers.{role-began, all-began, select-began}
@@ -15,8 +15,8 @@ use Rattle.ocl.proofs.begin.Reads as begin
 use Rattle.ocl.proofs.begin.Kinds as begin-kinds
 use Rattle.ocl.proofs.+begin.Lts-begin as begin-lts
 use Rattle.body_rows.proofs.body.field.Reads as field-reads
-use Rattle.ocl.proofs.walk.start_of.Reads as start-of-reads
-use Rattle.ocl.proofs.walk.variable.Reads as variable-reads
+use Rattle.walks.proofs.start_of.Reads as start-of-reads
+use Rattle.walks.proofs.variable.Reads as variable-reads
 use Rattle.link_index.proofs.first_slot.Reads as first-slot-reads
 use Rattle.ocl.proofs.+begin.{statement}
 use Rattle.ocl.proofs.+begin.Tie.{close}

@@ -16,13 +16,13 @@ use lib.IntN.{pos}
 use Rattle.meaning.specs.Forms as Forms
 use Rattle.meaning.specs.Meaning.{quantified as quantifiedBy}
 use Rattle.meaning.specs.Lists.{keep}
-use Rattle.ocl.specs.Site.{Site, siteOf, codeAt, idIn}
+use Rattle.walks.specs.Site.{Site, siteOf, codeAt, idIn}
 use Rattle.operators.specs.Operators.{quantifierOf}
-use Rattle.ocl.specs.Values.{truthOf}
-use Rattle.ocl.specs.Walks.{leftAt, Stands, Went}
+use Rattle.walks.specs.Values.{truthOf}
+use Rattle.walks.specs.Walks.{leftAt, Stands, Went}
 use Rattle.ocl.specs.Ready.{Ready}
 use Rattle.ocl.proofs.Codes.{above-cell}
-use Rattle.ocl.proofs.Steps.{stepped-done, stepped-at, fewer-left}
+use Rattle.walks.proofs.Steps.{stepped-done, stepped-at, fewer-left}
 use Rattle.ocl.proofs.Parts.{positive, shallow, underOne, compare-parts, connect-parts, quantify-parts, combine-parts, select-parts, negate-part, total-part, kind-code, kind-scope, number-codes, cell-scope, is-select}
 use Rattle.ocl.proofs.Answers.{compare-made, negate-made, connect-early, connect-made, kind-made, quantify-starts, quantify-ends, quantify-stops, quantify-goes-on, literal-made, cell-made, add-made, subtract-made, value-fits}
 use Rattle.ocl.proofs.Answers.{role-stepped, role-low, all-stepped, select-stands, select-starts, select-ends, select-stops, select-goes-on, Summed, sum-starts, sum-ends, sum-fits, weight-fits, sum-goes-on}
@@ -62,12 +62,12 @@ use Rattle.ocl.proofs.begin.Reads as begin-reads
 use Rattle.operators.proofs.operators.decided.Reads as decided-reads
 use Rattle.operators.proofs.operators.joined.Reads as joined-reads
 use Rattle.operators.proofs.operators.stops.Reads as stops-reads
-use Rattle.ocl.proofs.walk.cell_value.Reads as cell-value-reads
-use Rattle.ocl.proofs.walk.next_far.Reads as next-far-reads
-use Rattle.ocl.proofs.walk.next_instance.Reads as next-instance-reads
-use Rattle.ocl.proofs.walk.start_of.Reads as start-of-reads
-use Rattle.ocl.proofs.walk.variable.Reads as variable-reads
-use Rattle.ocl.proofs.walk.weight.Reads as weight-reads
+use Rattle.walks.proofs.cell_value.Reads as cell-value-reads
+use Rattle.walks.proofs.next_far.Reads as next-far-reads
+use Rattle.walks.proofs.next_instance.Reads as next-instance-reads
+use Rattle.walks.proofs.start_of.Reads as start-of-reads
+use Rattle.walks.proofs.variable.Reads as variable-reads
+use Rattle.walks.proofs.weight.Reads as weight-reads
 use Rattle.register.proofs.columns.type_of.Reads as type-of-reads
 use Rattle.schema.proofs.under.Reads as under-reads
 use Rattle.ocl.proofs.+combination+comparison+connection+next+next_selected+quantified+totalled+truth+value.{statement}

@@ -1,7 +1,7 @@
 -- `ocl::holds_at` meets its contract: the truth of the whole body, with one variable bound.
 use mathlib.Core.Path.{refl}
 use borrow.Author.Needs.{needs}
-use Rattle.ocl.specs.Values.{truthOf}
+use Rattle.walks.specs.Values.{truthOf}
 use Rattle.ocl.proofs.holds_at.Statement.{statement}
 use Rattle.ocl.proofs.holds_at.Tie as tie
 

@@ -3,7 +3,7 @@ use Prim.Native.Nat.{_-_, _/_, _%_, _≤_, _<_}
 use mathlib.Core.Path.{_≡_, sym, ap, subst, _∙_}
 use native.Mathlib.Omega.{arith}
 use Rattle.rows.specs.Rows.{inFront}
-use Rattle.ocl.specs.Site.{idIn}
+use Rattle.walks.specs.Site.{idIn}
 use Rattle.pair_list.specs.Pairs.{pairsOf, pairWords}
 use Rattle.pair_list.proofs.Words.{Written, written-none, written-one}
 use borrow.Author.Needs.{needs}

@@ -22,10 +22,10 @@ use Rattle.body_rows.specs.Marks.{firstSort, secondSort}
 use Rattle.book.proofs.Types.{code-here, sums-here}
 use Rattle.directions.proofs.Passes.{pass-small}
 use Rattle.event_marks.proofs.Nodes.{passTo}
-use Rattle.ocl.specs.Site.{Site, siteOf, rowsAt, formAt, codeAt, idIn, idsOf}
-use Rattle.ocl.specs.Values.{membersOf}
-use Rattle.ocl.specs.Walks.{leftAt, Stands}
-use Rattle.ocl.proofs.Steps.{fewer-left}
+use Rattle.walks.specs.Site.{Site, siteOf, rowsAt, formAt, codeAt, idIn, idsOf}
+use Rattle.walks.specs.Values.{membersOf}
+use Rattle.walks.specs.Walks.{leftAt, Stands}
+use Rattle.walks.proofs.Steps.{fewer-left}
 use Rattle.ocl.proofs.Variables.{one-more}
 use Rattle.trace_places.specs.Traces.{Traced, Traces}
 use Rattle.reach.specs.Moves.{movedBy, movesAt, movesOver}

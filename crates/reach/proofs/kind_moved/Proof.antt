@@ -6,7 +6,7 @@ use denote.Ref.{now}
 use Rattle.meaning.specs.Schema.{under}
 use Rattle.meaning.specs.Reach.{kindMoves}
 use Rattle.tables.specs.Columns.{typesOf}
-use Rattle.ocl.specs.Site.{idIn}
+use Rattle.walks.specs.Site.{idIn}
 use Rattle.reach.proofs.Leaves.{first-way, second-way, asked-kind, asked-generalised}
 use borrow.Author.Needs.{needs}
 use Rattle.reach.proofs.kind_moved.Statement.{statement}

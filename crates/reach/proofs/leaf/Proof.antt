@@ -8,7 +8,7 @@ use denote.Ref.{now}
 use Rattle.meaning.specs.Forms.{variable}
 use Rattle.meaning.specs.Reach.{roleMoves, cellMoves, kindMoves}
 use Rattle.directions.specs.Sets.{someOf}
-use Rattle.ocl.specs.Site.{idIn}
+use Rattle.walks.specs.Site.{idIn}
 use Rattle.ocl.proofs.Variables.{bound-at}
 use Rattle.reach.specs.Moves.{leafMoves}
 use Rattle.reach.proofs.Leaves.{asked-set, leaf-all, leaf-num, leaf-cell, leaf-role, leaf-kind}

@@ -8,9 +8,9 @@ use lib.ListN.{length}
 use denote.Ref.{now}
 use borrow.Author.Needs.{needs}
 use Rattle.meaning.specs.Reach.{Change, cellMoves}
-use Rattle.ocl.specs.Site.{Site, siteOf}
-use Rattle.ocl.specs.Walks.{leftAt, Stands}
-use Rattle.ocl.proofs.Steps.{fewer-left}
+use Rattle.walks.specs.Site.{Site, siteOf}
+use Rattle.walks.specs.Walks.{leftAt, Stands}
+use Rattle.walks.proofs.Steps.{fewer-left}
 use Rattle.trace_places.specs.Traces.{Traced}
 use Rattle.reach.proofs.Leaves.{asked-set}
 use Rattle.reach.proofs.Members.{Left, any-starts, any-ends, any-stops, any-goes-on}

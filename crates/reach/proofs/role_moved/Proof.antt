@@ -3,7 +3,7 @@ use mathlib.Core.Path.{ap₂, _∙_}
 use mathlib.Core.Bool.{_&&_}
 use denote.Ref.{now}
 use Rattle.meaning.specs.Reach.{roleMoves}
-use Rattle.ocl.specs.Site.{idIn}
+use Rattle.walks.specs.Site.{idIn}
 use Rattle.reach.proofs.Leaves.{first-way, second-way, asked-joined, asked-parted}
 use borrow.Author.Needs.{needs}
 use Rattle.reach.proofs.role_moved.Statement.{statement}

@@ -11,7 +11,7 @@ use Rattle.meaning.specs.Lists.{_∈_}
 use Rattle.meaning.specs.Register.{farEnds}
 use Rattle.tables.specs.Columns.{registerOf}
 use Rattle.tables.specs.declared.Counts.{Counts}
-use Rattle.ocl.specs.Site.{idIn}
+use Rattle.walks.specs.Site.{idIn}
 use Rattle.row_sets.specs.Sets.{Grown}
 use Rattle.row_sets.proofs.Growth.{grown-none, grown-then}
 use Rattle.row_sets.proofs.put_back.Statement.{statement}

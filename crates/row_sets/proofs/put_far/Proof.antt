@@ -10,8 +10,8 @@ use denote.Ref.{now}
 use Rattle.meaning.specs.Lists.{Ascending}
 use Rattle.meaning.specs.Register.{farEnds}
 use Rattle.tables.specs.declared.Counts.{Counts}
-use Rattle.ocl.specs.Site.{Site, siteOf, registerAt, idIn}
-use Rattle.ocl.proofs.Steps.{fewer-left}
+use Rattle.walks.specs.Site.{Site, siteOf, registerAt, idIn}
+use Rattle.walks.proofs.Steps.{fewer-left}
 use Rattle.row_sets.specs.Sets.{Grown}
 use Rattle.row_sets.proofs.Growth.{grown-none, grown-then}
 use Rattle.row_sets.proofs.Fars.{left, FarWalk, far-starts, far-low, far-ends, went, far-goes-on}

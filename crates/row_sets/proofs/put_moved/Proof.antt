@@ -6,7 +6,7 @@ use mathlib.Core.Logic.{⊎-elim}
 use denote.Ref.{now}
 use Rattle.meaning.specs.Reach.{up, down}
 use Rattle.directions.specs.Sets.{has}
-use Rattle.ocl.specs.Site.{idIn}
+use Rattle.walks.specs.Site.{idIn}
 use Rattle.trace_places.specs.Questions.{asked, questionOf}
 use Rattle.row_sets.proofs.Tests.{one-true}
 use Rattle.row_sets.proofs.Growth.{grown-then}

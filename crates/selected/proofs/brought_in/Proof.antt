@@ -1,7 +1,7 @@
 -- `selected::brought_in` meets its contract.
 use mathlib.Core.Path.{sym, _∙_}
 use denote.Ref.{now}
-use Rattle.ocl.specs.Site.{idIn}
+use Rattle.walks.specs.Site.{idIn}
 use Rattle.reach.proofs.Leaves.{asked-specialised}
 use Rattle.selected.proofs.Asked.{first-holds, second-decides, asked-insert}
 use borrow.Author.Needs.{needs}

@@ -8,7 +8,7 @@ use denote.Ref.{now}
 use lib.ListN.{length, take}
 use Rattle.meaning.specs.Reach.{Change, selected}
 use Rattle.tables.specs.Columns.{ruleRow}
-use Rattle.ocl.specs.Site.{idIn}
+use Rattle.walks.specs.Site.{idIn}
 use Rattle.trace_places.specs.Traces.{Traced}
 use Rattle.selection.specs.Selected.{selectedRows}
 use Rattle.selected.specs.Ready.{TypedBy}

@@ -4,8 +4,8 @@ use mathlib.Core.Path.{_≡_, refl, sym, ap, subst, subst₂, _∙_}
 use mathlib.Core.List.{List, []}
 use native.Mathlib.Omega.{arith}
 use lib.ListN.{length}
-use Rattle.ocl.specs.Walks.{Went, Stepped}
-use Rattle.ocl.specs.declared.Step.the-variants.{At, Done}
+use Rattle.walks.specs.Walks.{Went, Stepped}
+use Rattle.walks.specs.declared.Step.the-variants.{At, Done}
 
 module _ {objects : List ℕ} {count : ℕ} {left : ℕ → List ℕ} {May : ℕ → Type 0} {word : ℕ} where
   pub stepped-done : left word ≡ [] → Stepped objects count left May word Done

@@ -15,13 +15,13 @@ use Rattle.meaning.specs.Forms.{truth, collection, Form, role, all, select, bin
 use Rattle.meaning.specs.Meaning.{meaning}
 use Rattle.link_index.specs.Slots.{farId, Place, Indexed}
 use Rattle.link_index.proofs.Walk.{first-placed, first-far, place-slot, far-there, far-member, next-placed, next-far}
-use Rattle.ocl.specs.Site.{Site, typesAt, registerAt, idIn, idsOf}
-use Rattle.ocl.specs.Walks.{idFrom, isFrom, leftIn, instancesFrom, StandsIn, Anywhere, BegunIn, Went, Stepped, WalkedIn, farStep}
-use Rattle.ocl.specs.declared.Step.{Step}
-use Rattle.ocl.specs.declared.Step.the-variants.{At, Done}
-use Rattle.ocl.proofs.Members.{keep-all, keep-none, keep-swap, from-first, from-member}
-use Rattle.ocl.proofs.Objects.{left-from, from-start}
-use Rattle.ocl.proofs.Steps.{stepped-done, stepped-at}
+use Rattle.walks.specs.Site.{Site, typesAt, registerAt, idIn, idsOf}
+use Rattle.walks.specs.Walks.{idFrom, isFrom, leftIn, instancesFrom, StandsIn, Anywhere, BegunIn, Went, Stepped, WalkedIn, farStep}
+use Rattle.walks.specs.declared.Step.{Step}
+use Rattle.walks.specs.declared.Step.the-variants.{At, Done}
+use Rattle.walks.proofs.Members.{keep-all, keep-none, keep-swap, from-first, from-member}
+use Rattle.walks.proofs.Objects.{left-from, from-start}
+use Rattle.walks.proofs.Steps.{stepped-done, stepped-at}
 
 -- ---- along a role from the object of a variable
 

@@ -1,11 +1,16 @@
-// Variables and members by the rows of their objects.
-use crate::Step;
+// Variables and members by the rows of their objects, and the steps of a walk over members.
 ghost use mathlib.Core.Path.{_≡_};
 ghost use Prim.Native.Nat.{_<_, _≤_};
 ghost use lib.ListN.{getD};
 ghost use Rattle.tables.specs.Columns.{typesOf};
-ghost use Rattle.ocl.specs.Values.{cellIn, weightOf};
-ghost use Rattle.ocl.specs.Walks.{farStep, instancesFrom, Stepped, Anywhere};
+ghost use Rattle.walks.specs.Values.{cellIn, weightOf};
+ghost use Rattle.walks.specs.Walks.{farStep, instancesFrom, Stepped, Anywhere};
+
+// A step of a walk over a collection: the row of the next member and the word at which the walk goes on; or there is none left.
+pub enum Step {
+    At(u32, u32),
+    Done,
+}
 
 // The row of the object that a variable stands for.
 pub fn variable(vars: &[u32; 64], v: u32) -> u32

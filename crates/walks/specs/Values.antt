@@ -8,7 +8,7 @@ use Rattle.meaning.specs.Limits.{cellCount}
 use Rattle.meaning.specs.Meaning.{meaning}
 use Rattle.rows.specs.Rows.{wordAt, signed}
 use Rattle.tables.specs.Bodies.{asTruth, asNumber, asCollection}
-use Rattle.ocl.specs.Site.{Site, typesAt, registerAt, formAt, idsOf}
+use Rattle.walks.specs.Site.{Site, typesAt, registerAt, formAt, idsOf}
 
 unfoldable pub truthOf : Site → ℕ → List ℕ → ℕ → Bool
 truthOf w e vars depth = meaning (typesAt w) (registerAt w) (asTruth (formAt w e)) (idsOf w depth vars)

@@ -1,4 +1,4 @@
--- `ocl::walk::cell_value` meets its contract: the word of the cell, and 0 where there is no such cell.
+-- `walks::cell_value` meets its contract: the word of the cell, and 0 where there is no such cell.
 use Prim.Native.Nat.{ℕ}
 use mathlib.Core.Path.{_≡_, refl, ap, _∙_}
 use mathlib.Core.Bool.{Bool, true, false, cond}
@@ -10,9 +10,9 @@ use borrow.Author.Needs.{needs}
 use Rattle.meaning.specs.Limits.{cellCount}
 use Rattle.rows.specs.Rows.{signed}
 use Rattle.register.specs.Tables.{cellWord}
-use Rattle.ocl.specs.Values.{cellIn}
-use Rattle.ocl.proofs.walk.cell_value.Statement.{statement}
-use Rattle.ocl.proofs.walk.cell_value.Tie as tie
+use Rattle.walks.specs.Values.{cellIn}
+use Rattle.walks.proofs.cell_value.Statement.{statement}
+use Rattle.walks.proofs.cell_value.Tie as tie
 
 either : (b : Bool) (x : ℕ) → signed (cond b x 0) ≡ cond b (signed x) (pos 0)
 either true x = refl

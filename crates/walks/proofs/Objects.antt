@@ -24,10 +24,10 @@ use Rattle.tables.specs.Columns.{objectRow, registerOf}
 use Rattle.schema.proofs.Rows.{row-used}
 use Rattle.register.specs.Tables.{ObjectsAscend}
 use Rattle.register.proofs.Places.{row-there, ordered}
-use Rattle.ocl.specs.Site.{idIn}
-use Rattle.ocl.specs.Values.{cellIn}
-use Rattle.ocl.specs.Walks.{isFrom, instancesFrom}
-use Rattle.ocl.proofs.Members.{keep-none}
+use Rattle.walks.specs.Site.{idIn}
+use Rattle.walks.specs.Values.{cellIn}
+use Rattle.walks.specs.Walks.{isFrom, instancesFrom}
+use Rattle.walks.proofs.Members.{keep-none}
 
 -- ---- an object by its row
 

@@ -16,9 +16,9 @@ use Rattle.rows.specs.Rows.{rowsFrom}
 use Rattle.tables.specs.Bodies.{asCollection}
 use Rattle.tables.specs.Columns.{objectRow}
 use Rattle.link_index.specs.Slots.{farId, Place}
-use Rattle.ocl.specs.Site.{Site, typesAt, registerAt, formAt, idIn, idsOf}
-use Rattle.ocl.specs.declared.Step.{Step}
-use Rattle.ocl.specs.declared.Step.the-variants.{At, Done}
+use Rattle.walks.specs.Site.{Site, typesAt, registerAt, formAt, idIn, idsOf}
+use Rattle.walks.specs.declared.Step.{Step}
+use Rattle.walks.specs.declared.Step.the-variants.{At, Done}
 
 -- ---- what a walk has left
 

@@ -1,14 +1,14 @@
--- `ocl::walk::next_instance` meets its contract. The loop's invariant: the rows passed have left nothing out.
+-- `walks::next_instance` meets its contract. The loop's invariant: the rows passed have left nothing out.
 use Prim.Native.Nat.{_-_}
 use mathlib.Core.Path.{_≡_, refl, _∙_}
 use native.Mathlib.Omega.{arith}
 use denote.Ref.{now}
 use Rattle.tables.specs.Columns.{typesOf}
-use Rattle.ocl.specs.Walks.{instancesFrom}
-use Rattle.ocl.proofs.Objects.{row-taken, row-passed, none-left}
-use Rattle.ocl.proofs.Steps.{stepped-at, stepped-done}
-use Rattle.ocl.proofs.walk.next_instance.Statement.{statement}
-use Rattle.ocl.proofs.walk.next_instance.Tie as tie
+use Rattle.walks.specs.Walks.{instancesFrom}
+use Rattle.walks.proofs.Objects.{row-taken, row-passed, none-left}
+use Rattle.walks.proofs.Steps.{stepped-at, stepped-done}
+use Rattle.walks.proofs.next_instance.Statement.{statement}
+use Rattle.walks.proofs.next_instance.Tie as tie
 
 abbrev Inv-loop : tie.InvT-loop
 Inv-loop type-count types object-count objects t from row₀ row =

@@ -11,7 +11,7 @@ use lib.Dec.{T, leb, ltb}
 use mir.Facts.{not-T, leb-yes, yes-leb, ltb-yes, yes-ltb, no-leb, no-ltb}
 use Rattle.meaning.specs.Lists.{keep, first, _∈_, Ascending}
 use Rattle.meaning.proofs.Lists.{cond-yes, cond-no, first-some, decide}
-use Rattle.ocl.specs.Walks.{isFrom}
+use Rattle.walks.specs.Walks.{isFrom}
 
 -- ---- keep
 

@@ -1,4 +1,4 @@
--- `ocl::walk::next_far` meets its contract.
+-- `walks::next_far` meets its contract.
 use Prim.Native.Nat.{ℕ, zero, suc, _+_, _-_}
 use mathlib.Core.Path.{_≡_, refl, sym, ap, ap₂, _∙_}
 use mathlib.Core.List.{List}
@@ -6,10 +6,10 @@ use native.Mathlib.Omega.{arith}
 use borrow.Author.Needs.{needs}
 use denote.Ref.{now}
 use lib.ListN.{getD}
-use Rattle.ocl.specs.Walks.{farStep}
-use Rattle.ocl.specs.declared.Step.the-variants.{At}
-use Rattle.ocl.proofs.walk.next_far.Statement.{statement}
-use Rattle.ocl.proofs.walk.next_far.Tie as tie
+use Rattle.walks.specs.Walks.{farStep}
+use Rattle.walks.specs.declared.Step.the-variants.{At}
+use Rattle.walks.proofs.next_far.Statement.{statement}
+use Rattle.walks.proofs.next_far.Tie as tie
 
 at-slot : (index : List ℕ) (word : ℕ) → (word ≡ 0 → ⊥) → At (getD index (word - 1) 0) (getD index (8192 + (word - 1)) 0) ≡ farStep index word
 at-slot index zero h = absurd (h refl)

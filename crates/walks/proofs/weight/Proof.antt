@@ -1,11 +1,11 @@
--- `ocl::walk::weight` meets its contract.
+-- `walks::weight` meets its contract.
 use mir.Syntax.{w64}
 use mir.ValLaws.{toZ-ofZ}
 use borrow.Author.Needs.{needs}
 use borrow.Author.Tests.{eq-eqb, ne-eqb}
-use Rattle.ocl.specs.Values.{weightOf}
-use Rattle.ocl.proofs.walk.weight.Statement.{statement}
-use Rattle.ocl.proofs.walk.weight.Tie as tie
+use Rattle.walks.specs.Values.{weightOf}
+use Rattle.walks.proofs.weight.Statement.{statement}
+use Rattle.walks.proofs.weight.Tie as tie
 
 cell-value-requires : tie.Need-cell-value-requires
 cell-value-requires c κs = search needs
