@@ -18,7 +18,8 @@ use Rattle.text.specs.Texts.{maxText, noRoom, Reading, taken, refused, entryThe
 use Rattle.reader.specs.declared.Outcome.the-variants.{Done, Refused}
 use Rattle.reading.specs.declared.look.Seen.{Seen}
 use Rattle.reading.specs.Looks.{Counted, refusalNumber, Shown}
-use Rattle.reader.specs.Reads.{unlessBroken, lentReading, readAnswer, sheetWith, sheetAfter}
+use Rattle.reader.specs.Reads.{unlessBroken, lentReading, readAnswer, sheetAfter}
+use Rattle.filling.specs.Fills.{sheetWith}
 
 -- ---- a refusal has a number
 

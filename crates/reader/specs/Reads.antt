@@ -2,13 +2,13 @@
 use Prim.Native.Nat.{ℕ}
 use mathlib.Core.Bool.{Bool, cond}
 use mathlib.Core.List.{List}
-use lib.ListN.{length}
-use Rattle.tables.specs.Layouts.{Sheet, sheetOf, layouts, linesLent}
+use Rattle.tables.specs.Layouts.{Sheet, layouts, linesLent}
 use Rattle.tables.specs.Refusals.{notWhole}
 use Rattle.tables.specs.declared.Counts.{Counts}
 use Rattle.text.specs.Names.{typeName, relationshipName, ruleName, objectName, linkName}
-use Rattle.text.specs.Entries.{Entry, eventSection, countOf, tableOf, bodiesOf}
-use Rattle.text.specs.Texts.{Reading, taken, refused, reading, filled}
+use Rattle.text.specs.Entries.{Entry, eventSection, countOf}
+use Rattle.text.specs.Texts.{Reading, taken, refused, reading}
+use Rattle.filling.specs.Fills.{sheetWith}
 use Rattle.reader.specs.declared.Outcome.{Outcome}
 use Rattle.reader.specs.declared.Outcome.the-variants.{Done, Refused}
 
@@ -37,18 +37,6 @@ countsOf es =
 abbrev pub readAnswer : Reading → Outcome
 readAnswer (taken es) = Done (countsOf es)
 readAnswer (refused number line) = Refused number line
-
--- each table has the rows of its section from the front, and zeros after them
-abbrev pub sheetWith : List Entry → Sheet → Sheet
-sheetWith es s =
-    sheetOf
-    (filled (length (s .types)) (tableOf typeName es))
-    (filled (length (s .relationships)) (tableOf relationshipName es))
-    (filled (length (s .rules)) (tableOf ruleName es))
-    (filled (length (s .bodies)) (bodiesOf es))
-    (filled (length (s .objects)) (tableOf objectName es))
-    (filled (length (s .links)) (tableOf linkName es))
-    (filled (length (s .events)) (tableOf eventSection es))
 
 -- "a refusal changes nothing lent"; "After a read all unused rows are 0"
 unfoldable pub sheetAfter : Reading → Sheet → Sheet

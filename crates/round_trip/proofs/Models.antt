@@ -26,7 +26,7 @@ use Rattle.text.specs.Names.{typeName, relationshipName, ruleName, objectName, 
 use Rattle.text.specs.Entries.{Entry, eventSection, tableOf, bodiesOf}
 use Rattle.text.specs.Texts.{filled}
 use Rattle.text.specs.Sheets.{wordsAt}
-use Rattle.reader.specs.Reads.{sheetWith}
+use Rattle.filling.specs.Fills.{sheetWith}
 
 -- ---- a row by its words
 

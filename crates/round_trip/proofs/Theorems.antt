@@ -37,7 +37,8 @@ use Rattle.text.specs.Sheets.{entriesOf, textOf}
 use Rattle.text.proofs.Bodies.{written-rows}
 use Rattle.text.proofs.Texts.{write-after-read}
 use Rattle.text.proofs.Determined.{one-spelling}
-use Rattle.reader.specs.Reads.{unlessBroken, lentReading, readAnswer, countsOf, sheetWith, sheetAfter}
+use Rattle.reader.specs.Reads.{unlessBroken, lentReading, readAnswer, countsOf, sheetAfter}
+use Rattle.filling.specs.Fills.{sheetWith}
 use Rattle.reader.specs.declared.Outcome.the-variants as Outcome
 use Rattle.writer.specs.Answers.{textRefusal, writerRefusal, writeAnswer, bytesAfter}
 use Rattle.round_trip.specs.Claims.{SmallWords, textIn, writtenText, Enough, ReadAs, WrittenIsRead, NoOtherIsRead}

@@ -6,8 +6,8 @@ use denote.Ref.{now}
 use borrow.Author.Needs.{needs}
 use Rattle.rows.specs.Rows.{clearedPast}
 use Rattle.text.specs.Texts.{filled}
-use Rattle.reader.proofs.fill.clear.Statement.{statement}
-use Rattle.reader.proofs.fill.clear.Tie as tie
+use Rattle.filling.proofs.clear.Statement.{statement}
+use Rattle.filling.proofs.clear.Tie as tie
 
 cleared : (t : List ℕ) → clearedPast t 1 0 ≡ filled (length t) []
 unfolding clearedPast

@@ -4,11 +4,13 @@ use mathlib.Core.Path.{_≡_}
 use mathlib.Core.Bool.{cond}
 use mathlib.Core.List.{List}
 use lib.Dec.{eqb}
-use lib.ListN.{getD, take, drop}
+use lib.ListN.{length, getD, take, drop}
 use Rattle.rows.specs.Rows.{withRow}
-use Rattle.tables.specs.Layouts.{Sheet, Layout, bodyWords, typeTable, relationshipTable, ruleTable, objectTable, linkTable, eventTable}
-use Rattle.text.specs.Names.{ruleName}
+use Rattle.tables.specs.Layouts.{Sheet, sheetOf, Layout, bodyWords, typeTable, relationshipTable, ruleTable, objectTable, linkTable, eventTable}
+use Rattle.text.specs.Names.{typeName, relationshipName, ruleName, objectName, linkName}
 use Rattle.text.specs.Bodies.{Written, rowsOf}
+use Rattle.text.specs.Entries.{Entry, eventSection, tableOf, bodiesOf}
+use Rattle.text.specs.Texts.{filled}
 use Rattle.brackets.specs.Whole.{WholeBody, rowsPut}
 use Rattle.line_reader.specs.declared.line.Row.{Row}
 use Rattle.line_reader.specs.Rows.{bodyPlace}
@@ -29,3 +31,15 @@ pub record LinePut (line : List ℕ) (row : Row) (counts : List ℕ) (before aft
   pub objects-put : after .objects ≡ rowPut objectTable row counts (before .objects)
   pub links-put : after .links ≡ rowPut linkTable row counts (before .links)
   pub events-put : after .events ≡ rowPut eventTable row counts (before .events)
+
+-- each table has the rows of its section from the front, and zeros after them
+abbrev pub sheetWith : List Entry → Sheet → Sheet
+sheetWith es s =
+    sheetOf
+    (filled (length (s .types)) (tableOf typeName es))
+    (filled (length (s .relationships)) (tableOf relationshipName es))
+    (filled (length (s .rules)) (tableOf ruleName es))
+    (filled (length (s .bodies)) (bodiesOf es))
+    (filled (length (s .objects)) (tableOf objectName es))
+    (filled (length (s .links)) (tableOf linkName es))
+    (filled (length (s .events)) (tableOf eventSection es))

@@ -9,9 +9,9 @@ use Rattle.tables.specs.Layouts.{Sheet, sheetOf}
 use Rattle.text.specs.Entries.{entryIn}
 use Rattle.line_reader.specs.Rows.{rowHeld}
 use Rattle.reading.proofs.Looking.{look-follows, line-short, end-within}
-use Rattle.reader.proofs.Filling.{Filling, fill-starts, fill-ends, fill-section, fill-count, fill-body, fill-body-room, fill-goes-on}
-use Rattle.reader.proofs.fill.put_lines.Statement.{statement}
-use Rattle.reader.proofs.fill.put_lines.Tie as tie
+use Rattle.filling.proofs.Filling.{Filling, fill-starts, fill-ends, fill-section, fill-count, fill-body, fill-body-room, fill-goes-on}
+use Rattle.filling.proofs.put_lines.Statement.{statement}
+use Rattle.filling.proofs.put_lines.Tie as tie
 
 abbrev Inv-loop : tie.InvT-loop
 Inv-loop text types₀ relationships₀ rules₀ bodies₀ objects₀ links₀ events₀ counts₀ cells₀ section₀ at₀ types relationships rules bodies objects links events counts cells section at =

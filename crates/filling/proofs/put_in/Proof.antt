@@ -3,8 +3,8 @@ use mathlib.Core.Path.{sym}
 use lib.Seq.{length-take-le}
 use denote.Ref.{now}
 use borrow.Author.Tests.{eq-eqb, ne-eqb}
-use Rattle.reader.proofs.fill.put_in.Statement.{statement}
-use Rattle.reader.proofs.fill.put_in.Tie as tie
+use Rattle.filling.proofs.put_in.Statement.{statement}
+use Rattle.filling.proofs.put_in.Tie as tie
 
 slice-aggregate-write-row : tie.Need-slice-aggregate-write-row
 slice-aggregate-write-row c = sym (length-take-le (c .before .before .before .before .before .args .width) (now (c .before .before .before .before .before .args .words)) (c .before .before .before .before .before .pre))

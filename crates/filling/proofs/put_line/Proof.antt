@@ -3,8 +3,8 @@ use mathlib.Core.Path.{_≡_}
 use lib.ListN.{length}
 use native.Mathlib.Omega.{arith}
 use borrow.Author.Needs.{needs}
-use Rattle.reader.proofs.fill.put_line.Statement.{statement}
-use Rattle.reader.proofs.fill.put_line.Tie as tie
+use Rattle.filling.proofs.put_line.Statement.{statement}
+use Rattle.filling.proofs.put_line.Tie as tie
 
 slice-aggregate-words : tie.Need-slice-aggregate-words
 slice-aggregate-words c = search needs

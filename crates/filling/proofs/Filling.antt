@@ -29,8 +29,8 @@ use Rattle.text.proofs.Blocks.{count-append, table-append}
 use Rattle.brackets.specs.Whole.{WholeBody, rowsPut}
 use Rattle.line_reader.specs.declared.line.Row.{Row}
 use Rattle.line_reader.specs.Rows.{rowHeld, bodyPlace}
-use Rattle.reader.specs.Reads.{sheetWith}
-use Rattle.reader.specs.Fills.{rowPut, LinePut}
+use Rattle.filling.specs.Fills.{sheetWith}
+use Rattle.filling.specs.Fills.{rowPut, LinePut}
 use Rattle.line_reader.proofs.Bodied.{whole-body}
 use Rattle.reading.proofs.Looking.{Looking, LineRead, look-starts, starts-before, look-follows, look-done, look-with, ended-fine, section-fine, row-fine, e, found, section-of, words-are, said, count-small, read-short, taken-same}
 

@@ -2,8 +2,8 @@
 use borrow.Author.Needs.{needs}
 use Rattle.tables.specs.Layouts.{sheetOf}
 use Rattle.text.specs.Entries.{tableOf, bodiesOf}
-use Rattle.reader.proofs.fill.clear_all.Statement.{statement}
-use Rattle.reader.proofs.fill.clear_all.Tie as tie
+use Rattle.filling.proofs.clear_all.Statement.{statement}
+use Rattle.filling.proofs.clear_all.Tie as tie
 
 clear-requires : tie.Need-clear-requires
 clear-requires c κs = search needs

@@ -3,8 +3,8 @@ use mathlib.Core.Path.{refl, sym, subst}
 use lib.ListN.{drop}
 use denote.Ref.{now}
 use Rattle.brackets.specs.Whole.{WholeBody}
-use Rattle.reader.proofs.fill.put_body.Statement.{statement}
-use Rattle.reader.proofs.fill.put_body.Tie as tie
+use Rattle.filling.proofs.put_body.Statement.{statement}
+use Rattle.filling.proofs.put_body.Tie as tie
 
 body-place-requires : tie.Need-body-place-requires
 body-place-requires c κs = search needs
