@@ -1,9 +1,6 @@
 // Refusal 4: each rule of lent tables has a known context type, and a body that is one whole form, well typed.
 use body_rows::body;
 use tables::Found;
-
-pub mod typing;
-
 use typing::Place;
 ghost use mathlib.Core.Path.{_≡_};
 ghost use mathlib.Core.Option.{Option};

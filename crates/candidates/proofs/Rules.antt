@@ -22,7 +22,7 @@ use Rattle.tables.proofs.Forms.{whole-body, body-ending}
 use Rattle.schema.proofs.Rows.{length-rows}
 use Rattle.link_index.specs.Slots.{Indexed}
 use Rattle.body_rows.specs.Marks.{bodyOf, Starts}
-use Rattle.book.specs.Types.{typedPart}
+use Rattle.typing.specs.Types.{typedPart}
 use Rattle.walks.specs.Site.{Site, siteOf, rowsAt, formAt, idIn}
 use Rattle.ocl.proofs.Bodies.{body-ready}
 use Rattle.going_back.specs.Back.{reached, partReached, reachedBy, candidate, Covered}

@@ -20,7 +20,7 @@ use Rattle.meaning.specs.Events.{Event, amended, insert, delete, set, join, par
 use Rattle.meaning.proofs.Lists.{decide}
 use Rattle.meaning.proofs.Order.{same-list-eq, same-list-refl}
 use Rattle.rows.specs.Rows.{wordAt, rowsFrom, readRows, signed, zeroPast, withWord, withoutColumns, withoutRow}
-use Rattle.rows.specs.Keys.{keyAt, LowerBound}
+use Rattle.keys.specs.Keys.{keyAt, LowerBound}
 use Rattle.rows.proofs.Offsets.{row-before}
 use Rattle.rows.proofs.Zeros.{zero-past, past-zero}
 use Rattle.rows.proofs.Moves.{inserted, inserted-length, inserted-past, without-length, without-last, without-past, word-length, word-own, word-other, word-past, cleared-length, cleared-front, cleared-past, cleared-column, cleared-row}

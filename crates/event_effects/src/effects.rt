@@ -17,7 +17,7 @@ fn put_object(count: u32, objects: &mut [u32], id: u32, t: u32) -> u32
     ensures { λ r. ⌜ ((S : Schema) → ObjectsApplied S (insert id t) count (now (objects .entry)) r (now (objects .exit))) ⌝ }
 {
     let key = [id];
-    let at = rows::place(&*objects, tables::OBJECT_WIDTH, count, 1, &key);
+    let at = keys::place(&*objects, tables::OBJECT_WIDTH, count, 1, &key);
     rows::open_gap(&mut *objects, tables::OBJECT_WIDTH, at, count);
     let words = [id, t, 0, 0, 0, 0, 0, 0, 0, 0];
     rows::write_row(&mut *objects, tables::OBJECT_WIDTH, at, &words);
@@ -84,7 +84,7 @@ fn put_link(count: u32, links: &mut [u32], relationship: u32, source: u32, targe
         LinksApplied S (join relationship source target) count (now (links .entry)) r (now (links .exit))) ⌝ }
 {
     let key = [relationship, source, target];
-    let at = rows::place(&*links, tables::LINK_WIDTH, count, 3, &key);
+    let at = keys::place(&*links, tables::LINK_WIDTH, count, 3, &key);
     rows::open_gap(&mut *links, tables::LINK_WIDTH, at, count);
     rows::write_row(&mut *links, tables::LINK_WIDTH, at, &key);
     count + 1

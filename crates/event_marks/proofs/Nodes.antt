@@ -20,8 +20,8 @@ use Rattle.directions.specs.Passes.{firstPassing, secondPassing, passRow}
 use Rattle.directions.proofs.Sets.{through-some, some-or, some-same}
 use Rattle.directions.proofs.Passes.{first-passed, second-passed}
 use Rattle.body_rows.specs.Marks.{firstSort, secondSort}
-use Rattle.book.specs.Types.{memberOf}
-use Rattle.book.proofs.Types.{operatorHere, partsHere}
+use Rattle.typing.specs.Types.{memberOf}
+use Rattle.typing.proofs.Types.{operatorHere, partsHere}
 use Rattle.type_marks.specs.Marks.{wordsAt, marked}
 use Rattle.type_marks.specs.Lists.{partLists, markedBy, partMarks, leafLists, sumMarks}
 use Rattle.type_marks.proofs.Marks.{none-listed}

@@ -1,11 +1,11 @@
 // The marks of a rule's event list.
 use crate::body::mark_form;
 use body_rows::body::scan;
-use book::typing::Place;
 use directions::DOWN;
 use directions::UP;
 use quietness::quiet::quiet;
 use type_marks::put_members;
+use typing::Place;
 ghost use mathlib.Core.Path.{_≡_};
 ghost use lib.Dec.{T};
 ghost use lib.ListN.{length};

@@ -13,7 +13,7 @@ use Rattle.tables.specs.Codes.{Operator, comparing, negating, connecting, quant
 use Rattle.tables.specs.Bodies.{BodyRow, Part, sortOf, sameSort, asCollection, formOf, reads, ending, firstPart, secondPart}
 use Rattle.tables.proofs.Readings.{ending-start, node, code-of}
 use Rattle.body_rows.proofs.Marks.{result-sort}
-use Rattle.book.proofs.Types.{select-row}
+use Rattle.typing.proofs.Types.{select-row}
 use Rattle.going_back.specs.Back.{leadsInto, baseOf}
 
 -- a collection leads into a set as the one below its selects

@@ -14,7 +14,7 @@ use Rattle.tables.proofs.Readings.{node, code-of, sorted, sorted-parts, is-trut
 use Rattle.tables.specs.Columns.{ruleRow}
 use Rattle.tables.proofs.Forms.{whole-body, body-ending}
 use Rattle.body_rows.specs.Marks.{bodyOf, sortCode, firstSort, secondSort}
-use Rattle.book.proofs.Types.{operatorHere, partsHere}
+use Rattle.typing.proofs.Types.{operatorHere, partsHere}
 use Rattle.text.specs.Names.{nameOf, firstOperator}
 use Rattle.text.specs.Tokens.{begin, item, end, spellToken, spellTokens, spellBracket}
 use Rattle.text.specs.Bodies.{Written, leaf, over, both, closing, tokensOf, writtenOf}

@@ -12,7 +12,7 @@ use Rattle.tables.specs.Codes.{Operator, comparing, negating, connecting, quant
 use Rattle.tables.specs.Bodies.{BodyRow, Part, asTruth, asCollection, formOf, ending, firstPart, secondPart}
 use Rattle.tables.proofs.Readings.{node, code-of}
 use Rattle.body_rows.specs.Marks.{firstSort, secondSort}
-use Rattle.book.proofs.Types.{operatorHere, partsHere, second-here, first-here}
+use Rattle.typing.proofs.Types.{operatorHere, partsHere, second-here, first-here}
 use Rattle.quietness.specs.Quiet.{turn, connects, quantifies, joined, quietPart, selfPart}
 
 -- what the code asks of the parts

@@ -19,8 +19,8 @@ use Rattle.tables.specs.Codes.{Operator, comparing, negating, connecting, quant
 use Rattle.tables.specs.Bodies.{Part, part, sortOf, sameSort, asTruth, asNumber, asCollection, reads, ending, firstPart, secondPart}
 use Rattle.tables.proofs.Readings.{ending-start, sound-pos, code-of}
 use Rattle.body_rows.specs.Marks.{firstSort, secondSort}
-use Rattle.book.specs.Types.{typedPart, memberOf, summed, typedLeaf}
-use Rattle.book.proofs.Types.{operatorHere, partsHere, coded-here, second-here, first-here, binds-here, leaf-here, one-here, plain-here, bound-here, fails-here}
+use Rattle.typing.specs.Types.{typedPart, memberOf, summed, typedLeaf}
+use Rattle.typing.proofs.Types.{operatorHere, partsHere, coded-here, second-here, first-here, binds-here, leaf-here, one-here, plain-here, bound-here, fails-here}
 use Rattle.walks.specs.Site.{Site, rowsAt, formAt, codeAt}
 use Rattle.ocl.specs.Ready.{scopedAs, Ready}
 use Rattle.ocl.proofs.Scopes.{in-scope}

@@ -20,7 +20,7 @@ use Rattle.directions.specs.Passes.{firstPassing, secondPassing, passRow}
 use Rattle.directions.proofs.Sets.{through-some, some-or, some-same}
 use Rattle.directions.proofs.Passes.{first-passed, second-passed}
 use Rattle.body_rows.specs.Marks.{firstSort, secondSort}
-use Rattle.book.proofs.Types.{operatorHere, partsHere}
+use Rattle.typing.proofs.Types.{operatorHere, partsHere}
 use Rattle.event_marks.proofs.Nodes.{passTo}
 use Rattle.reach.specs.Moves.{partMoves, movedBy, leafMoves}
 

@@ -9,7 +9,7 @@ use Rattle.meaning.specs.Schema.{Schema}
 use Rattle.meaning.specs.Forms.{collection}
 use Rattle.tables.specs.Bodies.{ending}
 use Rattle.link_index.specs.Slots.{Indexed}
-use Rattle.book.specs.Types.{typedPart}
+use Rattle.typing.specs.Types.{typedPart}
 use Rattle.walks.specs.Site.{Site, typesAt, registerAt, rowsAt, formAt}
 use Rattle.ocl.specs.Ready.{Steady, Ready}
 

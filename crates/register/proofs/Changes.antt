@@ -15,7 +15,7 @@ use Rattle.meaning.specs.Lists.{before, keep, putInOrder, Ascending, Before}
 use Rattle.meaning.proofs.Lists.{decide, cond-yes, cond-no}
 use Rattle.meaning.proofs.Order.{before-irreflexive, before-total, fault-none}
 use Rattle.rows.specs.Rows.{wordAt, readRows, withoutRow}
-use Rattle.rows.specs.Keys.{LowerBound}
+use Rattle.keys.specs.Keys.{LowerBound}
 use Rattle.rows.proofs.Moves.{inserted, inserted-before, inserted-row, inserted-after, without-before, without-after}
 use Rattle.rows.proofs.Listed.{rows-map, rows-placed, rows-without}
 use Rattle.schema.proofs.Rows.{row-there}

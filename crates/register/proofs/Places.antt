@@ -12,7 +12,7 @@ use mir.Facts.{T-not, not-T}
 use Rattle.meaning.specs.Lists.{before, _∈_, Ascending, Before}
 use Rattle.meaning.proofs.Order.{before-irreflexive}
 use Rattle.rows.specs.Rows.{rowsFrom, readRows}
-use Rattle.rows.specs.Keys.{LowerBound}
+use Rattle.keys.specs.Keys.{LowerBound}
 use Rattle.register.proofs.Hits.{firstHit, missed-to, hit-at, hit-none}
 
 module _ {A : Type 0} (read : ℕ → A) where

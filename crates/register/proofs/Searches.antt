@@ -13,7 +13,7 @@ use Rattle.meaning.specs.Register.{Object, Link, objectKey, linkKey, sameLink, 
 use Rattle.meaning.specs.Events.{linkOf}
 use Rattle.meaning.proofs.Order.{same-list-eq, rows-fit}
 use Rattle.rows.specs.Rows.{readRows}
-use Rattle.rows.specs.Keys.{keyAt, KeysAscend, LowerBound}
+use Rattle.keys.specs.Keys.{keyAt, KeysAscend, LowerBound}
 use Rattle.tables.specs.Columns.{objectRow, linkRow}
 use Rattle.register.specs.Tables.{objectsWith, linksWith, ObjectsAscend, LinksAscend, objectPlace, linkPlace}
 use Rattle.register.proofs.Hits.{first-row, any-row}

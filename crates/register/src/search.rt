@@ -14,7 +14,7 @@ pub fn object_row(object_count: u32, objects: &[u32], id: u32) -> Found
     ensures { λ r. ⌜ r ≡ foundOf (objectPlace «object_count» (now (objects .entry)) id) ⌝ }
 {
     let key = [id];
-    let row = rows::place(objects, tables::OBJECT_WIDTH, object_count, 1, &key);
+    let row = keys::place(objects, tables::OBJECT_WIDTH, object_count, 1, &key);
     if row >= object_count {
         return Found::Nothing;
     }
@@ -50,7 +50,7 @@ pub fn link_row(
     ensures { λ r. ⌜ r ≡ foundOf (linkPlace «link_count» (now (links .entry)) (linkOf relationship source target)) ⌝ }
 {
     let key = [relationship, source, target];
-    let row = rows::place(links, tables::LINK_WIDTH, link_count, 3, &key);
+    let row = keys::place(links, tables::LINK_WIDTH, link_count, 3, &key);
     if row >= link_count {
         return Found::Nothing;
     }

@@ -52,7 +52,7 @@ fn object_ascends(objects: &[u32], row: u32) -> bool
         return true;
     }
     let key = [columns::id_of(objects, row)];
-    rows::before(objects, tables::OBJECT_WIDTH, row - 1, 1, &key)
+    keys::before(objects, tables::OBJECT_WIDTH, row - 1, 1, &key)
 }
 
 // Whether an object's row breaks refusal 5.
@@ -160,7 +160,7 @@ fn link_ascends(links: &[u32], row: u32) -> bool
         columns::source_of(links, row),
         columns::target_of(links, row),
     ];
-    rows::before(links, tables::LINK_WIDTH, row - 1, 3, &key)
+    keys::before(links, tables::LINK_WIDTH, row - 1, 3, &key)
 }
 
 // Whether a link's row breaks refusal 5.

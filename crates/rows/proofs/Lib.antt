@@ -5,7 +5,6 @@
 --   Parts     a part of a slice, put back
 --   Zeros     words that are 0
 --   Words     a word and its signed value
---   Keys      rows by their keys
 --   Moves     the rows after a row is put in, taken out or changed
 --   Listed    the list of rows after that
 --   Fronts    words at the front of a list; the first rows as the words of each
@@ -15,7 +14,6 @@ pub mod Shift
 pub mod Parts
 pub mod Zeros
 pub mod Words
-pub mod Keys
 pub mod Moves
 pub mod Listed
 pub mod Fronts

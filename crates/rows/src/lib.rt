@@ -1,8 +1,6 @@
 // Rows of 32-bit words: the only place that does row arithmetic.
 ghost use mathlib.Core.Path.{_≡_};
-ghost use Rattle.meaning.specs.Lists.{before};
-ghost use Rattle.rows.specs.Keys.{keyAt, KeysAscend, LowerBound};
-ghost use Rattle.rows.specs.Rows.{wordAt, wholeRows, rowsLent, zeroPast, copied, withRow, withWord, withoutColumns, shiftedUp, shiftedDown, withGap, withoutRow, clearedPast};
+ghost use Rattle.rows.specs.Rows.{wordAt, wholeRows, rowsLent, copied, withRow, withWord, withoutColumns, shiftedUp, shiftedDown, withGap, withoutRow, clearedPast};
 
 // The word in a column of a row; 0 past the end.
 pub fn word(t: &[u32], width: u32, row: u32, column: u32) -> u32
@@ -164,42 +162,4 @@ pub fn clear_past(t: &mut [u32], width: u32, used: u32)
     }
     let by = t.len() - start;
     shift_down(&mut t[start..], by);
-}
-
-// Whether a row comes before a key, by its first columns.
-pub fn before(t: &[u32], width: u32, row: u32, columns: u32, key: &[u32]) -> bool
-    ensures { λ r. ⌜ r ≡ before (keyAt (now (t .entry)) width columns row) (now (key .entry)) ⌝ }
-{
-    let mut column: u32 = 0;
-    while column < columns {
-        let at = column as usize;
-        if key.len() <= at {
-            return false;
-        }
-        let w = word(t, width, row, column);
-        let k = key[at];
-        if w != k {
-            return w < k;
-        }
-        column += 1;
-    }
-    false
-}
-
-// Where a key belongs among rows that ascend by their first columns: a search that halves the rows between low and high.
-pub fn place(t: &[u32], width: u32, count: u32, columns: u32, key: &[u32]) -> u32
-    requires { ⌜ KeysAscend (keyAt (now t) width columns) count ⌝ }
-    ensures { λ r. ⌜ LowerBound (keyAt (now (t .entry)) width columns) count (now (key .entry)) r ⌝ }
-{
-    let mut low: u32 = 0;
-    let mut high = count;
-    while low < high {
-        let middle = low + (high - low) / 2;
-        if before(t, width, middle, columns, key) {
-            low = middle + 1;
-        } else {
-            high = middle;
-        }
-    }
-    low
 }

@@ -9,7 +9,7 @@ use Rattle.meaning.specs.Reach.{Direction}
 use Rattle.meaning.specs.EventList.{EventType, setOf, roleLists, allLists, kindLists, lists}
 use Rattle.tables.specs.Bodies.{Part, part}
 use Rattle.directions.specs.Sets.{someOf}
-use Rattle.book.specs.Types.{memberOf}
+use Rattle.typing.specs.Types.{memberOf}
 use Rattle.type_marks.specs.Marks.{marked}
 
 -- of a form of any sort

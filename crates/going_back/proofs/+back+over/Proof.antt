@@ -12,7 +12,7 @@ use borrow.Fn.PlainCycle.{Measures, is, falls, and}
 use Rattle.meaning.specs.Forms.{collection}
 use Rattle.tables.specs.Codes.{operatorOf}
 use Rattle.body_rows.specs.Marks.{firstSort, secondSort}
-use Rattle.book.proofs.Types.{code-here, sums-here}
+use Rattle.typing.proofs.Types.{code-here, sums-here}
 use Rattle.directions.proofs.Passes.{pass-small}
 use Rattle.event_marks.proofs.Nodes.{passTo}
 use Rattle.walks.specs.Site.{Site, siteOf, rowsAt, formAt, codeAt}

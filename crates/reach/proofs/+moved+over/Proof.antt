@@ -19,7 +19,7 @@ use Rattle.meaning.specs.Reach.{Change, cellMoves}
 use Rattle.tables.specs.Codes.{Operator, operatorOf}
 use Rattle.tables.specs.Bodies.{reads, ending}
 use Rattle.body_rows.specs.Marks.{firstSort, secondSort}
-use Rattle.book.proofs.Types.{code-here, sums-here}
+use Rattle.typing.proofs.Types.{code-here, sums-here}
 use Rattle.directions.proofs.Passes.{pass-small}
 use Rattle.event_marks.proofs.Nodes.{passTo}
 use Rattle.walks.specs.Site.{Site, siteOf, rowsAt, formAt, codeAt, idIn, idsOf}

@@ -19,9 +19,9 @@ use Rattle.tables.specs.Bodies.{BodyRow, Part, reads, ending, firstPart, second
 use Rattle.tables.proofs.Readings.{ending-start, sound-pos}
 use Rattle.directions.proofs.Passes.{pass-small}
 use Rattle.body_rows.specs.Marks.{bodyOf, firstSort, secondSort, Starts}
-use Rattle.book.specs.Types.{memberOf}
+use Rattle.typing.specs.Types.{memberOf}
 use Rattle.body_rows.proofs.Kept.{starts-less}
-use Rattle.book.proofs.Types.{lent, operatorHere, partsHere, coded-here, code-here, second-here, first-here, binds-here, sums-here, bind-take}
+use Rattle.typing.proofs.Types.{lent, operatorHere, partsHere, coded-here, code-here, second-here, first-here, binds-here, sums-here, bind-take}
 use Rattle.type_marks.specs.Marks.{places, Added}
 use Rattle.type_marks.specs.Lists.{markedBy, partMarks, leafLists, sumMarks}
 use Rattle.type_marks.proofs.Marks.{added-as, added-then}
@@ -31,7 +31,7 @@ use Rattle.event_marks.proofs.body.mark_form.Kinds as mark-form-kinds
 use Rattle.event_marks.proofs.body.+mark_form.Lts-mark_form as lts
 use Rattle.body_rows.proofs.body.field.Reads as field-reads
 use Rattle.body_rows.proofs.body.shape.Reads as shape-reads
-use Rattle.book.proofs.typing.member_type.Reads as member-type-reads
+use Rattle.typing.proofs.member_type.Reads as member-type-reads
 use Rattle.directions.proofs.pass.Reads as pass-reads
 use Rattle.type_marks.proofs.put_leaf.Reads as put-leaf-reads
 use Rattle.event_marks.proofs.body.mark_sum.Reads as mark-sum-reads

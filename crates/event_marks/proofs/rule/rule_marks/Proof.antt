@@ -10,7 +10,7 @@ use Rattle.tables.specs.Bodies.{BodyRow, wholeBody, readBody, ending}
 use Rattle.tables.specs.Columns.{ruleRow}
 use Rattle.tables.proofs.Forms.{WholeBody, whole-body}
 use Rattle.body_rows.specs.Marks.{bodyOf}
-use Rattle.book.proofs.Types.{lent}
+use Rattle.typing.proofs.Types.{lent}
 use Rattle.type_marks.proofs.Marks.{added-as, added-then}
 use Rattle.event_marks.proofs.Rules.{rule-marked}
 use Rattle.event_marks.proofs.rule.rule_marks.Statement.{statement}

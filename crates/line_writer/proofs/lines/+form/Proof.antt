@@ -14,7 +14,7 @@ use Rattle.tables.specs.Bodies.{BodyRow, ending}
 use Rattle.tables.proofs.Readings.{ending-start, sound-pos}
 use Rattle.body_rows.specs.Marks.{bodyOf, firstSort, secondSort, Starts}
 use Rattle.body_rows.proofs.Kept.{starts-less}
-use Rattle.book.proofs.Types.{operatorHere, partsHere, coded-here, code-here, second-here, first-here}
+use Rattle.typing.proofs.Types.{operatorHere, partsHere, coded-here, code-here, second-here, first-here}
 use Rattle.text.specs.Tokens.{begin, spellToken}
 use Rattle.line_writer.specs.Lines.{spellClosing, spellForm}
 use Rattle.line_writer.proofs.Puts.{put-then, put-as}

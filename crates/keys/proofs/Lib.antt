@@ -1,0 +1,3 @@
+-- Laws of rows that ascend by their keys.
+--   Keys      rows by their keys
+pub mod Keys

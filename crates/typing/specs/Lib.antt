@@ -1,0 +1,3 @@
+-- Whether forms are well typed.
+--   Types      what is asked of its forms
+pub mod Types
