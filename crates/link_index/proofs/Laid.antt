@@ -11,7 +11,7 @@ use lib.Seq.{getD-set-same, getD-set-other}
 use Rattle.tables.specs.Columns.{linkRow}
 use Rattle.register.specs.Tables.{rowAt}
 use Rattle.link_index.specs.Slots.{placeKey, placeFar, slotAt, nextWord, headWord, laid, laidLink, Indexable, Slotted}
-use Rattle.link_index.proofs.Chains.{chained-none, Pushed, chained-more}
+use Rattle.chains.proofs.Chains.{chained-none, Pushed, chained-more}
 use Rattle.link_index.proofs.Ends.{near-same, far-same, key-within}
 
 -- ---- the words of the table with one slot more

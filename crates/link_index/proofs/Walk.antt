@@ -17,13 +17,13 @@ use Rattle.meaning.proofs.Lists.{decide, keep-in}
 use Rattle.meaning.proofs.Order.{before-one, before-last, before-first}
 use Rattle.tables.specs.Columns.{objectRow, linkRow, registerOf}
 use Rattle.schema.proofs.Scan.{passed-none}
-use Rattle.link_index.specs.Chains.{lead, slotWord}
+use Rattle.chains.specs.Chains.{lead, slotWord}
 use Rattle.register.specs.Tables.{rowAt}
 use Rattle.link_index.specs.Slots.{placeKey, slotAt, Place, nextWord, headWord, Indexed, farId}
 use Rattle.register.proofs.Hits.{missed-to, hit-at, hit-none}
 use Rattle.register.proofs.Places.{ordered, row-there}
 use Rattle.link_index.proofs.Far.{reaches, reach, missed, far-found, far-none}
-use Rattle.link_index.proofs.Chains.{lead-some, lead-none}
+use Rattle.chains.proofs.Chains.{lead-some, lead-none}
 use Rattle.register.proofs.Rows.{row-is}
 use Rattle.link_index.proofs.Ends.{near-same, far-same, near-present, far-present}
 pub use Rattle.register.proofs.Rows.{own-place, own-row}

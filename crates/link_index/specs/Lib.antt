@@ -1,5 +1,3 @@
 -- The index of the links, as a table and what it holds.
 --   Slots    an index of the links in both directions
---   Chains   chains over a key
 pub mod Slots
-pub mod Chains

@@ -14,7 +14,7 @@ use Rattle.meaning.specs.Limits.{maxRelationships, maxObjects, maxLinks}
 use Rattle.meaning.specs.Register.{nearEnd, farEnd}
 use Rattle.tables.specs.Columns.{objectRow, linkRow}
 use Rattle.register.specs.Tables.{ObjectsAscend, LinksAscend, objectPlace, rowAt}
-use Rattle.link_index.specs.Chains.{Chained}
+use Rattle.chains.specs.Chains.{Chained, pushed}
 
 -- ---- places, their keys and slots
 
@@ -49,7 +49,7 @@ headWord index k = getD index (16384 + k) 0
 
 -- the table with one slot more: its far row, and its place at the head of its key's chain, before what was the head
 abbrev pub laid : List ℕ → ℕ → ℕ → ℕ → List ℕ
-laid index slot key far = set (set (set index slot far) (8192 + slot) (headWord index key)) (16384 + key) (suc slot)
+laid index slot key far = pushed index slot far 8192 (16384 + key)
 
 -- the same with both slots of a link: backward from its target, and forward from its source
 abbrev pub laidLink : List ℕ → ℕ → ℕ → ℕ → ℕ → List ℕ

@@ -1,4 +1,5 @@
 // An index of the links in both directions, by slots: `specs/Slots` has its table. A walk along a role holds a slot and steps to the next one.
+use chains::push;
 use register::columns;
 use register::search;
 use tables::Found;
@@ -6,7 +7,7 @@ ghost use mathlib.Core.Path.{_≡_};
 ghost use Prim.Native.Nat.{ℕ, _+_, _*_, _<_};
 ghost use lib.ListN.{length, getD};
 ghost use Rattle.register.specs.Tables.{ObjectsAscend, LinksAscend, rowAt};
-ghost use Rattle.link_index.specs.Slots.{laid, laidLink, Indexable, Indexed};
+ghost use Rattle.link_index.specs.Slots.{laidLink, Indexable, Indexed};
 
 // The row of the object of an id; 0 where there is none.
 fn row_of(object_count: u32, objects: &[u32], table: &[u16; 4096], id: u32) -> u32
@@ -19,28 +20,20 @@ fn row_of(object_count: u32, objects: &[u32], table: &[u16; 4096], id: u32) -> u
     }
 }
 
-// A slot with its far row at the head of its key's chain; what was the head is next.
-fn lay(slot: u32, key: u32, far: u32, index: &mut [u16])
-    requires { ⌜ (length (now index) ≡ 81920) × (slot < 8192) × (key < 65536) × (far < 65536) ⌝ }
-    ensures { λ _. ⌜ now (index .exit) ≡ laid (now (index .entry)) slot key far ⌝ }
-{
-    let head = (16384 + key) as usize;
-    let next = (8192 + slot) as usize;
-    let first = index[head];
-    let at = slot as usize;
-    index[at] = far as u16;
-    index[next] = first;
-    index[head] = (slot + 1) as u16;
-}
-
 // The two slots of a link, backward from its target and forward from its source, at the heads of their chains.
 fn lay_link(link: u32, relationship: u32, source: u32, target: u32, index: &mut [u16])
     requires { ⌜ (length (now index) ≡ 81920) × (link < 4096) × (relationship < 32) × (source < 1024) × (target < 1024) ⌝ }
     ensures { λ _. ⌜ now (index .exit) ≡ laidLink (now (index .entry)) link relationship source target ⌝ }
 {
     let role = relationship * 2;
-    lay(4096 + link, (role + 1) * 1024 + target, source, index);
-    lay(link, role * 1024 + source, target, index);
+    push(
+        4096 + link,
+        source,
+        8192,
+        16384 + ((role + 1) * 1024 + target),
+        index,
+    );
+    push(link, target, 8192, 16384 + (role * 1024 + source), index);
 }
 
 // Indexes the links in a table of zeros: from the last link to the first, the two slots of each become heads of their chains.

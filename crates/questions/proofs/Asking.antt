@@ -15,8 +15,8 @@ use Rattle.meaning.specs.Reach.{Step, Change, someStep}
 use Rattle.tables.specs.Columns.{objectRow, typesOf, eventRow}
 use Rattle.tables.specs.declared.Counts.{Counts}
 use Rattle.register.specs.Tables.{objectPlace}
-use Rattle.link_index.specs.Chains.{lead, slotWord}
-use Rattle.link_index.proofs.Chains.{Lead, lead-some, lead-none}
+use Rattle.chains.specs.Chains.{lead, slotWord}
+use Rattle.chains.proofs.Chains.{Lead, lead-some, lead-none}
 use Rattle.register.proofs.Hits.{hit-some}
 use Rattle.register.proofs.Rows.{guessed-place}
 use Rattle.walks.specs.Site.{idIn}

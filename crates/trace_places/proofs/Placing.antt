@@ -12,7 +12,7 @@ use lib.Seq.{getD-set-same, getD-set-other}
 use Rattle.meaning.specs.Limits.{maxObjects}
 use Rattle.tables.specs.Columns.{eventRow}
 use Rattle.register.specs.Tables.{objectPlace}
-use Rattle.link_index.proofs.Chains.{chained-none, Pushed, chained-more}
+use Rattle.chains.proofs.Chains.{chained-none, Pushed, chained-more}
 use Rattle.register.proofs.Rows.{place-row}
 use Rattle.trace_places.specs.Traces.{namedAt, orPast, rowNamed, placeRow, nextPlace, firstPlace, itself}
 use Rattle.trace_places.specs.Making.{placed, placedEvent, Placed}

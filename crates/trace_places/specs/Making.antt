@@ -13,14 +13,14 @@ use Rattle.meaning.specs.Reach.{inserts, deletes, specials, generals, among, Di
 use Rattle.tables.specs.Columns.{eventRow}
 use Rattle.tables.specs.declared.Counts.{Counts}
 use Rattle.register.specs.Tables.{ObjectsAscend, LinksAscend, linksWith}
-use Rattle.link_index.specs.Chains.{Chained}
+use Rattle.chains.specs.Chains.{Chained, pushed}
 use Rattle.directions.specs.Sets.{has}
 use Rattle.trace_places.specs.Questions.{metUnder}
 use Rattle.trace_places.specs.Traces.{placeRow, nextPlace, firstPlace, thereWord, metWord, allSet, itself}
 
 -- the table with a place, that names the row, at the head of the row's chain; what was the head is next
 abbrev pub placed : List ℕ → ℕ → ℕ → List ℕ
-placed trace p row = set (set (set trace p row) (512 + p) (firstPlace trace row)) (1568 + row) (suc p)
+placed trace p row = pushed trace p row 512 (1568 + row)
 
 -- both places of event i, the second before the first
 abbrev pub placedEvent : ℕ → List ℕ → List ℕ → ℕ → List ℕ → List ℕ

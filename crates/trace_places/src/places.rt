@@ -1,4 +1,5 @@
 // The places of a batch's events in its trace: `specs/Traces` has the table. Each place is put at the head of the chain of the row that it names.
+use chains::push;
 use tables::Found;
 ghost use mathlib.Core.Path.{_≡_};
 ghost use mathlib.Core.Option.{some};
@@ -94,13 +95,7 @@ fn put(place: u32, row: u32, trace: &mut [u16])
     requires { ⌜ (length (now trace) ≡ 2593) × (place < 512) × (row ≤ maxObjects) ⌝ }
     ensures { λ _. ⌜ now (trace .exit) ≡ placed (now (trace .entry)) place row ⌝ }
 {
-    let head = (1568 + row) as usize;
-    let next = (512 + place) as usize;
-    let first = trace[head];
-    let at = place as usize;
-    trace[at] = row as u16;
-    trace[next] = first;
-    trace[head] = (place + 1) as u16;
+    push(place, row, 512, 1568 + row, trace);
 }
 
 // Both places of an event.

@@ -7,7 +7,7 @@ use native.Mathlib.Nat.{eq-or-lt-of-le}
 use native.Mathlib.Omega.{arith}
 use lib.Dec.{eqb}
 use borrow.Author.Tests.{eqb-true, eqb-false}
-use Rattle.link_index.specs.Chains.{leadFrom, lead, slotWord, Chained}
+use Rattle.chains.specs.Chains.{leadFrom, lead, slotWord, Chained}
 
 module _ (key : ℕ → ℕ) (k : ℕ) where
   -- place j is the first of key k of those from i up to e
