@@ -34,7 +34,8 @@ use Rattle.schema.proofs.Rows.{row-there}
 use Rattle.schema.proofs.Types.{type-known, cells-used}
 use Rattle.body_rows.specs.Marks.{bodyOf}
 use Rattle.checks.specs.Given.{Given, EventsLent, EventsKnown}
-use Rattle.checks.proofs.Stages.{over, torn, others-decide}
+use Rattle.lent_tables.proofs.Torn.{torn}
+use Rattle.checks.proofs.Stages.{over, others-decide}
 use Rattle.known_events.proofs.Known.{kind-known}
 
 pub clear-none : (o : Option Refusal) → Clear ≡ verdictOf o → o ≡ none

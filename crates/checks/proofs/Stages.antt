@@ -1,7 +1,7 @@
 -- The stages of the checks are the definitions' first refusal.
 use Prim.Native.Nat.{ℕ}
 use mathlib.Core.Path.{_≡_, refl, sym, ap, _∙_}
-use mathlib.Core.Bool.{Bool, true, false, _||_, not, cond, or-false, or-assoc, or-comm}
+use mathlib.Core.Bool.{Bool, true, false, _||_, not, cond, or-assoc, or-comm}
 use mathlib.Core.List.{List, [], _∷_, _++_}
 use mathlib.Core.Option.{Option, none, some}
 use Rattle.meaning.specs.Lists.{any, firstOf}
@@ -10,12 +10,12 @@ use Rattle.meaning.specs.Register.{Register, objectFault, linkFault}
 use Rattle.meaning.specs.Forms.{Book, ruleFault}
 use Rattle.meaning.specs.Events.{Refusal}
 use Rattle.meaning.specs.Answers.{refusalAt, bookRefusal, registerRefusal, refusal}
-use Rattle.rows.specs.Rows.{wholeRows}
 use Rattle.tables.specs.Layouts.{Sheet, sheetOf, Layout, eventTable, bookTables, layouts}
 use Rattle.tables.specs.Columns.{bookOf, registerIn}
 use Rattle.tables.specs.Refusals.{foundOf, verdictOf, overfull, anyOverfull, anyLong, notWhole, tableRefusal, refusalOf}
 use Rattle.tables.specs.declared.Counts.{Counts}
 use Rattle.tables.specs.declared.Verdict.the-variants.{Clear, Refused}
+use Rattle.lent_tables.proofs.Torn.{any-last, torn, all-whole}
 use Rattle.checks.specs.Stages.{staged}
 
 stage : (number : ℕ) (place : Option ℕ) (rest : Option Refusal) → verdictOf (firstOf (refusalAt number place) rest) ≡ staged number (foundOf place) (verdictOf rest)
@@ -77,15 +77,8 @@ module _ (n : Counts) (s : Sheet) where
 
 -- ---- the events' table too
 
-any-last : {A : Type 0} (p : A → Bool) (l : List A) (x : A) → any p (l ++ x ∷ []) ≡ (any p l || p x)
-any-last p [] x = or-false (p x)
-any-last p (y ∷ l) x = ap (λ b. p y || b) (any-last p l x) ∙ sym (or-assoc (p y) (any p l) (p x))
-
 abbrev pub over : Counts → Sheet → Layout → Bool
 over n s l = overfull (l .words s) (l .width) (l .used n) (l .limit)
-
-abbrev pub torn : Sheet → Layout → Bool
-torn s l = not (wholeRows (l .words s) (l .width))
 
 module _ (n : Counts) (s : Sheet) (short : Bool) where
   many : anyOverfull layouts n s ≡ (over n s eventTable || anyOverfull bookTables n s)
@@ -93,8 +86,7 @@ module _ (n : Counts) (s : Sheet) (short : Bool) where
   many = any-last (over n s) bookTables eventTable ∙ or-comm (anyOverfull bookTables n s) (over n s eventTable)
 
   whole : (notWhole layouts s || short) ≡ (notWhole bookTables s || (torn s eventTable || short))
-  unfolding layouts
-  whole = ap (λ b. b || short) (any-last (torn s) bookTables eventTable) ∙ or-assoc (notWhole bookTables s) (torn s eventTable) short
+  whole = ap (λ b. b || short) (all-whole s) ∙ or-assoc (notWhole bookTables s) (torn s eventTable) short
 
   pub events-refused : over n s eventTable ≡ true → verdictOf (refusalOf layouts n s short) ≡ Refused 2 0
   events-refused e = counts-refused n s layouts short (many ∙ ap (λ b. b || anyOverfull bookTables n s) e)

@@ -12,8 +12,6 @@ use tables::RELATIONSHIP_WIDTH;
 use tables::RULE_WIDTH;
 use tables::TYPE_WIDTH;
 ghost use mathlib.Core.Path.{_≡_};
-ghost use mathlib.Core.Bool.{not};
-ghost use Rattle.rows.specs.Rows.{wholeRows};
 ghost use Rattle.tables.specs.Layouts.{sheetOf, layouts, linesLent};
 ghost use Rattle.tables.specs.Refusals.{notWhole};
 ghost use Rattle.reader.specs.Reads.{lentReading, readAnswer, sheetAfter};
@@ -50,12 +48,6 @@ fn room_of(
     [a, b, c, d, e, f]
 }
 
-fn not_whole(t: &[u32], width: u32) -> bool
-    ensures { λ r. ⌜ r ≡ not (wholeRows (now (t .entry)) width) ⌝ }
-{
-    !rows::whole(t, width)
-}
-
 // 6: whether a table is not whole rows.
 fn any_broken(
     types: &[u32],
@@ -68,14 +60,8 @@ fn any_broken(
 ) -> bool
     ensures { λ r. ⌜ r ≡ notWhole layouts (sheetOf (now (types .entry)) (now (relationships .entry)) (now (rules .entry)) (now (bodies .entry)) (now (objects .entry)) (now (links .entry)) (now (events .entry))) ⌝ }
 {
-    let a = not_whole(types, TYPE_WIDTH);
-    let b = not_whole(relationships, RELATIONSHIP_WIDTH);
-    let c = not_whole(rules, RULE_WIDTH);
-    let d = not_whole(bodies, BODY_WIDTH);
-    let e = not_whole(objects, OBJECT_WIDTH);
-    let f = not_whole(links, LINK_WIDTH);
-    let g = not_whole(events, EVENT_WIDTH);
-    or(a, or(b, or(c, or(d, or(e, or(f, or(g, false)))))))
+    let others = lent_tables::any_broken(types, relationships, rules, bodies, objects, links);
+    or(others, lent_tables::not_whole(events, EVENT_WIDTH))
 }
 
 // What a read into the tables answers: 2 of the text's length, 1 and 2 of its lines, then 6 of the tables.

@@ -1,10 +1,10 @@
--- `checks::any_overfull` meets its contract.
+-- `lent_tables::any_overfull` meets its contract.
 use mathlib.Core.Path.{_≡_, refl, ap₂, _∙_}
 use mathlib.Core.Bool.{Bool, _||_}
 use Rattle.tables.specs.Layouts.{bookTables}
 use borrow.Author.Needs.{needs}
-use Rattle.checks.proofs.any_overfull.Statement.{statement}
-use Rattle.checks.proofs.any_overfull.Tie as tie
+use Rattle.lent_tables.proofs.any_overfull.Statement.{statement}
+use Rattle.lent_tables.proofs.any_overfull.Tie as tie
 
 cast-too-many : tie.Need-cast-too-many
 cast-too-many c = search needs

@@ -1,4 +1,4 @@
--- `checks::any_long` meets its contract. The invariant: a rule is long if one from `row` on is.
+-- `lent_tables::any_long` meets its contract. The invariant: a rule is long if one from `row` on is.
 use Prim.Native.Nat.{_+_, _-_, _≤_, _<_}
 use mathlib.Core.Path.{_≡_, refl, sym, ap, subst, _∙_}
 use mathlib.Core.Bool.{true, false, _||_}
@@ -10,9 +10,9 @@ use Rattle.meaning.specs.Lists.{any}
 use Rattle.meaning.specs.Limits.{maxForms}
 use Rattle.rows.specs.Rows.{rowsFrom}
 use Rattle.tables.specs.Refusals.{longBody, anyLong}
-use Rattle.checks.proofs.Counting.{passesFrom, passes-here, passes-nowhere}
-use Rattle.checks.proofs.any_long.Statement.{statement}
-use Rattle.checks.proofs.any_long.Tie as tie
+use Rattle.lent_tables.proofs.Counting.{passesFrom, passes-here, passes-nowhere}
+use Rattle.lent_tables.proofs.any_long.Statement.{statement}
+use Rattle.lent_tables.proofs.any_long.Tie as tie
 
 abbrev Inv-loop : tie.InvT-loop
 Inv-loop rules count row₀ row = (row ≤ count) × (passesFrom (longBody rules) count row ≡ anyLong rules count)

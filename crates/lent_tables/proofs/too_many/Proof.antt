@@ -1,8 +1,8 @@
--- `checks::too_many` meets its contract.
-use Rattle.checks.proofs.Counting.{above-limit, within-limit}
+-- `lent_tables::too_many` meets its contract.
+use Rattle.lent_tables.proofs.Counting.{above-limit, within-limit}
 use borrow.Author.Needs.{needs}
-use Rattle.checks.proofs.too_many.Statement.{statement}
-use Rattle.checks.proofs.too_many.Tie as tie
+use Rattle.lent_tables.proofs.too_many.Statement.{statement}
+use Rattle.lent_tables.proofs.too_many.Tie as tie
 
 returns : tie.Need-returns
 returns c = above-limit (c .before .before .args .limit) _ (c .before .before .args .used) (c .if1 .taken)

@@ -1,8 +1,8 @@
--- `checks::any_broken` meets its contract.
+-- `lent_tables::any_broken` meets its contract.
 use Rattle.tables.specs.Layouts.{bookTables}
 use borrow.Author.Needs.{needs}
-use Rattle.checks.proofs.any_broken.Statement.{statement}
-use Rattle.checks.proofs.any_broken.Tie as tie
+use Rattle.lent_tables.proofs.any_broken.Statement.{statement}
+use Rattle.lent_tables.proofs.any_broken.Tie as tie
 
 not-whole-requires : tie.Need-not-whole-requires
 not-whole-requires c κs = search needs

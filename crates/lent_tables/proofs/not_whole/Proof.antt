@@ -1,9 +1,9 @@
--- `not_whole` meets its contract.
+-- `lent_tables::not_whole` meets its contract.
 use mathlib.Core.Path.{ap}
 use mathlib.Core.Bool.{not}
 use borrow.Author.Needs.{needs}
-use Rattle.reader.proofs.not_whole.Statement.{statement}
-use Rattle.reader.proofs.not_whole.Tie as tie
+use Rattle.lent_tables.proofs.not_whole.Statement.{statement}
+use Rattle.lent_tables.proofs.not_whole.Tie as tie
 
 whole-requires : tie.Need-whole-requires
 whole-requires c κs = search needs
