@@ -1,25 +1,25 @@
--- `answers::rule_events::event_lines` meets its contract. The invariant: the lines of the first i event types are put.
+-- `event_lines::events` meets its contract. The invariant: the first i event types are put.
 use Prim.Native.Nat.{_-_, _≤_}
 use mathlib.Core.Path.{_≡_, sym, ap}
 use native.Mathlib.Omega.{arith}
 use borrow.Author.Needs.{needs}
 use Rattle.line_writer.specs.Put.{Put}
 use Rattle.line_writer.proofs.Puts.{put-nothing, put-then, put-as}
-use Rattle.answers.specs.Events.{eventLines, eventTypesIn}
-use Rattle.answers.proofs.EventLines.{no-events, more-events, kind-known}
-use Rattle.answers.proofs.rule_events.event_lines.Statement.{statement}
-use Rattle.answers.proofs.rule_events.event_lines.Tie as tie
+use Rattle.event_lines.specs.Events.{eventsShown, eventTypesIn}
+use Rattle.event_lines.proofs.Lines.{no-events, more-events, kind-known}
+use Rattle.event_lines.proofs.events.Statement.{statement}
+use Rattle.event_lines.proofs.events.Tie as tie
 
 abbrev Inv-loop : tie.InvT-loop
-Inv-loop out₀ rule count list next₀ i₀ out next i = (i ≤ count) × Put out₀ 0 (eventLines rule (eventTypesIn list i)) out next
+Inv-loop out₀ at count list next₀ i₀ out next i = (i ≤ count) × Put out₀ at (eventsShown (eventTypesIn list i)) out next
 
 abbrev μ-loop : tie.MeasureT-loop
-μ-loop out₀ rule count list next₀ i₀ out next i = count - i
+μ-loop out₀ at count list next₀ i₀ out next i = count - i
 
 loop-holds : tie.Need-loop-holds Inv-loop μ-loop
 loop-holds c =
     let a = c .before .before .args in
-    (search needs, put-as (put-nothing _ _ (omega arith)) (sym (no-events (a .«rule») (a .list .now))))
+    (search needs, put-as (put-nothing _ _ (c .before .before .pre .2)) (sym (no-events (a .list .now))))
 
 cast-place : tie.Need-cast-place Inv-loop μ-loop
 cast-place c = search needs
@@ -60,8 +60,8 @@ shared-slice-read-wide-3 c = search needs
 wide-requires-3 : tie.Need-wide-requires-3 Inv-loop μ-loop
 wide-requires-3 c κs = search needs
 
-event-line-requires : tie.Need-event-line-requires Inv-loop μ-loop
-event-line-requires c κs =
+event-requires : tie.Need-event-requires Inv-loop μ-loop
+event-requires c κs =
     let at-kind = c .before .before .before .before .before in
     let head = at-kind .before .before .before in
     kind-known (head .before .before .before .args .list .now) (head .loop .i) (at-kind .wide .ensures) (head .before .before .before .pre .1 (head .loop .i) (omega arith))
@@ -80,7 +80,7 @@ loop-again c =
     let head = at-kind .before .before .before in
     let a = head .before .before .before .args in (
       search needs,
-      put-as (put-then (head .loop .inv .1) (c .before .before .event-line .ensures)) (more-events (a .«rule») (a .list .now) (head .loop .i) (at-kind .wide .ensures) (at-named .wide2 .ensures) (at-cell .wide3 .ensures)),
+      put-as (put-then (head .loop .inv .1) (c .before .before .event .ensures)) (more-events (a .list .now) (head .loop .i) (at-kind .wide .ensures) (at-named .wide2 .ensures) (at-cell .wide3 .ensures)),
     )
 
 same-length : tie.Need-same-length Inv-loop μ-loop
@@ -91,10 +91,10 @@ returns c =
     let head = c .before in
     let a = head .before .before .before .args in
     let all : head .loop .i ≡ a .count = omega arith in
-    put-as (head .loop .inv .1) (ap (λ k. eventLines (a .«rule») (eventTypesIn (a .list .now) k)) all)
+    put-as (head .loop .inv .1) (ap (λ k. eventsShown (eventTypesIn (a .list .now) k)) all)
 
-pub event-lines-spec : {M : Type 1} → statement M
-event-lines-spec =
+pub events-spec : {M : Type 1} → statement M
+events-spec =
     tie.close
     (tie.spec
     Inv-loop
@@ -113,7 +113,7 @@ event-lines-spec =
     mul-wide-3
     shared-slice-read-wide-3
     wide-requires-3
-    event-line-requires
+    event-requires
     add-i
     loop-less
     loop-again

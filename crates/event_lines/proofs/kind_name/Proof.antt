@@ -1,10 +1,10 @@
--- `answers::rule_events::kind_name` meets its contract.
+-- `event_lines::kind_name` meets its contract.
 use native.Mathlib.Omega.{arith}
 use Rattle.line_writer.proofs.Puts.{put-of, put-as}
-use Rattle.answers.proofs.KindNames.{starts, letters, named}
+use Rattle.event_lines.proofs.KindNames.{starts, letters, named}
 use borrow.Author.Needs.{needs}
-use Rattle.answers.proofs.rule_events.kind_name.Statement.{statement}
-use Rattle.answers.proofs.rule_events.kind_name.Tie as tie
+use Rattle.event_lines.proofs.kind_name.Statement.{statement}
+use Rattle.event_lines.proofs.kind_name.Tie as tie
 
 mul-from : tie.Need-mul-from
 mul-from c = search needs
