@@ -115,7 +115,7 @@ module _ (rule : ℕ) (list : List ℕ) (fits : rule < 2 ^ 32) (words : (k : ℕ
         length-append eventsName (32 ∷ digitsOf rule),
         ten-digits rule fits,
         flat-short eventShown (eventTypeIn list) 16 count
-        (λ i h. event-size (wordAt list 3 i 0) (wordAt list 3 i 1) (wordAt list 3 i 2) (known i h) (words (i * 3 + 1)) (words (i * 3 + 2))),
+            (λ i h. event-size (wordAt list 3 i 0) (wordAt list 3 i 1) (wordAt list 3 i 2) (known i h) (words (i * 3 + 1)) (words (i * 3 + 2))),
       )
 
 -- ---- event types whose words are at the front of a list are its first event types

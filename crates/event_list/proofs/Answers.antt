@@ -9,6 +9,7 @@ use borrow.Author.Tests.{lt-ltb, le-ltb, ltb-true}
 use lib.Dec.{T, ltb}
 use lib.ListN.{length, getD, replicate, getElem?, getD-replicate, length-replicate}
 use Rattle.meaning.specs.Lists.{firstOf, _∈_}
+use Rattle.meaning.specs.Limits.{maxRules}
 use Rattle.meaning.specs.Schema.{Schema}
 use Rattle.meaning.specs.Register.{objectFault, linkFault}
 use Rattle.meaning.specs.Forms.{Rule, Book}
@@ -66,6 +67,11 @@ unfolding refusalOf tableRefusal bookTables ruleTables refusal registerRefusal o
 book-alone n types relationships rules bodies =
     let s = sheetOf types relationships rules bodies [] [] [] in
     ap (firstOf (tableRefusal ruleTables n s false)) (sym (first-none (bookRefusal (bookOf n s))))
+
+-- a book that is not refused has at most 32 rules
+pub few-rules : (n : Counts) (types relationships rules bodies : List ℕ) → lentBookRefusal n (sheetOf types relationships rules bodies [] [] []) ≡ none → n .rules ≤ maxRules
+few-rules n types relationships rules bodies e =
+    given (bookAlone n) (sheetOf types relationships rules bodies [] [] []) false (book-alone n types relationships rules bodies ∙ e) .few-rules
 
 module _ (n : Counts) (types relationships rules bodies : List ℕ) (rule : ℕ) where
   abbrev s : Sheet

@@ -39,8 +39,8 @@ returns c =
     let start = at-list .before .before in
     let a = start .args in (
       put-as
-      (put-then (put-then (put-then (put-of (at-word .write-bytes .ensures)) (at-rule .number .ensures)) (at-events .events .ensures)) (put-of (c .before .before .write-bytes2 .ensures)))
-      (line-is _ _),
+          (put-then (put-then (put-then (put-of (at-word .write-bytes .ensures)) (at-rule .number .ensures)) (at-events .events .ensures)) (put-of (c .before .before .write-bytes2 .ensures)))
+          (line-is _ _),
       line-long (a .«rule») (a .list .now) (omega arith) (λ k. at-list .shared-slice-known .given k .fits) (a .count) (start .pre .1),
     )
 
