@@ -1,0 +1,3 @@
+-- What the program `park` prints of a text.
+--   Prints   by what is asked
+pub mod Prints
