@@ -1,4 +1,6 @@
 // What the program `park` prints of a text, by what is asked of it.
+pub mod words;
+
 use reader::Outcome;
 use tables::Counts;
 ghost use mathlib.Core.Path.{_≡_};
