@@ -62,4 +62,5 @@ def main():
     sys.exit(counts['disagreements'] > 0)
 
 
-main()
+if __name__ == '__main__':
+    main()
