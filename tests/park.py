@@ -155,6 +155,15 @@ def refusals(count):
         count.refusal(name, ended(TYPES + more), answers)
 
 
+def every_pair(count):
+    """32 rules that an insert reaches at all of 1,024 objects: the longest list that there is."""
+    rules = [f'(rule {r} 0 (le (size (all 1)) (num 5)))' for r in range(32)]
+    objects = [f'(ent {i} 0)' for i in range(1, 1024)]
+    pairs = [f'pair {r} {i}' for r in range(32) for i in [*range(1, 1024), 65535]]
+    text = ended(['(type 0 - 0)', '(type 1 0 0)'] + rules + objects + ['(insert 65535 1)'])
+    count.compare('every pair', 'check', text, ended(['answer accepted'] + pairs))
+
+
 def main():
     every = int(sys.argv[2]) if len(sys.argv) > 2 else 1
     stored = (pathlib.Path(__file__).parent.parent / 'crates/test_batch/stdin').read_text()
@@ -165,6 +174,7 @@ def main():
     for seed in range(3):
         count.case(f'a thousand objects, {seed}', *park(random.Random(seed)))
     refusals(count)
+    every_pair(count)
     print(f'{len(cases[::every])} cases, {count.visits} next visits, {count.runs} runs of park, {count.wrong} disagreements')
     sys.exit(count.wrong > 0)
 
