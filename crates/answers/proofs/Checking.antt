@@ -5,7 +5,7 @@ use mathlib.Core.Bool.{Bool, false}
 use mathlib.Core.List.{List, []}
 use native.Mathlib.Omega.{arith}
 use borrow.Author.Tests.{lt-ltb, le-ltb}
-use lib.ListN.{length, drop, replicate, length-append}
+use lib.ListN.{length, drop, length-append}
 use Rattle.meaning.specs.Answers as Meaning
 use Rattle.meaning.specs.Answers.{Outcome}
 use Rattle.tables.specs.Layouts.{Sheet}
@@ -19,12 +19,12 @@ use Rattle.pair_list.proofs.Words.{words-length}
 use Rattle.batch.specs.Checked.{lentOutcome, Left}
 use Rattle.batch.specs.declared.Checked.{Checked}
 use Rattle.answers.specs.Printed.{printed, meant, pairsIn}
-use Rattle.answers.specs.Checks.{lentSheet, listWords, outcomePrinted, readPrinted, readingPrinted, checkPrints}
+use Rattle.answers.specs.Checks.{Room, lentSheet, outcomePrinted, batchPrinted, readPrinted, readingPrinted, textPrints}
 use Rattle.answers.proofs.Printed.{meant-back, pairs-back}
 
--- the scratch that the program lends is no shorter than its tables
-pub long-enough : (objects links : List ℕ) → length objects ≤ 1280 → length links ≤ 1536 → scratchShort objects links (replicate 1280 0) (replicate 1536 0) ≡ false
-long-enough objects links h k = rw (le-ltb 1280 (length objects) h, le-ltb 1536 (length links) k)
+-- a scratch that is no shorter than the tables
+pub long-enough : (objects links scratchObjects scratchLinks : List ℕ) → length objects ≤ length scratchObjects → length links ≤ length scratchLinks → scratchShort objects links scratchObjects scratchLinks ≡ false
+long-enough objects links so sl h k = rw (le-ltb (length so) (length objects) h, le-ltb (length sl) (length links) k)
 
 -- ---- a batch check
 
@@ -40,29 +40,30 @@ module _ {o : Outcome} {list list′ objects links objects′ links′ : List �
   outcome-is =
       ap₂ printed (ap meant (left .answer-is) ∙ meant-back (o .answer)) (ap (pairsIn list′) (left .pairs-are) ∙ pairs-back (o .pairs) list′ list (left .list-is))
 
--- with the scratch and the list that the program lends
-pub lent-outcome : (n : Counts) (s : Sheet) {short : Bool} {words : ℕ} → short ≡ false → words ≡ listWords → outcomePrinted (lentOutcome n s short words) ≡ outcomePrinted (lentOutcome n s false listWords)
-lent-outcome n s p q = ap₂ (λ short words. outcomePrinted (lentOutcome n s short words)) p q
+-- with a scratch that is long enough
+pub lent-outcome : (n : Counts) (s : Sheet) {short : Bool} (words : ℕ) → short ≡ false → outcomePrinted (lentOutcome n s short words) ≡ batchPrinted words n s
+unfolding batchPrinted
+lent-outcome n s words p = ap (λ short. outcomePrinted (lentOutcome n s short words)) p
 
 -- ---- a read
 
-module _ (text : List ℕ) where
-  pub long-text : 8192 < length text → printed (Meaning.refused 2 0) [] ≡ checkPrints text
-  unfolding checkPrints
-  long-text h = sym (rw (lt-ltb 8192 (length text) h))
+module _ (room : Room) (show : Counts → Sheet → List ℕ) (text : List ℕ) where
+  pub long-text : room .bytes < length text → printed (Meaning.refused 2 0) [] ≡ textPrints room show text
+  unfolding textPrints
+  long-text h = sym (rw (lt-ltb (room .bytes) (length text) h))
 
   abbrev reading : Reading
-  reading = lentReading text lentSheet
+  reading = lentReading text (lentSheet room)
 
-  module _ (h : length text ≤ 8192) where
-    short-text : readingPrinted reading ≡ checkPrints text
-    unfolding checkPrints
-    short-text = sym (rw (le-ltb 8192 (length text) h))
+  module _ (h : length text ≤ room .bytes) where
+    short-text : readingPrinted show reading (lentSheet room) ≡ textPrints room show text
+    unfolding textPrints
+    short-text = sym (rw (le-ltb (room .bytes) (length text) h))
 
-    pub read-refused : {number line : ℕ} → Refused number line ≡ readAnswer reading → printed (Meaning.refused number line) [] ≡ checkPrints text
+    pub read-refused : {number line : ℕ} → Refused number line ≡ readAnswer reading → printed (Meaning.refused number line) [] ≡ textPrints room show text
     unfolding readingPrinted readPrinted
-    read-refused e = ap (λ a. readPrinted a (sheetAfter reading lentSheet)) e ∙ short-text
+    read-refused e = ap (λ a. readPrinted show a (sheetAfter reading (lentSheet room))) e ∙ short-text
 
-    pub read-done : {n : Counts} {s : Sheet} → Done n ≡ readAnswer reading → s ≡ sheetAfter reading lentSheet → outcomePrinted (lentOutcome n s false listWords) ≡ checkPrints text
+    pub read-done : {n : Counts} {s : Sheet} → Done n ≡ readAnswer reading → s ≡ sheetAfter reading (lentSheet room) → show n s ≡ textPrints room show text
     unfolding readingPrinted readPrinted
-    read-done e t = ap₂ readPrinted e t ∙ short-text
+    read-done e t = ap₂ (readPrinted show) e t ∙ short-text

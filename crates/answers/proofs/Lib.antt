@@ -2,14 +2,10 @@
 --   Numbers   the digits of a number, and how many there are
 --   Lines     lines by their pieces, and how long they are
 --   Rows      the first rows of a list: one more, and those that were written there
---   KindNames the names of the kinds of events
 --   Printed   an answer and its pairs
---   EventLines  the line of an event type by its words
 --   Checking  a batch check and a read, by what they leave
 pub mod Numbers
 pub mod Lines
 pub mod Rows
-pub mod KindNames
 pub mod Printed
-pub mod EventLines
 pub mod Checking

@@ -32,11 +32,6 @@ pub line-number : (name : List ℕ) (n : ℕ) (ns : List ℕ) → lineOf (name +
 unfolding lineOf spaced
 line-number name n ns = ap (λ l. l ++ 10 ∷ []) (append-assoc name (32 ∷ digitsOf n) (spaced ns))
 
--- a line without a name goes after one
-pub line-ending : (name ns : List ℕ) → name ++ lineOf [] ns ≡ lineOf name ns
-unfolding lineOf
-line-ending name ns = sym (append-assoc name (spaced ns) (10 ∷ []))
-
 pub line-two : (name : List ℕ) (x y : ℕ) → ((name ++ 32 ∷ digitsOf x) ++ 32 ∷ digitsOf y) ++ 10 ∷ [] ≡ lineOf name (x ∷ y ∷ [])
 line-two name x y = line-none _ ∙ line-number (name ++ 32 ∷ digitsOf x) y [] ∙ line-number name x (y ∷ [])
 

@@ -1,4 +1,4 @@
--- Document 01, "Book A": what the program prints of a text.
+-- Document 01, "Book A": what a program prints of a text, in the room that it lends.
 use Prim.Native.Nat.{ℕ, _*_}
 use mathlib.Core.Bool.{false, cond}
 use mathlib.Core.List.{List, []}
@@ -6,6 +6,7 @@ use lib.Dec.{ltb}
 use lib.ListN.{length, replicate}
 use Rattle.meaning.specs.Answers.{Outcome, refused}
 use Rattle.tables.specs.Layouts.{Sheet, sheetOf}
+use Rattle.tables.specs.declared.Counts.{Counts}
 use Rattle.text.specs.Texts.{Reading}
 use Rattle.reader.specs.Reads.{lentReading, readAnswer, sheetAfter}
 use Rattle.reader.specs.declared.Outcome as Read
@@ -13,30 +14,44 @@ use Rattle.reader.specs.declared.Outcome.the-variants.{Done, Refused}
 use Rattle.batch.specs.Checked.{lentOutcome}
 use Rattle.answers.specs.Printed.{printed}
 
--- "It reads at most 8,192 bytes"
-abbrev pub maxBytes : ℕ
-maxBytes = 8192
+-- what a program lends: the bytes of a text, the rows of each table, and the words for the list
+pub record Room : Type 0 where
+  pub bytes : ℕ
+  pub objects : ℕ
+  pub links : ℕ
+  pub rules : ℕ
+  pub events : ℕ
+  pub words : ℕ
 
--- "and lends tables for 128 objects, 512 links, 8 rules and 64 events", and for every type and relationship that there can be, each rows times the words of a row; nothing stands in them yet
-unfoldable pub lentSheet : Sheet
-lentSheet =
-    sheetOf (replicate (32 * 2) 0) (replicate (32 * 2) 0) (replicate (8 * 2) 0) (replicate (8 * 64 * 4) 0) (replicate (128 * 10) 0) (replicate (512 * 3) 0) (replicate (64 * 4) 0)
+-- "It reads at most 8,192 bytes and lends tables for 128 objects, 512 links, 8 rules and 64 events, with 2,048 words for the list"
+abbrev pub checkRoom : Room
+checkRoom = record { bytes = 8192; objects = 128; links = 512; rules = 8; events = 64; words = 2048 }
 
--- "with 2,048 words for the list"
-abbrev pub listWords : ℕ
-listWords = 2048
+-- its tables, and those for every type and relationship that there can be, each rows times the words of a row; nothing stands in them yet
+unfoldable pub lentSheet : Room → Sheet
+lentSheet room =
+    sheetOf (replicate (32 * 2) 0) (replicate (32 * 2) 0) (replicate (room .rules * 2) 0) (replicate (room .rules * 64 * 4) 0) (replicate (room .objects * 10) 0) (replicate (room .links * 3) 0)
+    (replicate (room .events * 4) 0)
 
 unfoldable pub outcomePrinted : Outcome → List ℕ
 outcomePrinted o = printed (o .answer) (o .pairs)
 
--- what a read says, with the tables that it left: a refusal of the text, or the batch check of the tables
-unfoldable pub readPrinted : Read.Outcome → Sheet → List ℕ
-readPrinted (Done n) s = outcomePrinted (lentOutcome n s false listWords)
-readPrinted (Refused number line) s = printed (refused number line) []
+-- the batch check of tables that were read
+unfoldable pub batchPrinted : ℕ → Counts → Sheet → List ℕ
+batchPrinted words n s = outcomePrinted (lentOutcome n s false words)
 
-unfoldable pub readingPrinted : Reading → List ℕ
-readingPrinted r = readPrinted (readAnswer r) (sheetAfter r lentSheet)
+-- what a read says, with the tables that it left: a refusal of the text, or what `show` prints of the tables
+unfoldable pub readPrinted : (Counts → Sheet → List ℕ) → Read.Outcome → Sheet → List ℕ
+readPrinted show (Done n) s = show n s
+readPrinted show (Refused number line) s = printed (refused number line) []
+
+unfoldable pub readingPrinted : (Counts → Sheet → List ℕ) → Reading → Sheet → List ℕ
+readingPrinted show r before = readPrinted show (readAnswer r) (sheetAfter r before)
 
 -- "a longer text (line 0) or a larger count is refused 2"
+unfoldable pub textPrints : Room → (Counts → Sheet → List ℕ) → List ℕ → List ℕ
+textPrints room show text =
+    cond (ltb (room .bytes) (length text)) (printed (refused 2 0) []) (readingPrinted show (lentReading text (lentSheet room)) (lentSheet room))
+
 unfoldable pub checkPrints : List ℕ → List ℕ
-checkPrints text = cond (ltb maxBytes (length text)) (printed (refused 2 0) []) (readingPrinted (lentReading text lentSheet))
+checkPrints = textPrints checkRoom (batchPrinted (checkRoom .words))

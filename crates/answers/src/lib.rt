@@ -1,26 +1,23 @@
-// What the program prints of a text; of an answer and its pairs; and of a rule's event list.
+// What a program prints of a text; of tables that were read; and of an answer and its pairs.
 mod outcome;
-mod pieces;
-pub mod rule_events;
+pub mod pieces;
 
 pub use outcome::print;
 use reader::Outcome;
 use tables::Answer;
 use tables::Counts;
 ghost use mathlib.Core.Path.{_≡_};
-ghost use mathlib.Core.Bool.{false};
 ghost use mathlib.Core.List.{[]};
-ghost use Prim.Native.Nat.{_≤_};
+ghost use Prim.Native.Nat.{_/_, _≤_};
 ghost use lib.ListN.{length};
 ghost use Rattle.meaning.specs.Answers.{refused};
 ghost use Rattle.rows.specs.Rows.{inFront};
 ghost use Rattle.tables.specs.Layouts.{sheetOf};
-ghost use Rattle.batch.specs.Checked.{lentOutcome};
 ghost use Rattle.answers.specs.Printed.{printed, roomFor};
-ghost use Rattle.answers.specs.Checks.{outcomePrinted, listWords, checkPrints};
+ghost use Rattle.answers.specs.Checks.{batchPrinted, checkPrints};
 
-// A refusal of the text.
-fn refuse(number: u32, line: u32, out: &mut [u8]) -> usize
+// A refusal by itself.
+pub fn refuse(number: u32, line: u32, out: &mut [u8]) -> usize
     requires { ⌜ roomFor 0 ≤ length (now out) ⌝ }
     ensures { λ r. ⌜ (now (out .exit) ≡ inFront (printed (refused number line) []) (now (out .entry))) × (r ≡ length (printed (refused number line) [])) ⌝ }
 {
@@ -28,8 +25,45 @@ fn refuse(number: u32, line: u32, out: &mut [u8]) -> usize
     print(Answer::Refused(number, line), 0, &none, out)
 }
 
-// The batch check of tables that were read.
-fn check_tables(
+// The batch check of tables that were read, with a scratch no shorter than they are.
+pub fn check_tables(
+    n: Counts,
+    types: &[u32],
+    relationships: &[u32],
+    rules: &[u32],
+    bodies: &[u32],
+    objects: &mut [u32],
+    links: &mut [u32],
+    events: &[u32],
+    scratch_objects: &mut [u32],
+    scratch_links: &mut [u32],
+    list: &mut [u16],
+    out: &mut [u8],
+) -> usize
+    requires { ⌜ (length (now objects) ≤ length (now «scratch_objects»)) × (length (now links) ≤ length (now «scratch_links»)) × (roomFor (length (now list) / 2) ≤ length (now out)) ⌝ }
+    ensures { λ r. ⌜ (let s = sheetOf (now (types .entry)) (now (relationships .entry)) (now (rules .entry)) (now (bodies .entry)) (now (objects .entry)) (now (links .entry)) (now (events .entry)) in
+        let bytes = batchPrinted (length (now (list .entry))) n s in
+        (now (out .exit) ≡ inFront bytes (now (out .entry))) × (r ≡ length bytes)) ⌝ }
+{
+    let checked = batch::check(
+        n,
+        types,
+        relationships,
+        rules,
+        bodies,
+        objects,
+        links,
+        events,
+        scratch_objects,
+        scratch_links,
+        &mut *list,
+    );
+    let answer = checked.answer;
+    print(answer, checked.pairs, &*list, out)
+}
+
+// The same with the scratch and the list that `check` lends.
+fn check_read(
     n: Counts,
     types: &[u32],
     relationships: &[u32],
@@ -42,13 +76,13 @@ fn check_tables(
 ) -> usize
     requires { ⌜ (length (now objects) ≤ 1280) × (length (now links) ≤ 1536) × (roomFor 1024 ≤ length (now out)) ⌝ }
     ensures { λ r. ⌜ (let s = sheetOf (now (types .entry)) (now (relationships .entry)) (now (rules .entry)) (now (bodies .entry)) (now (objects .entry)) (now (links .entry)) (now (events .entry)) in
-        let bytes = outcomePrinted (lentOutcome n s false listWords) in
+        let bytes = batchPrinted 2048 n s in
         (now (out .exit) ≡ inFront bytes (now (out .entry))) × (r ≡ length bytes)) ⌝ }
 {
     let mut scratch_objects = [0u32; 1280];
     let mut scratch_links = [0u32; 1536];
     let mut list = [0u16; 2048];
-    let checked = batch::check(
+    check_tables(
         n,
         types,
         relationships,
@@ -60,9 +94,8 @@ fn check_tables(
         &mut scratch_objects,
         &mut scratch_links,
         &mut list,
-    );
-    let answer = checked.answer;
-    print(answer, checked.pairs, &list, out)
+        out,
+    )
 }
 
 // Reads a text, checks its batch, and prints what the check says at the front of the lent bytes; answers how many bytes that is.
@@ -90,7 +123,7 @@ pub fn check(text: &[u8], out: &mut [u8; 32768]) -> usize
         &mut events,
     ) {
         Outcome::Refused(number, line) => refuse(number, line, out),
-        Outcome::Done(n) => check_tables(
+        Outcome::Done(n) => check_read(
             n,
             &types,
             &relationships,

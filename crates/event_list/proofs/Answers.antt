@@ -7,8 +7,9 @@ use mathlib.Core.Option.{Option, none, some}
 use native.Mathlib.Omega.{arith}
 use borrow.Author.Tests.{lt-ltb, le-ltb, ltb-true}
 use lib.Dec.{T, ltb}
-use lib.ListN.{length, getD, replicate, getElem?, getD-replicate}
+use lib.ListN.{length, getD, replicate, getElem?, getD-replicate, length-replicate}
 use Rattle.meaning.specs.Lists.{firstOf, _∈_}
+use Rattle.meaning.specs.Limits.{maxRules}
 use Rattle.meaning.specs.Schema.{Schema}
 use Rattle.meaning.specs.Register.{objectFault, linkFault}
 use Rattle.meaning.specs.Forms.{Rule, Book}
@@ -17,25 +18,24 @@ use Rattle.meaning.specs.EventList.{EventType, eventList}
 use Rattle.meaning.specs.Answers.{refusalAt, bookRefusal, registerRefusal, refusal, lackedRule}
 use Rattle.meaning.proofs.Lists.{first-of-none}
 use Rattle.meaning.proofs.Touched.{event-list-ascends}
-use Rattle.rows.specs.Rows.{wordAt}
+use Rattle.rows.specs.Rows.{wordAt, readRows, inFront}
 use Rattle.tables.specs.Layouts.{Sheet, sheetOf, bookTables}
 use Rattle.tables.specs.Bodies.{wholeBody}
 use Rattle.tables.specs.Columns.{typeRow, relationshipRow, ruleRow, bookOf, registerIn}
 use Rattle.tables.specs.Refusals.{verdictOf, tableRefusal, refusalOf, lentRefusal}
 use Rattle.tables.specs.declared.Counts.{Counts}
 use Rattle.tables.specs.declared.Verdict.the-variants.{Clear, Refused}
-use Rattle.schema.proofs.Rows.{length-rows, row-there}
+use Rattle.schema.proofs.Rows.{length-rows, row-there, row-at}
 use Rattle.body_rows.specs.Marks.{bodyOf}
 use Rattle.checks.specs.Given.{Given}
 use Rattle.checks.proofs.Given.{given, clear-none}
-use Rattle.checks.proofs.Stages.{first-assoc, first-none}
+use Rattle.checks.proofs.Stages.{first-none}
 use Rattle.type_marks.specs.Marks.{places, marked, Added}
 use Rattle.event_marks.proofs.Bounds.{placed, book-placed}
 use Rattle.event_list.specs.Places.{markedBelow, placeWords}
-use Rattle.rows.specs.Rows.{inFront}
-use Rattle.event_list.specs.Answers.{ruleTables, ruleRefusal, listIn, listOf, listWords, roomRefusal, listRefusal, listedOf, answer, wordsAfter, listAfter}
+use Rattle.event_list.specs.Answers.{ruleTables, lentBookRefusal, ruleRefusal, listIn, listOf, listWords, roomRefusal, listRefusal, listedOf, answer, wordsAfter, listAfter}
 use Rattle.event_list.specs.declared.Listed.the-variants as Listed
-use Rattle.event_list.proofs.Places.{words-length}
+use Rattle.event_list.proofs.Places.{words-length, below-few}
 use Rattle.event_list.proofs.Read.{read-length, read-words}
 
 -- ---- a refusal that is met first
@@ -56,25 +56,29 @@ refused-words (some r) later es l e = refl
 abbrev unlessKnown : Bool → ℕ → Option Refusal
 unlessKnown known rule = cond known none (some (record { number = 4; place = rule }))
 
+-- the counts without a register
+abbrev bookAlone : Counts → Counts
+bookAlone n = record { types = n .types; relationships = n .relationships; rules = n .rules; objects = 0; links = 0; events = 0 }
+
+-- an empty register is never refused
+pub book-alone : (n : Counts) (types relationships rules bodies : List ℕ)
+    → lentRefusal (bookAlone n) (sheetOf types relationships rules bodies [] [] []) false ≡ lentBookRefusal n (sheetOf types relationships rules bodies [] [] [])
+unfolding refusalOf tableRefusal bookTables ruleTables refusal registerRefusal objectFault linkFault refusalAt lentBookRefusal
+book-alone n types relationships rules bodies =
+    let s = sheetOf types relationships rules bodies [] [] [] in
+    ap (firstOf (tableRefusal ruleTables n s false)) (sym (first-none (bookRefusal (bookOf n s))))
+
+-- a book that is not refused has at most 32 rules
+pub few-rules : (n : Counts) (types relationships rules bodies : List ℕ) → lentBookRefusal n (sheetOf types relationships rules bodies [] [] []) ≡ none → n .rules ≤ maxRules
+few-rules n types relationships rules bodies e =
+    given (bookAlone n) (sheetOf types relationships rules bodies [] [] []) false (book-alone n types relationships rules bodies ∙ e) .few-rules
+
 module _ (n : Counts) (types relationships rules bodies : List ℕ) (rule : ℕ) where
   abbrev s : Sheet
   s = sheetOf types relationships rules bodies [] [] []
 
-  -- the counts without a register
-  abbrev m : Counts
-  m = record { types = n .types; relationships = n .relationships; rules = n .rules; objects = 0; links = 0; events = 0 }
-
   abbrev k : Book
   k = bookOf n s
-
-  -- an empty register is never refused
-  book-alone : lentRefusal m s false ≡ firstOf (tableRefusal ruleTables n s false) (bookRefusal k)
-  unfolding refusalOf tableRefusal bookTables ruleTables refusal registerRefusal objectFault linkFault refusalAt
-  book-alone = ap (firstOf (tableRefusal ruleTables n s false)) (sym (first-none (bookRefusal k)))
-
-  in-turn : firstOf (lentRefusal m s false) (lackedRule k rule) ≡ ruleRefusal n s rule
-  unfolding ruleRefusal
-  in-turn = ap (λ o. firstOf o (lackedRule k rule)) book-alone ∙ first-assoc (tableRefusal ruleTables n s false) (bookRefusal k) (lackedRule k rule)
 
   lacked-is : unlessKnown (ltb rule (n .rules)) rule ≡ lackedRule k rule
   unfolding lackedRule
@@ -82,15 +86,16 @@ module _ (n : Counts) (types relationships rules bodies : List ℕ) (rule : ℕ)
 
   -- ---- the verdict
 
-  pub book-refused : {number place : ℕ} → Refused number place ≡ verdictOf (lentRefusal m s false) → Refused number place ≡ verdictOf (ruleRefusal n s rule)
-  book-refused e = refused-first (lentRefusal m s false) (lackedRule k rule) e ∙ ap verdictOf in-turn
+  pub book-refused : {number place : ℕ} → Refused number place ≡ verdictOf (lentBookRefusal n s) → Refused number place ≡ verdictOf (ruleRefusal n s rule)
+  unfolding ruleRefusal
+  book-refused e = refused-first (lentBookRefusal n s) (lackedRule k rule) e
 
-  module _ (clear : Clear ≡ verdictOf (lentRefusal m s false)) where
+  module _ (clear : Clear ≡ verdictOf (lentBookRefusal n s)) where
     lacked-decides : verdictOf (unlessKnown (ltb rule (n .rules)) rule) ≡ verdictOf (ruleRefusal n s rule)
+    unfolding ruleRefusal
     lacked-decides =
         ap verdictOf lacked-is
-        ∙ ap (λ o. verdictOf (firstOf o (lackedRule k rule))) (sym (clear-none (lentRefusal m s false) clear))
-        ∙ ap verdictOf in-turn
+        ∙ ap (λ o. verdictOf (firstOf o (lackedRule k rule))) (sym (clear-none (lentBookRefusal n s) clear))
 
     pub rule-known : rule < n .rules → Clear ≡ verdictOf (ruleRefusal n s rule)
     rule-known h = rw (lt-ltb rule (n .rules) h) at lacked-decides
@@ -109,11 +114,12 @@ module _ (n : Counts) (types relationships rules bodies : List ℕ) (rule : ℕ)
   -- ---- no refusal of the book
 
   module _ (clear : Clear ≡ verdictOf (ruleRefusal n s rule)) where
-    met : (lentRefusal m s false ≡ none) × (lackedRule k rule ≡ none)
-    met = first-of-none (lentRefusal m s false) (lackedRule k rule) (in-turn ∙ clear-none (ruleRefusal n s rule) clear)
+    met : (lentBookRefusal n s ≡ none) × (lackedRule k rule ≡ none)
+    unfolding ruleRefusal
+    met = first-of-none (lentBookRefusal n s) (lackedRule k rule) (clear-none (ruleRefusal n s rule) clear)
 
-    known : Given m s
-    known = given m s false (met .0)
+    known : Given (bookAlone n) s
+    known = given (bookAlone n) s false (book-alone n types relationships rules bodies ∙ met .0)
 
     there : rule < n .rules
     there = ltb-true rule (n .rules) (step (ltb rule (n .rules)) (lacked-is ∙ met .1))
@@ -139,7 +145,7 @@ module _ (n : Counts) (types relationships rules bodies : List ℕ) (rule : ℕ)
 
     book-clear : bookRefusal k ≡ none
     unfolding refusal
-    book-clear = first-of-none (bookRefusal k) (registerRefusal S (registerIn m s)) (known .clear) .0
+    book-clear = first-of-none (bookRefusal k) (registerRefusal S (registerIn (bookAlone n) s)) (known .clear) .0
 
     in-place : (e : EventType) → e ∈ es → T (placed e)
     in-place =
@@ -195,3 +201,28 @@ module _ (n : Counts) (types relationships rules bodies : List ℕ) (rule : ℕ)
               ap Listed.Types length-same ∙ ap (λ o. listedOf o (listOf k rule)) is,
               ap (λ w. inFront w l) words-same ∙ ap (λ o. wordsAfter o (listOf k rule) l) is,
             )
+
+    -- ---- words for every place are enough
+
+    -- what the list marks, place by place
+    all-marks : Added (replicate places false) (readRows (marked es) places) (marked es)
+    all-marks = record { long = length-rows (marked es) places ∙ sym (length-replicate places false); each = each-mark }
+      where
+        each-mark : (place : ℕ) → place < places → getD (readRows (marked es) places) place false ≡ (getD (replicate places false) place false || marked es place)
+        each-mark place h = row-at (marked es) places place false h ∙ ap (λ b. b || marked es place) (sym (getD-replicate places place false false h))
+
+    few-by : (marks : List Bool) → Added (replicate places false) marks (marked es) → length (listOf k rule) ≤ places
+    few-by marks added = omega (arith, length-same marks added, below-few marks places)
+
+    fits-by : (marks : List Bool) → Added (replicate places false) marks (marked es) → (l : List ℕ) → 3 * places ≤ length l
+        → (answer n s rule (length l) ≡ Listed.Types (length (listOf k rule))) × (listAfter n s rule l ≡ inFront (listWords (listOf k rule)) l)
+    fits-by marks added l h =
+        let whole = list-whole marks added l (omega (arith, below-few marks places)) in
+        (sym (whole .0) ∙ ap Listed.Types (length-same marks added), sym (whole .1) ∙ ap (λ w. inFront w l) (words-same marks added))
+
+    -- at most one event type for each place, so that 14 is not met
+    pub few-listed : length (listOf k rule) ≤ places
+    few-listed = few-by (readRows (marked es) places) all-marks
+
+    pub list-fits : (l : List ℕ) → 3 * places ≤ length l → (answer n s rule (length l) ≡ Listed.Types (length (listOf k rule))) × (listAfter n s rule l ≡ inFront (listWords (listOf k rule)) l)
+    list-fits = fits-by (readRows (marked es) places) all-marks

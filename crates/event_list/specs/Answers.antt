@@ -23,10 +23,13 @@ use Rattle.event_list.specs.declared.Listed.the-variants.{Types, Refused
 unfoldable pub ruleTables : List Layout
 ruleTables = typeTable ∷ relationshipTable ∷ ruleTable ∷ bodyTable ∷ []
 
--- 2, 6, 3 and 4 of a lent book, "checked from the top"; then 4 of a rule number that it lacks
+-- 2, 6, 3 and 4 of a lent book, "checked from the top"
+unfoldable pub lentBookRefusal : Counts → Sheet → Option Refusal
+lentBookRefusal n s = firstOf (tableRefusal ruleTables n s false) (bookRefusal (bookOf n s))
+
+-- then 4 of a rule number that it lacks
 unfoldable pub ruleRefusal : Counts → Sheet → ℕ → Option Refusal
-ruleRefusal n s rule =
-    firstOf (tableRefusal ruleTables n s false) (firstOf (bookRefusal (bookOf n s)) (lackedRule (bookOf n s) rule))
+ruleRefusal n s rule = firstOf (lentBookRefusal n s) (lackedRule (bookOf n s) rule)
 
 -- the event list of a rule, if there is one
 abbrev pub listIn : Schema → Option Rule → List EventType

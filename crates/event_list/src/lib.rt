@@ -7,7 +7,7 @@ ghost use mathlib.Core.List.{[]};
 ghost use lib.ListN.{length};
 ghost use Rattle.tables.specs.Layouts.{sheetOf};
 ghost use Rattle.tables.specs.Refusals.{verdictOf};
-ghost use Rattle.event_list.specs.Answers.{ruleRefusal, answer, listAfter};
+ghost use Rattle.event_list.specs.Answers.{lentBookRefusal, ruleRefusal, answer, listAfter};
 
 mod words;
 
@@ -17,17 +17,15 @@ pub enum Listed {
     Refused(u32, u32),
 }
 
-// Refusals 2, 6, 3 and 4 of a lent book, and then 4 of a rule number that it lacks. There is no register, which the checks are shown
-// as an empty one.
-fn verdict(
+// Refusals 2, 6, 3 and 4 of a lent book. There is no register, which the checks are shown as an empty one.
+pub fn book_verdict(
     n: Counts,
     types: &[u32],
     relationships: &[u32],
     rules: &[u32],
     bodies: &[u32],
-    rule: u32,
 ) -> Verdict
-    ensures { λ r. ⌜ r ≡ verdictOf (ruleRefusal n (sheetOf (now (types .entry)) (now (relationships .entry)) (now (rules .entry)) (now (bodies .entry)) [] [] []) «rule») ⌝ }
+    ensures { λ r. ⌜ r ≡ verdictOf (lentBookRefusal n (sheetOf (now (types .entry)) (now (relationships .entry)) (now (rules .entry)) (now (bodies .entry)) [] [] [])) ⌝ }
 {
     let book = Counts {
         types: n.types,
@@ -38,7 +36,21 @@ fn verdict(
         events: 0,
     };
     let none = &types[..0];
-    match checks::check(book, types, relationships, rules, bodies, none, none, false) {
+    checks::check(book, types, relationships, rules, bodies, none, none, false)
+}
+
+// The same, and then 4 of a rule number that the book lacks.
+fn verdict(
+    n: Counts,
+    types: &[u32],
+    relationships: &[u32],
+    rules: &[u32],
+    bodies: &[u32],
+    rule: u32,
+) -> Verdict
+    ensures { λ r. ⌜ r ≡ verdictOf (ruleRefusal n (sheetOf (now (types .entry)) (now (relationships .entry)) (now (rules .entry)) (now (bodies .entry)) [] [] []) «rule») ⌝ }
+{
+    match book_verdict(n, types, relationships, rules, bodies) {
         Verdict::Refused(number, place) => Verdict::Refused(number, place),
         Verdict::Clear => {
             if rule < n.rules {

@@ -1,6 +1,6 @@
 -- `answers::check_tables` meets its contract.
 use native.Mathlib.Omega.{arith}
-use mathlib.Core.Path.{refl, ap, _∙_}
+use mathlib.Core.Path.{ap, _∙_}
 use lib.ListN.{length}
 use Rattle.rows.specs.Rows.{inFront}
 use Rattle.tables.specs.Layouts.{sheetOf}
@@ -9,25 +9,16 @@ use borrow.Author.Needs.{needs}
 use Rattle.answers.proofs.check_tables.Statement.{statement}
 use Rattle.answers.proofs.check_tables.Tie as tie
 
-slice-aggregate-check : tie.Need-slice-aggregate-check
-slice-aggregate-check c = search needs
-
-slice-aggregate-check-2 : tie.Need-slice-aggregate-check-2
-slice-aggregate-check-2 c = search needs
-
-slice-aggregate-check-3 : tie.Need-slice-aggregate-check-3
-slice-aggregate-check-3 c = search needs
+abbrev start-of : tie.After-check → tie.Start
+start-of c = c .before .before .before .before .before .before .before .before .before .before .before .before .before .before .before .before .before
 
 check-requires : tie.Need-check-requires
 check-requires c κs = search needs
 
-slice-aggregate-print : tie.Need-slice-aggregate-print
-slice-aggregate-print c = search needs
-
 print-requires : tie.Need-print-requires
 print-requires c κs =
-    let at-check = c .before .before .before .before .before .before .before .before .before in
-    let start = at-check .before .before .before .before .before .before .before .before .before .before .before .before .before .before in
+    let at-check = c .before .before .before .before .before .before .before .before .before .before .before .before in
+    let start = start-of at-check in
     let few = pairs-within (at-check .check .ensures) in
     let long = at-check .check .kept .1 .1 .1 .1 .1 .1 .1 .1 .1 .1 .0 in
     (few, omega (arith, few, long, start .pre .2))
@@ -41,27 +32,36 @@ same-length-2 c = search needs
 same-length-3 : tie.Need-same-length-3
 same-length-3 c = search needs
 
+same-length-4 : tie.Need-same-length-4
+same-length-4 c = search needs
+
+same-length-5 : tie.Need-same-length-5
+same-length-5 c = search needs
+
+same-length-6 : tie.Need-same-length-6
+same-length-6 c = search needs
+
 returns : tie.Need-returns
 returns c =
     let at-print = c .before .before in
-    let at-check = at-print .before .before .before .before .before .before .before .before .before .before in
-    let start = at-check .before .before .before .before .before .before .before .before .before .before .before .before .before .before in
+    let at-check = at-print .before .before .before .before .before .before .before .before .before .before .before .before .before in
+    let start = start-of at-check in
     let a = start .args in
     let s = sheetOf (a .types .now) (a .relationships .now) (a .rules .now) (a .bodies .now) (a .objects .now) (a .links .now) (a .events .now) in
-    let e = outcome-is (at-check .check .ensures) ∙ lent-outcome (a .n) s (long-enough (a .objects .now) (a .links .now) (start .pre .0) (start .pre .1)) refl in
+    let long = long-enough (a .objects .now) (a .links .now) (a .scratch-objects .now) (a .scratch-links .now) (start .pre .0) (start .pre .1) in
+    let e = outcome-is (at-check .check .ensures) ∙ lent-outcome (a .n) s (length (a .list .now)) long in
     (at-print .print .ensures .0 ∙ ap (λ b. inFront b (a .out .now)) e, at-print .print .ensures .1 ∙ ap length e)
 
 pub check-tables-spec : {M : Type 1} → statement M
 check-tables-spec =
     tie.close
     (tie.spec
-    slice-aggregate-check
-    slice-aggregate-check-2
-    slice-aggregate-check-3
     check-requires
-    slice-aggregate-print
     print-requires
     same-length
     same-length-2
     same-length-3
+    same-length-4
+    same-length-5
+    same-length-6
     returns)
