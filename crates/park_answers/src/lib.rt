@@ -18,7 +18,7 @@ pub enum Asked {
     After,
 }
 
-// The same of tables that were read.
+// What is asked, printed of tables that were read.
 fn print_tables(
     asked: Asked,
     n: Counts,
