@@ -18,9 +18,9 @@ use Rattle.pair_list.specs.Pairs.{pairWords}
 use Rattle.pair_list.proofs.Words.{words-length}
 use Rattle.batch.specs.Checked.{lentOutcome, Left}
 use Rattle.batch.specs.declared.Checked.{Checked}
-use Rattle.answers.specs.Printed.{printed, meant, pairsIn}
+use Rattle.printing.specs.Printed.{printed, meant, pairsIn}
 use Rattle.answers.specs.Checks.{Room, lentSheet, outcomePrinted, batchPrinted, readPrinted, readingPrinted, textPrints}
-use Rattle.answers.proofs.Printed.{meant-back, pairs-back}
+use Rattle.printing.proofs.Printed.{meant-back, pairs-back}
 
 -- a scratch that is no shorter than the tables
 pub long-enough : (objects links scratchObjects scratchLinks : List ℕ) → length objects ≤ length scratchObjects → length links ≤ length scratchLinks → scratchShort objects links scratchObjects scratchLinks ≡ false

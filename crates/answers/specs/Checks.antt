@@ -12,7 +12,7 @@ use Rattle.reader.specs.Reads.{lentReading, readAnswer, sheetAfter}
 use Rattle.reader.specs.declared.Outcome as Read
 use Rattle.reader.specs.declared.Outcome.the-variants.{Done, Refused}
 use Rattle.batch.specs.Checked.{lentOutcome}
-use Rattle.answers.specs.Printed.{printed}
+use Rattle.printing.specs.Printed.{printed}
 
 -- what a program lends: the bytes of a text, the rows of each table, and the words for the list
 pub record Room : Type 0 where

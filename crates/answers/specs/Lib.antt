@@ -1,7 +1,3 @@
--- What the program prints.
---   Lines     a line of a name and numbers
---   Printed   an answer and its pairs
---   Checks    a text: its reading, the batch check of its tables, and what is printed of them
-pub mod Lines
-pub mod Printed
+-- What a program prints of a text.
+--   Checks    its reading, the batch check of its tables, and what is printed of them
 pub mod Checks

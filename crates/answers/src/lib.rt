@@ -1,29 +1,15 @@
-// What a program prints of a text; of tables that were read; and of an answer and its pairs.
-mod outcome;
-pub mod pieces;
-
-pub use outcome::print;
+// What a program prints of a text, and of tables that were read.
+use printing::print;
+use printing::refuse;
 use reader::Outcome;
-use tables::Answer;
 use tables::Counts;
 ghost use mathlib.Core.Path.{_≡_};
-ghost use mathlib.Core.List.{[]};
 ghost use Prim.Native.Nat.{_/_, _≤_};
 ghost use lib.ListN.{length};
-ghost use Rattle.meaning.specs.Answers.{refused};
 ghost use Rattle.rows.specs.Rows.{inFront};
 ghost use Rattle.tables.specs.Layouts.{sheetOf};
-ghost use Rattle.answers.specs.Printed.{printed, roomFor};
+ghost use Rattle.printing.specs.Printed.{roomFor};
 ghost use Rattle.answers.specs.Checks.{batchPrinted, checkPrints};
-
-// A refusal by itself.
-pub fn refuse(number: u32, line: u32, out: &mut [u8]) -> usize
-    requires { ⌜ roomFor 0 ≤ length (now out) ⌝ }
-    ensures { λ r. ⌜ (now (out .exit) ≡ inFront (printed (refused number line) []) (now (out .entry))) × (r ≡ length (printed (refused number line) [])) ⌝ }
-{
-    let none = [0u16; 1];
-    print(Answer::Refused(number, line), 0, &none, out)
-}
 
 // The batch check of tables that were read, with a scratch no shorter than they are.
 pub fn check_tables(

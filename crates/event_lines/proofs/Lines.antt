@@ -12,11 +12,11 @@ use Rattle.meaning.specs.EventList.{EventType, insertOf, deleteOf, setOf, joinO
 use Rattle.rows.specs.Rows.{wordAt, inFront}
 use Rattle.lexical.specs.Decimals.{digitsOf}
 use Rattle.text.specs.Names.{names, nameOf, firstEvent}
-use Rattle.answers.specs.Lines.{spaced}
+use Rattle.printing.specs.Lines.{spaced}
 use Rattle.event_lines.specs.Events.{eventsName, kindShown, eventShown, eventsShown, eventsLine, cellShown, eventTypeOf, eventTypeIn, eventTypesIn, roomForEvents}
-use Rattle.answers.proofs.Numbers.{ten-digits, five-digits}
-use Rattle.answers.proofs.Lines.{spaced-one, spaced-size}
-use Rattle.answers.proofs.Rows.{flat-more, flat-short, rows-back, each-row}
+use Rattle.printing.proofs.Numbers.{ten-digits, five-digits}
+use Rattle.printing.proofs.Lines.{spaced-one, spaced-size}
+use Rattle.printing.proofs.Rows.{flat-more, flat-short, rows-back, each-row}
 
 -- ---- an event type
 

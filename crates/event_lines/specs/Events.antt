@@ -8,7 +8,7 @@ use Rattle.meaning.specs.Reach.{inserts, deletes, sets, joins, parts, specials,
 use Rattle.meaning.specs.EventList.{EventType, insertOf, deleteOf, setOf, joinOf, partOf, specialOf, generalOf}
 use Rattle.rows.specs.Rows.{wordAt, readRows}
 use Rattle.text.specs.Names.{nameOf, firstEvent}
-use Rattle.answers.specs.Lines.{spaced}
+use Rattle.printing.specs.Lines.{spaced}
 
 abbrev pub eventsName : List ℕ
 eventsName = 101 ∷ 118 ∷ 101 ∷ 110 ∷ 116 ∷ 115 ∷ []  -- events

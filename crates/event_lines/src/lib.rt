@@ -1,5 +1,5 @@
 // The event list of a rule, as one line.
-use answers::pieces::number;
+use printing::pieces::number;
 ghost use mathlib.Core.List.{_∷_};
 ghost use Prim.Native.Nat.{ℕ, _+_, _*_, _≤_, _<_};
 ghost use lib.ListN.{length};

@@ -78,7 +78,7 @@ pub fn print(asked: Asked, text: &[u8], out: &mut [u8; 1048576]) -> usize
     ensures { λ r. ⌜ (now (out .exit) ≡ inFront (parkPrints asked (now (text .entry))) (now (out .entry))) × (r ≡ length (parkPrints asked (now (text .entry)))) ⌝ }
 {
     if 65536 < text.len() {
-        return answers::refuse(2, 0, out);
+        return printing::refuse(2, 0, out);
     }
     let mut types = [0u32; 64];
     let mut relationships = [0u32; 64];
@@ -97,7 +97,7 @@ pub fn print(asked: Asked, text: &[u8], out: &mut [u8; 1048576]) -> usize
         &mut links,
         &mut events,
     ) {
-        Outcome::Refused(number, line) => answers::refuse(number, line, out),
+        Outcome::Refused(number, line) => printing::refuse(number, line, out),
         Outcome::Done(n) => print_tables(
             asked,
             n,

@@ -16,7 +16,7 @@ use Rattle.tables.specs.declared.Verdict.the-variants.{Clear}
 use Rattle.event_list.specs.Answers.{lentBookRefusal, ruleRefusal, listOf, listWords, answer, listAfter}
 use Rattle.event_list.specs.declared.Listed.the-variants.{Types, Refused}
 use Rattle.event_list.proofs.Answers.{rule-known, few-listed, list-fits}
-use Rattle.answers.proofs.Rows.{flat-more}
+use Rattle.printing.proofs.Rows.{flat-more}
 use Rattle.event_lines.specs.Events.{eventsLine, eventTypesIn, roomForEvents}
 use Rattle.event_lines.proofs.Lines.{types-back, kinds-known}
 use Rattle.park_tables.specs.Tables.{ruleLines}

@@ -11,7 +11,7 @@ use Rattle.tables.specs.Refusals.{verdictOf}
 use Rattle.tables.specs.declared.Verdict.the-variants as Verdict
 use Rattle.writer.specs.Answers.{writeAnswer, bytesAfter}
 use Rattle.writer.specs.declared.Written.the-variants as Written
-use Rattle.answers.specs.Printed.{printed}
+use Rattle.printing.specs.Printed.{printed}
 use Rattle.park_tables.specs.Tables.{unlessRefused}
 
 -- ---- the checks' verdict

@@ -18,7 +18,7 @@ use Rattle.full.specs.Answers.{lentAnswer}
 use Rattle.event_list.specs.Answers.{lentBookRefusal, listOf}
 use Rattle.writer.specs.Answers.{writerRefusal}
 use Rattle.batch.specs.Checked.{lentOutcome, tableAfter}
-use Rattle.answers.specs.Printed.{printed}
+use Rattle.printing.specs.Printed.{printed}
 use Rattle.answers.specs.Checks.{outcomePrinted}
 use Rattle.event_lines.specs.Events.{eventsLine}
 

@@ -83,7 +83,7 @@ pub fn print_events(
         (now (out .exit) ≡ inFront bytes (now (out .entry))) × (r ≡ length bytes)) ⌝ }
 {
     match event_list::book_verdict(n, types, relationships, rules, bodies) {
-        Verdict::Refused(number, place) => answers::refuse(number, place, out),
+        Verdict::Refused(number, place) => printing::refuse(number, place, out),
         Verdict::Clear => rule_lines(out, n, types, relationships, rules, bodies),
     }
 }

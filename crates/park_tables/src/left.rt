@@ -8,7 +8,7 @@ ghost use Prim.Native.Nat.{_≤_};
 ghost use lib.ListN.{length};
 ghost use Rattle.rows.specs.Rows.{inFront};
 ghost use Rattle.tables.specs.Layouts.{sheetOf};
-ghost use Rattle.answers.specs.Printed.{roomFor};
+ghost use Rattle.printing.specs.Printed.{roomFor};
 ghost use Rattle.park_tables.specs.Tables.{textPrinted, afterPrinted};
 
 // The text of a book and a register, or the writer's refusal.
@@ -39,7 +39,7 @@ fn print_text(
         none,
         &mut *out,
     ) {
-        Written::Refused(number, place) => answers::refuse(number, place, out),
+        Written::Refused(number, place) => printing::refuse(number, place, out),
         Written::Done(size) => size as usize,
     }
 }
@@ -98,5 +98,5 @@ pub fn print_after(
             out,
         );
     }
-    answers::print(answer, checked.pairs, &list, out)
+    printing::print(answer, checked.pairs, &list, out)
 }

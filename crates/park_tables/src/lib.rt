@@ -11,7 +11,7 @@ ghost use Prim.Native.Nat.{_≤_};
 ghost use lib.ListN.{length};
 ghost use Rattle.rows.specs.Rows.{inFront};
 ghost use Rattle.tables.specs.Layouts.{sheetOf};
-ghost use Rattle.answers.specs.Printed.{roomFor};
+ghost use Rattle.printing.specs.Printed.{roomFor};
 ghost use Rattle.answers.specs.Checks.{batchPrinted};
 ghost use Rattle.park_tables.specs.Tables.{fullPrinted};
 
@@ -33,7 +33,7 @@ pub fn print_full(
 {
     let answer = full::check(n, types, relationships, rules, bodies, objects, links);
     let none = [0u16; 1];
-    answers::print(answer, 0, &none, out)
+    printing::print(answer, 0, &none, out)
 }
 
 // The batch check, with a scratch for every object and link and words for every pair that there can be.

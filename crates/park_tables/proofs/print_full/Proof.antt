@@ -5,8 +5,8 @@ use lib.ListN.{length}
 use Rattle.rows.specs.Rows.{inFront}
 use Rattle.tables.specs.Layouts.{sheetOf}
 use Rattle.full.specs.Answers.{lentAnswer}
-use Rattle.answers.specs.Printed.{printed, meant}
-use Rattle.answers.proofs.Printed.{meant-back}
+use Rattle.printing.specs.Printed.{printed, meant}
+use Rattle.printing.proofs.Printed.{meant-back}
 use Rattle.park_tables.specs.Tables.{fullPrinted}
 use borrow.Author.Needs.{needs}
 use Rattle.park_tables.proofs.print_full.Statement.{statement}

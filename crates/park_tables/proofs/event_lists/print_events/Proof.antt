@@ -11,7 +11,7 @@ use Rattle.checks.proofs.Given.{clear-none}
 use Rattle.event_list.specs.Answers.{lentBookRefusal}
 use Rattle.event_list.proofs.Answers.{few-rules}
 use Rattle.line_writer.proofs.Puts.{put-as}
-use Rattle.answers.proofs.Lines.{put-front}
+use Rattle.printing.proofs.Lines.{put-front}
 use Rattle.park_tables.specs.Tables.{ruleLines, eventsPrinted}
 use Rattle.park_tables.proofs.Refusals.{verdict-refused, verdict-clear}
 use Rattle.park_tables.proofs.event_lists.print_events.Statement.{statement}

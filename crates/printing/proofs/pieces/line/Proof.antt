@@ -1,9 +1,9 @@
--- `answers::pieces::line` meets its contract.
+-- `printing::pieces::line` meets its contract.
 use Rattle.line_writer.proofs.Puts.{put-of, put-then, put-as}
-use Rattle.answers.proofs.Lines.{line-two}
+use Rattle.printing.proofs.Lines.{line-two}
 use borrow.Author.Needs.{needs}
-use Rattle.answers.proofs.pieces.line.Statement.{statement}
-use Rattle.answers.proofs.pieces.line.Tie as tie
+use Rattle.printing.proofs.pieces.line.Statement.{statement}
+use Rattle.printing.proofs.pieces.line.Tie as tie
 
 write-bytes-requires : tie.Need-write-bytes-requires
 write-bytes-requires c κs = search needs

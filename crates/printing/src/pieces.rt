@@ -2,7 +2,7 @@
 ghost use mathlib.Core.List.{[], _∷_};
 ghost use Rattle.lexical.specs.Decimals.{digitsOf};
 ghost use Rattle.line_writer.specs.Put.{Put};
-ghost use Rattle.answers.specs.Lines.{lineOf};
+ghost use Rattle.printing.specs.Lines.{lineOf};
 
 // A space and a number. A word above 2^31 - 1 is a negative number to `write_number`: its last digit is put by itself.
 pub fn number(out: &mut [u8], at: usize, n: u32) -> usize

@@ -12,11 +12,11 @@ use Rattle.rows.specs.Rows.{wordAt, inFront}
 use Rattle.tables.specs.Answers.{answerOf}
 use Rattle.tables.specs.declared.Answer.{Answer}
 use Rattle.tables.specs.declared.Answer.the-variants.{Accepted, Broken, Refused}
-use Rattle.answers.specs.Lines.{lineOf}
-use Rattle.answers.specs.Printed.{acceptedName, brokenName, refusedName, pairName, answerLine, pairLine, pairLines, pairsShown, printed, meant, pairIn, pairsIn, countShown, roomFor}
-use Rattle.answers.proofs.Numbers.{ten-digits, five-digits}
-use Rattle.answers.proofs.Lines.{line-none, two-size}
-use Rattle.answers.proofs.Rows.{flat-more, flat-short, rows-back}
+use Rattle.printing.specs.Lines.{lineOf}
+use Rattle.printing.specs.Printed.{acceptedName, brokenName, refusedName, pairName, answerLine, pairLine, pairLines, pairsShown, printed, meant, pairIn, pairsIn, countShown, roomFor}
+use Rattle.printing.proofs.Numbers.{ten-digits, five-digits}
+use Rattle.printing.proofs.Lines.{line-none, two-size}
+use Rattle.printing.proofs.Rows.{flat-more, flat-short, rows-back}
 
 -- an answer of the code says what it is the `answerOf` of
 pub meant-back : (a : Meaning.Answer) → meant (answerOf a) ≡ a

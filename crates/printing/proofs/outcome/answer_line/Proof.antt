@@ -1,10 +1,10 @@
--- `answers::outcome::answer_line` meets its contract.
+-- `printing::outcome::answer_line` meets its contract.
 use native.Mathlib.Omega.{arith}
 use Rattle.line_writer.proofs.Puts.{put-of, put-as}
-use Rattle.answers.proofs.Printed.{accepted-line, accepted-size, broken-line, broken-size, refused-line, refused-size}
+use Rattle.printing.proofs.Printed.{accepted-line, accepted-size, broken-line, broken-size, refused-line, refused-size}
 use borrow.Author.Needs.{needs}
-use Rattle.answers.proofs.outcome.answer_line.Statement.{statement}
-use Rattle.answers.proofs.outcome.answer_line.Tie as tie
+use Rattle.printing.proofs.outcome.answer_line.Statement.{statement}
+use Rattle.printing.proofs.outcome.answer_line.Tie as tie
 
 enum-told : tie.Need-enum-told
 enum-told c = search needs

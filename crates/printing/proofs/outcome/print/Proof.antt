@@ -1,14 +1,14 @@
--- `answers::outcome::print` meets its contract.
+-- `printing::outcome::print` meets its contract.
 use native.Mathlib.Omega.{arith}
 use mathlib.Core.Path.{ap, _∙_}
 use mathlib.Core.List.{_++_}
 use borrow.Author.Needs.{needs}
 use Rattle.line_writer.proofs.Puts.{put-then, put-as, put-within}
-use Rattle.answers.specs.Printed.{answerLine, pairLines, meant, pairsIn}
-use Rattle.answers.proofs.Lines.{put-front}
-use Rattle.answers.proofs.Printed.{shown-lines, few-shown, printed-size}
-use Rattle.answers.proofs.outcome.print.Statement.{statement}
-use Rattle.answers.proofs.outcome.print.Tie as tie
+use Rattle.printing.specs.Printed.{answerLine, pairLines, meant, pairsIn}
+use Rattle.printing.proofs.Lines.{put-front}
+use Rattle.printing.proofs.Printed.{shown-lines, few-shown, printed-size}
+use Rattle.printing.proofs.outcome.print.Statement.{statement}
+use Rattle.printing.proofs.outcome.print.Tie as tie
 
 answer-line-requires : tie.Need-answer-line-requires
 answer-line-requires c κs = search needs

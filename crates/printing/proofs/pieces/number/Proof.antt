@@ -1,10 +1,10 @@
--- `answers::pieces::number` meets its contract.
+-- `printing::pieces::number` meets its contract.
 use native.Mathlib.Omega.{arith}
 use Rattle.line_writer.proofs.Puts.{put-of, put-then, put-as}
-use Rattle.answers.proofs.Numbers.{number-low, number-high}
+use Rattle.printing.proofs.Numbers.{number-low, number-high}
 use borrow.Author.Needs.{needs}
-use Rattle.answers.proofs.pieces.number.Statement.{statement}
-use Rattle.answers.proofs.pieces.number.Tie as tie
+use Rattle.printing.proofs.pieces.number.Statement.{statement}
+use Rattle.printing.proofs.pieces.number.Tie as tie
 
 slice-aggregate-write-bytes : tie.Need-slice-aggregate-write-bytes
 slice-aggregate-write-bytes c = search needs

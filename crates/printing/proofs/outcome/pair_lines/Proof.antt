@@ -1,14 +1,14 @@
--- `answers::outcome::pair_lines` meets its contract. The invariant: the lines of the first i pairs are put.
+-- `printing::outcome::pair_lines` meets its contract. The invariant: the lines of the first i pairs are put.
 use Prim.Native.Nat.{_-_, _≤_}
 use mathlib.Core.Path.{_≡_, refl, sym, ap}
 use native.Mathlib.Omega.{arith}
 use borrow.Author.Needs.{needs}
 use Rattle.line_writer.specs.Put.{Put}
 use Rattle.line_writer.proofs.Puts.{put-nothing, put-then, put-as}
-use Rattle.answers.specs.Printed.{pairName, pairLines, pairsIn}
-use Rattle.answers.proofs.Printed.{no-pairs, more-pairs}
-use Rattle.answers.proofs.outcome.pair_lines.Statement.{statement}
-use Rattle.answers.proofs.outcome.pair_lines.Tie as tie
+use Rattle.printing.specs.Printed.{pairName, pairLines, pairsIn}
+use Rattle.printing.proofs.Printed.{no-pairs, more-pairs}
+use Rattle.printing.proofs.outcome.pair_lines.Statement.{statement}
+use Rattle.printing.proofs.outcome.pair_lines.Tie as tie
 
 abbrev Inv-loop : tie.InvT-loop
 Inv-loop out₀ at pairs list next₀ i₀ name out next i = (i ≤ pairs) × (name ≡ pairName) × Put out₀ at (pairLines (pairsIn list i)) out next

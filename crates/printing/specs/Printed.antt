@@ -7,7 +7,7 @@ use Rattle.meaning.specs.Answers.{accepted, brokenAt, refused}
 use Rattle.rows.specs.Rows.{wordAt, readRows}
 use Rattle.tables.specs.declared.Answer.{Answer}
 use Rattle.tables.specs.declared.Answer.the-variants.{Accepted, Broken, Refused}
-use Rattle.answers.specs.Lines.{lineOf}
+use Rattle.printing.specs.Lines.{lineOf}
 
 abbrev pub acceptedName : List ℕ
 acceptedName = 97 ∷ 110 ∷ 115 ∷ 119 ∷ 101 ∷ 114 ∷ 32 ∷ 97 ∷ 99 ∷ 99 ∷ 101 ∷ 112 ∷ 116 ∷ 101 ∷ 100 ∷ []  -- answer accepted

@@ -6,7 +6,7 @@ ghost use Prim.Native.Nat.{_+_, _*_, _≤_};
 ghost use lib.ListN.{length};
 ghost use Rattle.rows.specs.Rows.{inFront};
 ghost use Rattle.line_writer.specs.Put.{Put};
-ghost use Rattle.answers.specs.Printed.{answerLine, pairLines, printed, meant, pairsIn, countShown, roomFor};
+ghost use Rattle.printing.specs.Printed.{answerLine, pairLines, printed, meant, pairsIn, countShown, roomFor};
 
 // The first line, at the front, and how long it is at most.
 fn answer_line(out: &mut [u8], answer: Answer) -> usize

@@ -9,7 +9,7 @@ use Rattle.rows.specs.Rows.{inFront}
 use Rattle.lexical.specs.Decimals.{digitsOf}
 use Rattle.lexical.proofs.Writing.{fits-place, text-is}
 use Rattle.line_writer.specs.Put.{Put}
-use Rattle.answers.specs.Lines.{spaced, lineOf}
+use Rattle.printing.specs.Lines.{spaced, lineOf}
 
 -- what is put at the front, where it fits
 pub put-front : {d s e : List ℕ} {p : ℕ} → Put d 0 s e p → length s ≤ length d → (e ≡ inFront s d) × (p ≡ length s)
