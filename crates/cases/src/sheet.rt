@@ -1,6 +1,12 @@
 // The seven tables of a case as one row of words, each table with the words of the most rows that the limits allow. Tables are numbered:
 // 0 types, 1 relationships, 2 rules, 3 bodies, 4 objects, 5 links, 6 events. Every function is total: a word past the end is 0.
 use crate::line;
+use meaning::MAX_FORMS;
+use tables::BODY_WIDTH;
+use tables::EVENT_WIDTH;
+use tables::LINK_WIDTH;
+use tables::OBJECT_WIDTH;
+use tables::TYPE_WIDTH;
 ghost use Prim.Native.Nat.{_≤_};
 
 pub const LENGTH: usize = 31936;
@@ -23,11 +29,11 @@ pub fn base(table: u32) -> u32 {
 pub fn row(table: u32, number: u32) -> u32 {
     let r = number % 65536;
     match table {
-        3 => r * 256,
-        4 => r * 10,
-        5 => r * 3,
-        6 => r * 4,
-        _ => r * 2,
+        3 => r * (BODY_WIDTH * MAX_FORMS),
+        4 => r * OBJECT_WIDTH,
+        5 => r * LINK_WIDTH,
+        6 => r * EVENT_WIDTH,
+        _ => r * TYPE_WIDTH,
     }
 }
 

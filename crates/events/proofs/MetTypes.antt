@@ -25,7 +25,8 @@ use Rattle.meaning.proofs.Steps.{Unrefused, unrefused}
 use Rattle.tables.specs.Columns.{objectRow, noEvent, eventOf}
 use Rattle.register.specs.Tables.{objectsWith, objectPlace}
 use Rattle.register.proofs.Searches.{object-row}
-use Rattle.events.specs.Runs.{objectOf, noType, typeOf, typeIn, metType, metBy, RunLeft}
+use Rattle.tables.specs.Met.{objectOf, noType, typeOf, typeIn, metType, metBy}
+use Rattle.events.specs.Runs.{RunLeft}
 use Rattle.event_refusals.proofs.Fields.{kind-unknown, kind-set, kind-join, kind-part, is-insert, is-delete, is-special, is-general}
 
 module _ (n : ℕ) (objects : List ℕ) (ls : List Link) (id : ℕ) where

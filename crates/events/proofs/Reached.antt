@@ -25,7 +25,8 @@ use Rattle.register.proofs.Changes.{ByWords}
 use Rattle.event_effects.specs.Effects.{Applied}
 use Rattle.events.specs.Steps.{Ready}
 use Rattle.events.specs.declared.Ran.{Ran}
-use Rattle.events.specs.Runs.{metType, metBy, lentBy, Fit, CanRun, RunLeft, RunDone}
+use Rattle.tables.specs.Met.{metType, metBy}
+use Rattle.events.specs.Runs.{lentBy, Fit, CanRun, RunLeft, RunDone}
 use Rattle.event_effects.proofs.Applied.{object-by-words, link-by-words}
 use Rattle.events.proofs.Allowed.{ready-after}
 

@@ -2,51 +2,19 @@
 use Prim.Native.Nat.{ℕ, _≤_}
 use mathlib.Core.Path.{_≡_}
 use mathlib.Core.List.{List, map}
-use mathlib.Core.Option.{Option, none, some}
 use lib.ListN.{length, take}
-use Rattle.meaning.specs.Limits.{maxTypes, maxObjects, maxLinks, maxEvents}
+use Rattle.meaning.specs.Limits.{maxObjects, maxLinks, maxEvents}
 use Rattle.meaning.specs.Schema.{Schema}
-use Rattle.meaning.specs.Register.{Object, Register, objectAt}
-use Rattle.meaning.specs.Events.{Event, insert, delete, set, join, part, special, general, Lent, after, batchRefusal}
-use Rattle.meaning.specs.Reach.{Step, stepsOf}
+use Rattle.meaning.specs.Register.{Register}
+use Rattle.meaning.specs.Events.{Event, Lent, after, batchRefusal}
+use Rattle.meaning.specs.Reach.{stepsOf}
 use Rattle.rows.specs.Rows.{rowsLent}
 use Rattle.tables.specs.Columns.{registerOf}
+use Rattle.tables.specs.Met.{metBy}
 use Rattle.tables.specs.Refusals.{verdictOf}
 use Rattle.tables.specs.declared.Verdict.the-variants.{Clear}
 use Rattle.events.specs.declared.Ran.{Ran}
 use Rattle.events.specs.Steps.{Ready}
-
--- ---- the type that an event met
-
--- the object that an event names; a join and a part name a link
-abbrev pub objectOf : Event → Option ℕ
-objectOf (insert id t) = some id
-objectOf (delete id) = some id
-objectOf (set id k v) = some id
-objectOf (join r a b) = none
-objectOf (part r a b) = none
-objectOf (special id t) = some id
-objectOf (general id t) = some id
-
--- "number 0 to 31": one past the last stands for no type
-abbrev pub noType : ℕ
-noType = maxTypes
-
--- the type of an object, if there is one
-abbrev pub typeOf : Option Object → ℕ
-typeOf none = noType
-typeOf (some o) = o .type
-
--- the type of the object of an id
-unfoldable pub typeIn : Register → ℕ → ℕ
-typeIn g id = typeOf (objectAt g id)
-
--- the type that the object of an event has in the register that the event meets
-unfoldable pub metType : Register → Event → ℕ
-metType g e = elim (objectOf e) [ none ↦ noType | some id ↦ typeIn g id ]
-
-abbrev pub metBy : Step → ℕ
-metBy s = metType (s .met) (s .event)
 
 -- ---- a run
 

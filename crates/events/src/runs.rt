@@ -12,7 +12,8 @@ ghost use Rattle.meaning.specs.Limits.{maxEvents};
 ghost use Rattle.meaning.specs.Register.{Link};
 ghost use Rattle.tables.specs.Columns.{schemaOf, registerOf, noEvent, eventRow, eventsOf};
 ghost use Rattle.register.specs.Tables.{objectsWith, ObjectsAscend};
-ghost use Rattle.events.specs.Runs.{typeIn, metType, lentBy, Fit, CanRun, RunDone};
+ghost use Rattle.tables.specs.Met.{typeIn, metType};
+ghost use Rattle.events.specs.Runs.{lentBy, Fit, CanRun, RunDone};
 
 // What stands for the type of an object that is not there.
 const NO_TYPE: u32 = 32;

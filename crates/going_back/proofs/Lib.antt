@@ -6,6 +6,8 @@
 --   Turning     a role turned round leads back
 --   Bases       the collection below selects
 --   Images      what a collection leads back to
+--   Coverage    the rules read backward lose nothing
+--   Rules       a rule of lent tables
 pub mod Covers
 pub mod Nodes
 pub mod Leaves
@@ -13,3 +15,5 @@ pub mod Parts
 pub mod Turning
 pub mod Bases
 pub mod Images
+pub mod Coverage
+pub mod Rules

@@ -14,12 +14,12 @@ use Rattle.rows.specs.Rows.{readRows}
 use Rattle.tables.specs.Columns.{typesOf, linkRow, eventRow}
 use Rattle.tables.specs.declared.Counts.{Counts}
 use Rattle.register.specs.Tables.{objectsWith}
-use Rattle.events.specs.Runs.{objectOf}
+use Rattle.tables.specs.Met.{objectOf}
 use Rattle.trace_places.specs.Questions.{metUnder}
 use Rattle.trace_places.specs.Traces.{Seen}
 use Rattle.trace_places.specs.Making.{someBelow}
 use Rattle.trace_places.proofs.Questions.{objects-same}
-use Rattle.trace.proofs.Steps.{step-event, some-step}
+use Rattle.trace_places.proofs.Steps.{step-event, some-step}
 use Rattle.occurring.specs.Counting.{counts, Counted}
 use Rattle.occurring.proofs.Counts.{counted-none, counted-then, counted-as}
 

@@ -23,7 +23,7 @@ use Rattle.walks.specs.Site.{idIn}
 use Rattle.trace_places.specs.Questions.{Question, answers, asked, answersAt}
 use Rattle.trace_places.specs.Traces.{itself, placeAnswers, namedAt, orPast, rowNamed, placeRow, thereWord, metWord, Traced}
 use Rattle.trace_places.proofs.Questions.{names, step-places}
-use Rattle.trace.proofs.Steps.{any-none-at, any-some-at, step-at, step-within, step-event}
+use Rattle.trace_places.proofs.Steps.{any-none-at, any-some-at, step-at, step-within, step-event}
 
 so-true : (b : Bool) → T b → b ≡ true
 so-true true t = refl

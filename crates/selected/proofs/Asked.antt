@@ -23,8 +23,8 @@ use Rattle.reach.proofs.Leaves.{asked-inserted, under-end}
 use Rattle.meaning.proofs.Lists.{decide}
 use Rattle.going_back.specs.Back.{candidate}
 use Rattle.row_sets.proofs.Tests.{so-true}
-use Rattle.candidates.proofs.Coverage.{selected-candidate}
-use Rattle.candidates.proofs.Rules.{body-form}
+use Rattle.going_back.proofs.Coverage.{selected-candidate}
+use Rattle.going_back.proofs.Rules.{body-form}
 use Rattle.selected.specs.Ready.{TypedBy, Marked}
 
 -- ---- two parts, of which the first decides or not

@@ -16,7 +16,7 @@ use Rattle.body_rows.specs.Marks.{bodyOf, Starts}
 use Rattle.walks.specs.Site.{siteOf}
 use Rattle.full_search.specs.Search.{Clear}
 use Rattle.full_search.proofs.Given.{typed, register-fits}
-use Rattle.candidates.proofs.Rules.{body-form, rule-able}
+use Rattle.going_back.proofs.Rules.{body-form, rule-able}
 use Rattle.selected.specs.Ready.{RuleReady, TypedBy}
 
 module _ {n : Counts} {s : Sheet} {index : List ℕ} (c : Clear n s index) {rule : ℕ} (h : rule < n .rules) where

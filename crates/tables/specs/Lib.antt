@@ -6,6 +6,7 @@
 --   Words      the words of a row, by what it holds
 --   Refusals   refusals 2 and 6, and every refusal of a book and a register in order
 --   Answers    the answers of the checks
+--   Met        the type that an event met
 pub mod Layouts
 pub mod Codes
 pub mod Bodies
@@ -13,3 +14,4 @@ pub mod Columns
 pub mod Words
 pub mod Refusals
 pub mod Answers
+pub mod Met

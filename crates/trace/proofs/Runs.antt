@@ -19,12 +19,13 @@ use Rattle.tables.specs.Refusals.{verdictOf}
 use Rattle.tables.specs.declared.Counts.{Counts}
 use Rattle.tables.specs.declared.Verdict.the-variants.{Clear}
 use Rattle.schema.proofs.Rows.{length-rows}
-use Rattle.events.specs.Runs.{objectOf, metBy, RunLeft}
+use Rattle.tables.specs.Met.{objectOf, metBy}
+use Rattle.events.specs.Runs.{RunLeft}
 use Rattle.events.proofs.MetTypes.{met-named, met-unnamed, type-low, met-at, step-fits, step-under}
 use Rattle.trace_places.specs.Questions.{metUnder}
 use Rattle.trace_places.specs.Traces.{Seen}
 use Rattle.trace_places.specs.Making.{CanTrace}
-use Rattle.trace.proofs.Steps.{some-within, step-at}
+use Rattle.trace_places.proofs.Steps.{some-within, step-at}
 
 -- a verdict that refuses nothing
 pub nothing-refused : (r : Option Refusal) → verdictOf r ≡ Clear → r ≡ none

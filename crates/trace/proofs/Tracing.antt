@@ -18,7 +18,7 @@ use Rattle.directions.specs.Sets.{has}
 use Rattle.trace_places.specs.Questions.{metUnder}
 use Rattle.trace_places.specs.Traces.{Seen, metWord, allSet, Traced}
 use Rattle.trace_places.specs.Making.{Placed, Kept, eventMoves, someBelow, SetsWith, CanTrace}
-use Rattle.trace.proofs.Steps.{step-within, all-below}
+use Rattle.trace_places.proofs.Steps.{step-within, all-below}
 
 -- a set of none
 has-none : {set : ℕ} → set ≡ 0 → (d : Direction) (b : Bool) → (has set d || b) ≡ b

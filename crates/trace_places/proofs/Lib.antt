@@ -3,7 +3,9 @@
 --   Placing     the places of a batch in the trace that is made
 --   Naming      the ids that an event names, by its words
 --   Keeping     what is kept of each event
+--   Steps       the steps of a batch by the rows of its events, and what some step of it does
 pub mod Questions
 pub mod Placing
 pub mod Naming
 pub mod Keeping
+pub mod Steps

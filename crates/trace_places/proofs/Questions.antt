@@ -13,7 +13,7 @@ use Rattle.meaning.specs.Register.{isUnder, hasLink, startsAt}
 use Rattle.meaning.specs.Events.{Event, insert, delete, set, join, part, special, general, linkOf}
 use Rattle.meaning.specs.Reach.{Step, Change, Kind, inserts, deletes, sets, joins, parts, specials, generals, sameKind, kindPlace, among}
 use Rattle.tables.specs.Columns.{noEvent, eventOf}
-use Rattle.events.specs.Runs.{objectOf}
+use Rattle.tables.specs.Met.{objectOf}
 use Rattle.trace_places.specs.Questions.{Question, cellSet, joinedBy, partedBy, insertedInto, specialisedInto, generalisedFrom, answers, metUnder, answersAt}
 use Rattle.trace_places.specs.Traces.{namedAt}
 

@@ -8,7 +8,7 @@ use Rattle.meaning.specs.Schema.{ObjectType, under, relationshipOf}
 use Rattle.meaning.specs.Register.{hasLink}
 use Rattle.meaning.specs.Events.{Event}
 use Rattle.meaning.specs.Reach.{Step, Change, someStep, inserts, sets, joins, parts, specials, generals, among, joined, parted, setsCell, insertsInto, specialisesInto, generalisesFrom}
-use Rattle.events.specs.Runs.{noType}
+use Rattle.tables.specs.Met.{noType}
 
 pub data Question : Type 0 where
   cellSet : (cell : ℕ) → Question

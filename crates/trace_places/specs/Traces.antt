@@ -22,7 +22,7 @@ use Rattle.tables.specs.Columns.{typesOf, registerOf, eventRow, eventsOf}
 use Rattle.tables.specs.declared.Counts.{Counts}
 use Rattle.register.specs.Tables.{ObjectsAscend, objectPlace}
 use Rattle.chains.specs.Chains.{Chained}
-use Rattle.events.specs.Runs.{objectOf}
+use Rattle.tables.specs.Met.{objectOf}
 use Rattle.directions.specs.Sets.{has}
 use Rattle.trace_places.specs.Questions.{Question, metUnder, answersAt}
 

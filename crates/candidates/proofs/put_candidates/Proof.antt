@@ -12,7 +12,7 @@ use Rattle.reach.specs.Able.{Able}
 use Rattle.going_back.specs.Back.{reachedBy}
 use Rattle.going_back.specs.Walkable.{Walkable}
 use Rattle.going_back.proofs.Covers.{covered-as}
-use Rattle.candidates.proofs.Rules.{candidates-covered}
+use Rattle.going_back.proofs.Rules.{candidates-covered}
 use borrow.Author.Needs.{needs}
 use Rattle.candidates.proofs.put_candidates.Statement.{statement}
 use Rattle.candidates.proofs.put_candidates.Tie as tie

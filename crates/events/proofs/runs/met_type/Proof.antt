@@ -3,7 +3,7 @@ use mathlib.Core.Path.{sym, ap, _∙_}
 use mathlib.Core.Logic.{inl, inr}
 use Rattle.tables.specs.Columns.{eventRow}
 use Rattle.register.specs.Tables.{objectsWith}
-use Rattle.events.specs.Runs.{typeIn}
+use Rattle.tables.specs.Met.{typeIn}
 use Rattle.events.proofs.MetTypes.{met-named, met-unnamed, no-object, first-named}
 use borrow.Author.Needs.{needs}
 use denote.Ref.{now}

@@ -16,7 +16,7 @@ use Rattle.tables.specs.Refusals.{verdictOf}
 use Rattle.tables.specs.declared.Found.the-variants.{Nothing}
 use Rattle.tables.specs.declared.Verdict.the-variants.{Clear, Refused}
 use Rattle.schema.proofs.Founds.{found-none, found-some}
-use Rattle.events.specs.Runs.{metType}
+use Rattle.tables.specs.Met.{metType}
 use Rattle.events.proofs.Allowed.{some-event}
 use Rattle.events.proofs.Reached.{Reached, reached-none, reached-refused, reached-more, reached-end, fit-words}
 use Rattle.events.proofs.runs.run_on.Statement.{statement}
