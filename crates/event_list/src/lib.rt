@@ -1,5 +1,5 @@
 // The event list of a rule of a lent book: "three 16-bit words each: place in that order from 0, type or relationship, cell or 0".
-use event_marks::rule::rule_marks;
+use event_marks::rule_marks;
 use tables::Counts;
 use tables::Verdict;
 ghost use mathlib.Core.Path.{_≡_};

@@ -20,7 +20,7 @@ use Rattle.tables.proofs.Forms.{whole-body, body-ending}
 use Rattle.body_rows.specs.Marks.{bodyOf}
 use Rattle.type_marks.specs.Marks.{wordsAt, marked}
 use Rattle.type_marks.specs.Lists.{partLists, markedBy, partMarks, typeLists}
-use Rattle.event_marks.proofs.Nodes.{marked-append}
+use Rattle.form_marks.proofs.Nodes.{marked-append}
 
 -- ---- an order changes no mark
 

@@ -19,7 +19,7 @@ use Rattle.directions.proofs.Sets.{through-some, some-or}
 use Rattle.directions.proofs.Passes.{first-passed, second-passed}
 use Rattle.body_rows.specs.Marks.{firstSort, secondSort}
 use Rattle.typing.proofs.Types.{operatorHere, partsHere}
-use Rattle.event_marks.proofs.Nodes.{passTo}
+use Rattle.form_marks.proofs.Nodes.{passTo}
 use Rattle.reach.proofs.Nodes.{any-some, always}
 use Rattle.going_back.specs.Back.{leadsInto, throughMembers, reached, partReached, reachedBy, leafReached}
 

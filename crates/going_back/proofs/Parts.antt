@@ -13,7 +13,7 @@ use Rattle.meaning.specs.Reach.{Change, cellMoves}
 use Rattle.tables.specs.Bodies.{asCollection, ending, firstPart}
 use Rattle.directions.specs.Sets.{someOf}
 use Rattle.body_rows.specs.Marks.{firstSort, secondSort}
-use Rattle.event_marks.proofs.Nodes.{passTo}
+use Rattle.form_marks.proofs.Nodes.{passTo}
 use Rattle.walks.specs.Site.{Site, rowsAt, formAt, codeAt}
 use Rattle.reach.specs.Able.{Able}
 use Rattle.reach.proofs.Abilities.{whole, last-sound, op, sorts}

@@ -14,7 +14,7 @@ use Rattle.meaning.specs.Reach.{Change, cellMoves}
 use Rattle.tables.specs.Bodies.{Part, asCollection, ending, firstPart, secondPart}
 use Rattle.directions.specs.Sets.{someOf}
 use Rattle.body_rows.specs.Marks.{firstSort, secondSort}
-use Rattle.event_marks.proofs.Nodes.{passTo}
+use Rattle.form_marks.proofs.Nodes.{passTo}
 use Rattle.walks.specs.Site.{Site, typesAt, registerAt, rowsAt, formAt, codeAt, idsOf}
 use Rattle.walks.specs.Values.{membersOf}
 use Rattle.trace_places.specs.Traces.{Traced}

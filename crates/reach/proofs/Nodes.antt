@@ -21,7 +21,7 @@ use Rattle.directions.proofs.Sets.{through-some, some-or, some-same}
 use Rattle.directions.proofs.Passes.{first-passed, second-passed}
 use Rattle.body_rows.specs.Marks.{firstSort, secondSort}
 use Rattle.typing.proofs.Types.{operatorHere, partsHere}
-use Rattle.event_marks.proofs.Nodes.{passTo}
+use Rattle.form_marks.proofs.Nodes.{passTo}
 use Rattle.reach.specs.Moves.{partMoves, movedBy, leafMoves}
 
 -- ---- a set of directions, at members

@@ -1,5 +1,5 @@
 // "The rules a batch touches are one bit each of a 32-bit word, taken lowest first."
-use event_marks::rule::rule_marks;
+use event_marks::rule_marks;
 use tables::Counts;
 ghost use mathlib.Core.Path.{_≡_};
 ghost use Prim.Native.Nat.{_<_};

@@ -14,7 +14,7 @@ use Rattle.tables.specs.Codes.{operatorOf}
 use Rattle.body_rows.specs.Marks.{firstSort, secondSort}
 use Rattle.typing.proofs.Types.{code-here, sums-here}
 use Rattle.directions.proofs.Passes.{pass-small}
-use Rattle.event_marks.proofs.Nodes.{passTo}
+use Rattle.form_marks.proofs.Nodes.{passTo}
 use Rattle.walks.specs.Site.{Site, siteOf, rowsAt, formAt, codeAt}
 use Rattle.reach.specs.Able.{Able, LeafAble, OverAble}
 use Rattle.reach.proofs.Abilities.{positive, last-sound, op, sorts, coded, ready, leaf-able, deep, one-able, first-low, first-able, plain-able, over-able}

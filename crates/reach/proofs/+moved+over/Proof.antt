@@ -21,7 +21,7 @@ use Rattle.tables.specs.Bodies.{reads, ending}
 use Rattle.body_rows.specs.Marks.{firstSort, secondSort}
 use Rattle.typing.proofs.Types.{code-here, sums-here}
 use Rattle.directions.proofs.Passes.{pass-small}
-use Rattle.event_marks.proofs.Nodes.{passTo}
+use Rattle.form_marks.proofs.Nodes.{passTo}
 use Rattle.walks.specs.Site.{Site, siteOf, rowsAt, formAt, codeAt, idIn, idsOf}
 use Rattle.walks.specs.Values.{membersOf}
 use Rattle.walks.specs.Walks.{leftAt, Stands}

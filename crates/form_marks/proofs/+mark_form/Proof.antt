@@ -1,4 +1,4 @@
--- `event_marks::body::mark_form` meets its contract, by the laws of Nodes: what the code marks in turn is what the form lists.
+-- `form_marks::mark_form` meets its contract, by the laws of Nodes: what the code marks in turn is what the form lists.
 -- The measure is where the form ends: each part ends before its form's row.
 use Prim.Native.Nat.{ℕ, suc, _-_, _+_, _≤_, _<_}
 use mathlib.Core.Path.{_≡_, sym, ap, ap₂, subst, _∙_}
@@ -25,18 +25,18 @@ use Rattle.typing.proofs.Types.{lent, operatorHere, partsHere, coded-here, code
 use Rattle.type_marks.specs.Marks.{places, Added}
 use Rattle.type_marks.specs.Lists.{markedBy, partMarks, leafLists, sumMarks}
 use Rattle.type_marks.proofs.Marks.{added-as, added-then}
-use Rattle.event_marks.proofs.Nodes.{passTo, inner, leaf-here, one-here, two-here}
-use Rattle.event_marks.proofs.body.mark_form.Reads as mark-form
-use Rattle.event_marks.proofs.body.mark_form.Kinds as mark-form-kinds
-use Rattle.event_marks.proofs.body.+mark_form.Lts-mark_form as lts
+use Rattle.form_marks.proofs.Nodes.{passTo, inner, leaf-here, one-here, two-here}
+use Rattle.form_marks.proofs.mark_form.Reads as mark-form
+use Rattle.form_marks.proofs.mark_form.Kinds as mark-form-kinds
+use Rattle.form_marks.proofs.+mark_form.Lts-mark_form as lts
 use Rattle.body_rows.proofs.body.field.Reads as field-reads
 use Rattle.body_rows.proofs.body.shape.Reads as shape-reads
 use Rattle.typing.proofs.member_type.Reads as member-type-reads
 use Rattle.directions.proofs.pass.Reads as pass-reads
 use Rattle.type_marks.proofs.put_leaf.Reads as put-leaf-reads
-use Rattle.event_marks.proofs.body.mark_sum.Reads as mark-sum-reads
-use Rattle.event_marks.proofs.body.+mark_form.{statement}
-use Rattle.event_marks.proofs.body.+mark_form.Tie.{close}
+use Rattle.form_marks.proofs.mark_sum.Reads as mark-sum-reads
+use Rattle.form_marks.proofs.+mark_form.{statement}
+use Rattle.form_marks.proofs.+mark_form.Tie.{close}
 
 abbrev μ-form : Measures 6 mark-form-kinds.ps ℕ
 μ-form κs a = a .1 .1 .1 .1 .1 .0 .end

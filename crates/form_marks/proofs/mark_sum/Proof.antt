@@ -1,4 +1,4 @@
--- `event_marks::body::mark_sum` meets its contract.
+-- `form_marks::mark_sum` meets its contract.
 use mathlib.Core.Path.{ap}
 use mathlib.Core.List.{[], _∷_}
 use native.Mathlib.Omega.{arith}
@@ -7,8 +7,8 @@ use borrow.Author.Tests.{eq-eqb, ne-eqb}
 use Rattle.meaning.specs.EventList.{setOf}
 use Rattle.type_marks.specs.Lists.{markedBy}
 use Rattle.type_marks.proofs.Marks.{added-none, added-as}
-use Rattle.event_marks.proofs.body.mark_sum.Statement.{statement}
-use Rattle.event_marks.proofs.body.mark_sum.Tie as tie
+use Rattle.form_marks.proofs.mark_sum.Statement.{statement}
+use Rattle.form_marks.proofs.mark_sum.Tie as tie
 
 returns : tie.Need-returns
 returns c =

@@ -1,4 +1,4 @@
--- `event_marks::rule::rule_marks` meets its contract, by the laws of Rules.
+-- `event_marks::rule_marks` meets its contract, by the laws of Rules.
 use Prim.Native.Nat.{ℕ, _+_, _≤_, _<_}
 use mathlib.Core.Path.{_≡_, refl, sym, ap, subst, _∙_}
 use mathlib.Core.List.{List}
@@ -13,8 +13,8 @@ use Rattle.body_rows.specs.Marks.{bodyOf}
 use Rattle.typing.proofs.Types.{lent}
 use Rattle.type_marks.proofs.Marks.{added-as, added-then}
 use Rattle.event_marks.proofs.Rules.{rule-marked}
-use Rattle.event_marks.proofs.rule.rule_marks.Statement.{statement}
-use Rattle.event_marks.proofs.rule.rule_marks.Tie as tie
+use Rattle.event_marks.proofs.rule_marks.Statement.{statement}
+use Rattle.event_marks.proofs.rule_marks.Tie as tie
 
 -- ---- places of the code
 
