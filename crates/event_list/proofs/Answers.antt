@@ -32,10 +32,10 @@ use Rattle.checks.proofs.Given.{given, clear-none}
 use Rattle.checks.proofs.Stages.{first-none}
 use Rattle.type_marks.specs.Marks.{places, marked, Added}
 use Rattle.event_marks.proofs.Bounds.{placed, book-placed}
-use Rattle.event_list.specs.Places.{markedBelow, placeWords}
+use Rattle.mark_words.specs.Places.{markedBelow, placeWords}
 use Rattle.event_list.specs.Answers.{ruleTables, lentBookRefusal, ruleRefusal, listIn, listOf, listWords, roomRefusal, listRefusal, listedOf, answer, wordsAfter, listAfter}
 use Rattle.event_list.specs.declared.Listed.the-variants as Listed
-use Rattle.event_list.proofs.Places.{words-length, below-few}
+use Rattle.mark_words.proofs.Places.{words-length, below-few}
 use Rattle.event_list.proofs.Read.{read-length, read-words}
 
 -- ---- a refusal that is met first

@@ -15,7 +15,7 @@ use Rattle.meaning.proofs.Lists.{any-of, any-cases, ascending-append, ascending
 use Rattle.meaning.proofs.Order.{before-head, before-tail, before-irreflexive, before-transitive, same-list-refl, same-list-eq}
 use Rattle.type_marks.specs.Marks.{places, wordsAt, marked}
 use Rattle.event_marks.proofs.Bounds.{placed, placeOf, place-found}
-use Rattle.event_list.specs.Places.{markedBelow, placeWords}
+use Rattle.mark_words.specs.Places.{markedBelow, placeWords}
 use Rattle.event_list.specs.Answers.{listWords}
 
 -- ---- places and their words

@@ -1,5 +1,3 @@
 -- The event list of a rule of a lent book, written into lent words.
 --   Answers    what the entry answers, and the words after it
---   Places     the list read off the marks
 pub mod Answers
-pub mod Places

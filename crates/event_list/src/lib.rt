@@ -9,8 +9,6 @@ ghost use Rattle.tables.specs.Layouts.{sheetOf};
 ghost use Rattle.tables.specs.Refusals.{verdictOf};
 ghost use Rattle.event_list.specs.Answers.{lentBookRefusal, ruleRefusal, answer, listAfter};
 
-mod words;
-
 // How many event types the list has, or a refusal's number and place.
 pub enum Listed {
     Types(u32),
@@ -89,11 +87,11 @@ pub fn list(
                 rule,
                 &mut marks,
             );
-            let count = words::count(&marks);
+            let count = mark_words::count(&marks);
             if list.len() < (count as usize) * 3 {
                 return Listed::Refused(14, 0);
             }
-            words::write(&marks, list);
+            mark_words::write(&marks, list);
             Listed::Types(count)
         }
     }

@@ -9,7 +9,7 @@ use native.Mathlib.Numerals.{add-one}
 use native.Mathlib.Omega.{arith}
 use lib.ListN.{length, getD, take, drop, length-append}
 use Rattle.type_marks.specs.Marks.{wordsAt}
-use Rattle.event_list.specs.Places.{markedBelow, placeWords}
+use Rattle.mark_words.specs.Places.{markedBelow, placeWords}
 use Rattle.rows.specs.Rows.{inFront}
 use Rattle.rows.proofs.Fronts.{front-more}
 

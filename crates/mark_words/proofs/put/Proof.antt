@@ -1,4 +1,4 @@
--- `event_list::words::put` meets its contract.
+-- `mark_words::put` meets its contract.
 use Prim.Native.Nat.{ℕ, suc, _+_, _/_, _%_}
 use mathlib.Core.Path.{_≡_, ap₂, _∙_}
 use mathlib.Core.List.{List}
@@ -7,8 +7,8 @@ use lib.ListN.{set, length-set}
 use lib.Seq.{sets-eq}
 use borrow.Author.Needs.{needs}
 use Rattle.type_marks.specs.Marks.{wordsAt}
-use Rattle.event_list.proofs.words.put.Statement.{statement}
-use Rattle.event_list.proofs.words.put.Tie as tie
+use Rattle.mark_words.proofs.put.Statement.{statement}
+use Rattle.mark_words.proofs.put.Tie as tie
 
 cast-list : tie.Need-cast-list
 cast-list c = search needs

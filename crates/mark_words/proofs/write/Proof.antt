@@ -1,15 +1,15 @@
--- `event_list::words::write` meets its contract: what is written so far are the words of the marked places below the place.
+-- `mark_words::write` meets its contract: what is written so far are the words of the marked places below the place.
 use Prim.Native.Nat.{_+_, _*_, _-_, _≤_}
 use mathlib.Core.Path.{_≡_, ap, _∙_}
 use mathlib.Core.Logic.{⊎-elim}
 use native.Mathlib.Omega.{arith}
 use lib.ListN.{length}
 use Rattle.type_marks.specs.Marks.{places}
-use Rattle.event_list.specs.Places.{markedBelow, placeWords}
+use Rattle.mark_words.specs.Places.{markedBelow, placeWords}
 use Rattle.rows.specs.Rows.{inFront}
-use Rattle.event_list.proofs.Places.{Written, written-none, written-marked, written-unmarked, room}
-use Rattle.event_list.proofs.words.write.Statement.{statement}
-use Rattle.event_list.proofs.words.write.Tie as tie
+use Rattle.mark_words.proofs.Places.{Written, written-none, written-marked, written-unmarked, room}
+use Rattle.mark_words.proofs.write.Statement.{statement}
+use Rattle.mark_words.proofs.write.Tie as tie
 
 abbrev Inv-loop : tie.InvT-loop
 Inv-loop marks list₀ at₀ place₀ list at place =

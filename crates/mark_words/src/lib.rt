@@ -1,10 +1,10 @@
-// A rule's event list, read off its marks.
+// Event types read off marks, as words.
 ghost use mathlib.Core.Path.{_≡_};
 ghost use mathlib.Core.List.{_++_};
 ghost use Prim.Native.Nat.{_+_, _*_, _≤_, _<_};
 ghost use lib.ListN.{length, take, drop};
 ghost use Rattle.type_marks.specs.Marks.{places, wordsAt};
-ghost use Rattle.event_list.specs.Places.{markedBelow, placeWords};
+ghost use Rattle.mark_words.specs.Places.{markedBelow, placeWords};
 ghost use Rattle.rows.specs.Rows.{inFront};
 
 const PLACES: usize = 1792;

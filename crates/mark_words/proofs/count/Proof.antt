@@ -1,4 +1,4 @@
--- `event_list::words::count` meets its contract.
+-- `mark_words::count` meets its contract.
 use Prim.Native.Nat.{_≤_, _-_}
 use mathlib.Core.Path.{_≡_, ap, _∙_}
 use mathlib.Core.Logic.{⊎-elim}
@@ -6,10 +6,10 @@ use mathlib.Core.List.{[], _∷_}
 use native.Mathlib.Omega.{arith}
 use lib.ListN.{length, length-append}
 use Rattle.type_marks.specs.Marks.{places}
-use Rattle.event_list.specs.Places.{markedBelow}
-use Rattle.event_list.proofs.Places.{below-marked, below-unmarked, below-few}
-use Rattle.event_list.proofs.words.count.Statement.{statement}
-use Rattle.event_list.proofs.words.count.Tie as tie
+use Rattle.mark_words.specs.Places.{markedBelow}
+use Rattle.mark_words.proofs.Places.{below-marked, below-unmarked, below-few}
+use Rattle.mark_words.proofs.count.Statement.{statement}
+use Rattle.mark_words.proofs.count.Tie as tie
 
 abbrev Inv-loop : tie.InvT-loop
 Inv-loop marks n₀ place₀ n place = (place ≤ places) × (n ≡ length (markedBelow marks place))

@@ -1,0 +1,3 @@
+-- Laws of marked places.
+--   Places   one place more, and the words that were written
+pub mod Places
