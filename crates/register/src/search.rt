@@ -2,6 +2,7 @@
 use crate::columns;
 use tables::Found;
 ghost use mathlib.Core.Path.{_≡_};
+ghost use Prim.Native.Nat.{_<_};
 ghost use Rattle.meaning.specs.Register.{sameLink};
 ghost use Rattle.meaning.specs.Events.{linkOf};
 ghost use Rattle.tables.specs.Columns.{linkRow};
@@ -61,27 +62,55 @@ pub fn link_row(
     }
 }
 
-// For each value of an id's last 12 bits a row that may have such an id. Nothing is promised of it: a guess is tested before it is used.
+// An id has four places in a row in a table of guesses, from its last 12 bits on.
+const TRIES: u32 = 4;
+
+// One of an id's places.
+fn place(id: u32, tries: u32) -> usize
+    ensures { λ r. ⌜ r < 4096 ⌝ }
+{
+    ((id % 4096 + tries % 4096) % 4096) as usize
+}
+
+// Puts a row at the first of its id's places that is free, else at the last, as one more than the row; 0 is no row.
+fn put_guess(table: &mut [u16; 4096], id: u32, row: u32) {
+    let mut tries: u32 = 0;
+    while tries + 1 < TRIES {
+        if table[place(id, tries)] == 0 {
+            break;
+        }
+        tries += 1;
+    }
+    table[place(id, tries)] = (row % 65535 + 1) as u16;
+}
+
+// The rows that may have an id, by the id. Nothing is promised of them: a guess is tested before it is used.
 pub fn guesses(object_count: u32, objects: &[u32], table: &mut [u16; 4096]) {
     let mut row: u32 = 0;
     while row < object_count {
-        let at = (columns::id_of(objects, row) % 4096) as usize;
-        table[at] = (row % 65536) as u16;
+        put_guess(table, columns::id_of(objects, row), row);
         row += 1;
     }
 }
 
-// The row of the object of an id, whatever the guesses are: most often the guessed one, else it is searched for.
+// The row of the object of an id, whatever the guesses are: most often a guessed one, else it is searched for.
 pub fn quick_row(object_count: u32, objects: &[u32], table: &[u16; 4096], id: u32) -> Found
     requires { ⌜ ObjectsAscend «object_count» (now objects) ⌝ }
     ensures { λ r. ⌜ r ≡ foundOf (objectPlace «object_count» (now (objects .entry)) id) ⌝ }
 {
-    let at = (id % 4096) as usize;
-    let guess = rows::wide(table[at]);
-    if guess < object_count {
-        if columns::id_of(objects, guess) == id {
-            return Found::At(guess);
+    let mut tries: u32 = 0;
+    while tries < TRIES {
+        let guess = rows::wide(table[place(id, tries)]);
+        if guess == 0 {
+            break;
         }
+        if guess <= object_count {
+            let row = guess - 1;
+            if columns::id_of(objects, row) == id {
+                return Found::At(row);
+            }
+        }
+        tries += 1;
     }
     object_row(object_count, objects, id)
 }

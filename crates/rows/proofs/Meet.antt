@@ -51,11 +51,7 @@ unfolding meet
 meet-after i k a b h l =
     getD-past (take i a) (drop i b) i k (length-take-le i a h) l ∙ getD-drop i b (k - i) 0 ∙ ap (λ (n : ℕ). getD b n 0) (add-sub-of-le l)
 
--- at the ends it is one of the two
-pub meet-none : (a b : List ℕ) → b ≡ meet 0 a b
-unfolding meet
-meet-none a b = refl
-
+-- at the end it is the first
 pub meet-all : (i : ℕ) (a b : List ℕ) → length a ≤ i → length b ≤ i → meet i a b ≡ a
 unfolding meet
 meet-all i a b h k = rw (take-all i a h, drop-of-length-le b k, append-nil)

@@ -2,7 +2,7 @@
 use mathlib.Core.Path.{_≡_, sym, ap, _∙_}
 use mathlib.Core.List.{List, [], _∷_, _++_, append-assoc, append-nil}
 use Prim.Native.Nat.{ℕ, zero, suc, _+_, _-_, _≤_}
-use native.Mathlib.Nat.{zero-add, suc-add}
+use native.Mathlib.Nat.{zero-add, suc-add, le-refl}
 use native.Mathlib.Omega.{arith}
 use lib.ListN.{length, take, drop, replicate, length-replicate, length-drop}
 use lib.Seq.{length-take-le, take-nil, take-all, take-take, take-append-add, drop-append-le, drop-drop, drop-length}
@@ -36,6 +36,12 @@ module _ (t : List ℕ) (a e : ℕ) (h : a ≤ e) where
   pub put-back : (ys : List ℕ) → putMid a (e - a) t ys ≡ take a t ++ ys ++ drop e t
   put-back ys = rw (post-is a e t h, append-assoc)
 
+  -- zeros in their place
+  pub put-zeros : e ≤ length t → putMid a (e - a) t (replicate (length part) 0) ≡ take a t ++ replicate (e - a) 0 ++ drop e t
+  put-zeros k =
+      let n : length part ≡ e - a = length-take-le (e - a) (drop a t) (rw length-drop (omega arith)) in
+      put-back (replicate (length part) 0) ∙ rw n
+
   -- shifted by n: what follows the first n words, or what precedes the last n, is as many as m
   pub put-up : (n m : ℕ) → e ≤ length t → e ≡ a + n + m
       → putMid a (e - a) t (shiftedUp part n) ≡ take a t ++ replicate n 0 ++ take m (drop a t) ++ drop e t
@@ -50,6 +56,11 @@ module _ (t : List ℕ) (a e : ℕ) (h : a ≤ e) where
       let w : n + m ≤ length (drop a t) = rw length-drop (omega arith) in
       let p : e - a ≡ n + m = omega arith in
       put-back (shiftedDown part n) ∙ rw (p, down (drop a t) n m w, drop-drop n a t) (simp append-assoc)
+
+-- zeros in the place of those from a on
+pub put-zeros-last : (t : List ℕ) (a : ℕ) → a ≤ length t
+    → putMid a (length t - a) t (replicate (length (midOf a (length t - a) t)) 0) ≡ take a t ++ replicate (length t - a) 0
+put-zeros-last t a h = put-zeros t a (length t) h (le-refl _) ∙ simp (drop-length, append-nil)
 
 -- words in the place of those from a on
 pub put-words : (t words : List ℕ) (a n : ℕ) → length words ≡ n → a + n ≤ length t

@@ -1,5 +1,6 @@
 // Rows of 32-bit words: the only place that does row arithmetic.
 ghost use mathlib.Core.Path.{_≡_};
+ghost use lib.ListN.{length, replicate};
 ghost use Rattle.rows.specs.Rows.{wordAt, wholeRows, rowsLent, copied, withRow, withWord, withoutColumns, shiftedUp, shiftedDown, withGap, withoutRow, clearedPast};
 
 // The word in a column of a row; 0 past the end.
@@ -79,16 +80,28 @@ pub fn put_word(t: &mut [u32], width: u32, row: u32, column: u32, word: u32)
     }
 }
 
-// Moves all words up, the last ones out, and puts zeros first.
+// Makes every word 0.
+fn zero(t: &mut [u32])
+    ensures { λ _. ⌜ now (t .exit) ≡ replicate (length (now (t .entry))) 0 ⌝ }
+{
+    let n = t.len();
+    let mut i = 0;
+    while i < n {
+        t[i] = 0;
+        i += 1;
+    }
+}
+
+// Moves all words up, the last ones out, and puts zeros first. A loop that does nothing but move is compiled to moves of many words at once.
 fn shift_up(t: &mut [u32], by: usize)
     ensures { λ _. ⌜ now (t .exit) ≡ shiftedUp (now (t .entry)) by ⌝ }
 {
     let mut i = t.len();
-    while 0 < i {
+    while by < i {
         i -= 1;
-        let w = if i < by { 0 } else { t[i - by] };
-        t[i] = w;
+        t[i] = t[i - by];
     }
+    zero(&mut t[0..i]);
 }
 
 // Moves all words down, the first ones out, and puts zeros last.
@@ -97,11 +110,11 @@ fn shift_down(t: &mut [u32], by: usize)
 {
     let n = t.len();
     let mut i = 0;
-    while i < n {
-        let w = if by < n - i { t[i + by] } else { 0 };
-        t[i] = w;
+    while by < n - i {
+        t[i] = t[i + by];
         i += 1;
     }
+    zero(&mut t[i..]);
 }
 
 // Moves the used rows from `at` on one row up and makes row `at` zeros, where the slice has a row past the used ones.
@@ -147,9 +160,8 @@ pub fn clear_columns(t: &mut [u32], width: u32, row: u32, column: u32)
     if t.len() < end {
         return;
     }
-    let by = (width - column) as usize;
-    let start = end - by;
-    shift_down(&mut t[start..end], by);
+    let start = end - (width - column) as usize;
+    zero(&mut t[start..end]);
 }
 
 // Makes every word past the used rows 0.
@@ -160,6 +172,5 @@ pub fn clear_past(t: &mut [u32], width: u32, used: u32)
     if t.len() < start {
         return;
     }
-    let by = t.len() - start;
-    shift_down(&mut t[start..], by);
+    zero(&mut t[start..]);
 }

@@ -1,4 +1,4 @@
--- `rows::clear_columns` meets its contract: the part from the column to the end of the row is shifted by its own length, so it is zeros.
+-- `rows::clear_columns` meets its contract: the part from the column to the end of the row becomes zeros.
 use Prim.Native.Nat.{_+_, _*_, _-_}
 use mathlib.Core.Path.{_≡_, ap, _∙_}
 use mathlib.Core.List.{append-nil}
@@ -7,7 +7,7 @@ use borrow.Rule.Slice.PartMut.{putMid}
 use borrow.Author.Tests.{lt-leb, le-leb}
 use Rattle.rows.specs.Rows.{withoutColumns}
 use Rattle.rows.proofs.Offsets.{place-fits, next-fits}
-use Rattle.rows.proofs.Parts.{put-down}
+use Rattle.rows.proofs.Parts.{put-zeros}
 use borrow.Author.Needs.{needs}
 use Rattle.rows.proofs.clear_columns.Statement.{statement}
 use Rattle.rows.proofs.clear_columns.Tie as tie
@@ -26,26 +26,26 @@ returns-2 : tie.Need-returns-2
 unfolding withoutColumns
 returns-2 c = simp (le-leb _ _ (c .before .if1 .left), lt-leb _ _ (c .if2 .taken))
 
-cast-by : tie.Need-cast-by
-cast-by c = search needs
+cast-start : tie.Need-cast-start
+cast-start c = search needs
 
 sub-start : tie.Need-sub-start
 sub-start c = search needs
 
-mul-shift-down : tie.Need-mul-shift-down
-mul-shift-down c = search needs
+mul-zero : tie.Need-mul-zero
+mul-zero c = search needs
 
-sub-shift-down : tie.Need-sub-shift-down
-sub-shift-down c = search needs
+sub-zero : tie.Need-sub-zero
+sub-zero c = search needs
 
-part-shift-down-start : tie.Need-part-shift-down-start
-part-shift-down-start c = search needs
+part-zero-start : tie.Need-part-zero-start
+part-zero-start c = search needs
 
-part-shift-down-end : tie.Need-part-shift-down-end
-part-shift-down-end c = search needs
+part-zero-end : tie.Need-part-zero-end
+part-zero-end c = search needs
 
-shift-down-requires : tie.Need-shift-down-requires
-shift-down-requires c κs = search needs
+zero-requires : tie.Need-zero-requires
+zero-requires c κs = search needs
 
 same-length : tie.Need-same-length
 same-length c = search needs
@@ -60,10 +60,11 @@ returns-3 c =
     let e = at-start .args .row * at-start .args .width + at-start .args .width in
     let a = at-start .args .row * at-start .args .width + at-start .args .column in
     let start : e - n ≡ a = omega arith in
+    let long : e - a ≡ n = omega arith in
     simp (le-leb _ _ (at-else .before .if1 .left), le-leb _ _ (at-else .if2 .left))
-    (ap (putMid (e - n) (e - (e - n)) t) (c .before .before .shift-down .ensures)
-    ∙ put-down t (e - n) e (omega arith) n 0 (at-else .if2 .left) (omega arith)
-    ∙ simp (start, append-nil))
+    (ap (putMid (e - n) (e - (e - n)) t) (c .before .before .zero .ensures)
+    ∙ put-zeros t (e - n) e (omega arith) (at-else .if2 .left)
+    ∙ rw (start, long))
 
 pub clear-columns-spec : {M : Type 1} → statement M
 clear-columns-spec =
@@ -73,12 +74,12 @@ clear-columns-spec =
     add-end
     returns
     returns-2
-    cast-by
+    cast-start
     sub-start
-    mul-shift-down
-    sub-shift-down
-    part-shift-down-start
-    part-shift-down-end
-    shift-down-requires
+    mul-zero
+    sub-zero
+    part-zero-start
+    part-zero-end
+    zero-requires
     same-length
     returns-3)

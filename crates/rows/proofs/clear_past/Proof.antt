@@ -1,15 +1,15 @@
--- `rows::clear_past` meets its contract: the part past the used rows is shifted by its own length, so it is zeros.
+-- `rows::clear_past` meets its contract: the part past the used rows becomes zeros.
 use Prim.Native.Nat.{_*_, _-_, _≤_}
-use native.Mathlib.Nat.{le-refl, sub-eq-zero-of-le}
+use native.Mathlib.Nat.{sub-eq-zero-of-le}
 use mathlib.Core.Path.{ap, _∙_}
 use mathlib.Core.List.{append-nil}
 use lib.ListN.{length}
-use lib.Seq.{take-all, drop-length}
+use lib.Seq.{take-all}
 use borrow.Rule.Slice.PartMut.{putMid}
 use native.Mathlib.Omega.{arith}
 use Rattle.rows.specs.Rows.{clearedPast}
 use Rattle.rows.proofs.Offsets.{place-fits}
-use Rattle.rows.proofs.Parts.{put-down}
+use Rattle.rows.proofs.Parts.{put-zeros-last}
 use borrow.Author.Needs.{needs}
 use Rattle.rows.proofs.clear_past.Statement.{statement}
 use Rattle.rows.proofs.clear_past.Tie as tie
@@ -26,23 +26,20 @@ returns c =
     let h : length t ≤ a = omega arith in
     simp (take-all a t h, sub-eq-zero-of-le h, append-nil)
 
-sub-by : tie.Need-sub-by
-sub-by c = search needs
+mul-zero : tie.Need-mul-zero
+mul-zero c = search needs
 
-mul-shift-down : tie.Need-mul-shift-down
-mul-shift-down c = search needs
+sub-zero : tie.Need-sub-zero
+sub-zero c = search needs
 
-sub-shift-down : tie.Need-sub-shift-down
-sub-shift-down c = search needs
+part-zero-start : tie.Need-part-zero-start
+part-zero-start c = search needs
 
-part-shift-down-start : tie.Need-part-shift-down-start
-part-shift-down-start c = search needs
+part-zero-end : tie.Need-part-zero-end
+part-zero-end c = search needs
 
-part-shift-down-end : tie.Need-part-shift-down-end
-part-shift-down-end c = search needs
-
-shift-down-requires : tie.Need-shift-down-requires
-shift-down-requires c κs = search needs
+zero-requires : tie.Need-zero-requires
+zero-requires c κs = search needs
 
 same-length : tie.Need-same-length
 same-length c = search needs
@@ -54,9 +51,8 @@ returns-2 c =
     let t = at-start .args .t .now in
     let a = at-start .args .used * at-start .args .width in
     let h : a ≤ length t = omega arith in
-    ap (putMid a (length t - a) t) (c .before .before .shift-down .ensures)
-    ∙ put-down t a (length t) h (length t - a) 0 (le-refl _) (omega arith)
-    ∙ simp (drop-length, append-nil)
+    ap (putMid a (length t - a) t) (c .before .before .zero .ensures)
+    ∙ put-zeros-last t a h
 
 pub clear-past-spec : {M : Type 1} → statement M
 clear-past-spec =
@@ -64,11 +60,10 @@ clear-past-spec =
     (tie.spec
     mul-start
     returns
-    sub-by
-    mul-shift-down
-    sub-shift-down
-    part-shift-down-start
-    part-shift-down-end
-    shift-down-requires
+    mul-zero
+    sub-zero
+    part-zero-start
+    part-zero-end
+    zero-requires
     same-length
     returns-2)

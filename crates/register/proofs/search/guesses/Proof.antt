@@ -17,17 +17,8 @@ loop-holds c = tt
 id-of-requires : tie.Need-id-of-requires Inv-loop μ-loop
 id-of-requires c κs = search needs
 
-cast-at : tie.Need-cast-at Inv-loop μ-loop
-cast-at c = search needs
-
-cast-table : tie.Need-cast-table Inv-loop μ-loop
-cast-table c = search needs
-
-mul-table : tie.Need-mul-table Inv-loop μ-loop
-mul-table c = search needs
-
-element-write-table : tie.Need-element-write-table Inv-loop μ-loop
-element-write-table c = search needs
+put-guess-requires : tie.Need-put-guess-requires Inv-loop μ-loop
+put-guess-requires c κs = search needs
 
 add-row : tie.Need-add-row Inv-loop μ-loop
 add-row c = omega arith
@@ -49,10 +40,7 @@ guesses-spec =
     μ-loop
     loop-holds
     id-of-requires
-    cast-at
-    cast-table
-    mul-table
-    element-write-table
+    put-guess-requires
     add-row
     loop-less
     loop-again
