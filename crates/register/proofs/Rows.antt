@@ -1,12 +1,12 @@
 -- Objects by their rows: the row of an id that is there, and the id of a row.
 use Prim.Native.Nat.{ℕ, _≤_, _<_}
-use mathlib.Core.Path.{_≡_, refl, ap, subst, _∙_}
-use mathlib.Core.Bool.{Bool, true}
+use mathlib.Core.Path.{_≡_, refl, sym, ap, subst, _∙_}
+use mathlib.Core.Bool.{Bool, true, _&&_}
 use mathlib.Core.List.{List}
 use mathlib.Core.Option.{Option, none, some, Option·map}
 use native.Mathlib.Omega.{arith}
-use lib.Dec.{T, eqb}
-use mir.Facts.{not-T, eqb-yes, yes-eqb}
+use lib.Dec.{T, ltb, eqb}
+use mir.Facts.{not-T, and-yes, ltb-yes, eqb-yes, yes-eqb}
 use Rattle.meaning.specs.Limits.{maxObjects}
 use Rattle.meaning.specs.Lists.{holds}
 use Rattle.meaning.specs.Register.{Object, Link, objectKey, present}
@@ -66,3 +66,10 @@ module _ (m : ℕ) (objects : List ℕ) where
     pub own-row : rowAt m objects ((objectRow objects row) .id) ≡ row
     unfolding rowAt
     own-row = ap orZero own-place
+
+  -- a guess that was tested
+  pub tested-place : (a : ObjectsAscend m objects) (row id : ℕ) {b : Bool} → b ≡ ltb row m && eqb ((objectRow objects row) .id) id → b ≡ true
+      → objectPlace m objects id ≡ some row
+  tested-place a row id e so =
+      let w = and-yes (ltb row m) (eqb ((objectRow objects row) .id) id) (subst T (sym so ∙ e) tt) in
+      guessed-place a row (ltb-yes (w .0)) (eqb-yes (w .1))

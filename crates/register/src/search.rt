@@ -2,10 +2,12 @@
 use crate::columns;
 use tables::Found;
 ghost use mathlib.Core.Path.{_≡_};
+ghost use mathlib.Core.Bool.{_&&_};
 ghost use Prim.Native.Nat.{_<_};
+ghost use lib.Dec.{ltb, eqb};
 ghost use Rattle.meaning.specs.Register.{sameLink};
 ghost use Rattle.meaning.specs.Events.{linkOf};
-ghost use Rattle.tables.specs.Columns.{linkRow};
+ghost use Rattle.tables.specs.Columns.{objectRow, linkRow};
 ghost use Rattle.tables.specs.Refusals.{foundOf};
 ghost use Rattle.register.specs.Tables.{ObjectsAscend, LinksAscend, objectPlace, linkPlace};
 
@@ -72,7 +74,7 @@ fn place(id: u32, tries: u32) -> usize
     ((id % 4096 + tries % 4096) % 4096) as usize
 }
 
-// Puts a row at the first of its id's places that is free, else at the last, as one more than the row; 0 is no row.
+// Puts a row at the first of its id's places that is free, else at the last. The row 0 counts as free.
 fn put_guess(table: &mut [u16; 4096], id: u32, row: u32) {
     let mut tries: u32 = 0;
     while tries + 1 < TRIES {
@@ -81,7 +83,7 @@ fn put_guess(table: &mut [u16; 4096], id: u32, row: u32) {
         }
         tries += 1;
     }
-    table[place(id, tries)] = (row % 65535 + 1) as u16;
+    table[place(id, tries)] = (row % 65536) as u16;
 }
 
 // The rows that may have an id, by the id. Nothing is promised of them: a guess is tested before it is used.
@@ -93,24 +95,41 @@ pub fn guesses(object_count: u32, objects: &[u32], table: &mut [u16; 4096]) {
     }
 }
 
-// The row of the object of an id, whatever the guesses are: most often a guessed one, else it is searched for.
-pub fn quick_row(object_count: u32, objects: &[u32], table: &[u16; 4096], id: u32) -> Found
+// Whether a row is used and has an id.
+fn has_id(object_count: u32, objects: &[u32], row: u32, id: u32) -> bool
+    ensures { λ r. ⌜ r ≡ ltb row «object_count» && eqb ((objectRow (now (objects .entry)) row) .id) id ⌝ }
+{
+    if object_count <= row {
+        return false;
+    }
+    columns::id_of(objects, row) == id
+}
+
+// The row of the object of an id that is not at its first place.
+fn later_row(object_count: u32, objects: &[u32], table: &[u16; 4096], id: u32) -> Found
     requires { ⌜ ObjectsAscend «object_count» (now objects) ⌝ }
     ensures { λ r. ⌜ r ≡ foundOf (objectPlace «object_count» (now (objects .entry)) id) ⌝ }
 {
-    let mut tries: u32 = 0;
+    let mut tries: u32 = 1;
     while tries < TRIES {
         let guess = rows::wide(table[place(id, tries)]);
-        if guess == 0 {
-            break;
-        }
-        if guess <= object_count {
-            let row = guess - 1;
-            if columns::id_of(objects, row) == id {
-                return Found::At(row);
-            }
+        if has_id(object_count, objects, guess, id) {
+            return Found::At(guess);
         }
         tries += 1;
     }
     object_row(object_count, objects, id)
+}
+
+// The row of the object of an id, whatever the guesses are: most often a guessed one, else it is searched for. What is done most often is short, so that it is
+// laid into the loops that ask it.
+pub fn quick_row(object_count: u32, objects: &[u32], table: &[u16; 4096], id: u32) -> Found
+    requires { ⌜ ObjectsAscend «object_count» (now objects) ⌝ }
+    ensures { λ r. ⌜ r ≡ foundOf (objectPlace «object_count» (now (objects .entry)) id) ⌝ }
+{
+    let guess = rows::wide(table[place(id, 0)]);
+    if has_id(object_count, objects, guess, id) {
+        return Found::At(guess);
+    }
+    later_row(object_count, objects, table, id)
 }

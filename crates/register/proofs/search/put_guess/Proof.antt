@@ -35,9 +35,6 @@ loop-less c = search needs
 loop-again : tie.Need-loop-again Inv-loop μ-loop
 loop-again c = omega arith
 
-add-table : tie.Need-add-table Inv-loop μ-loop
-add-table c = search needs
-
 cast-table : tie.Need-cast-table Inv-loop μ-loop
 cast-table c = search needs
 
@@ -67,7 +64,6 @@ put-guess-spec =
     add-tries
     loop-less
     loop-again
-    add-table
     cast-table
     place-requires-2
     mul-table
