@@ -64,26 +64,23 @@ pub fn link_row(
     }
 }
 
-// An id has four places in a row in a table of guesses, from its last 12 bits on.
-const TRIES: u32 = 4;
-
-// One of an id's places.
-fn place(id: u32, tries: u32) -> usize
+// One of the two places that an id has in a table of guesses, by its last 12 bits and the next.
+fn place(id: u32, next: u32) -> usize
+    requires { ⌜ next < 4096 ⌝ }
     ensures { λ r. ⌜ r < 4096 ⌝ }
 {
-    ((id % 4096 + tries % 4096) % 4096) as usize
+    ((id % 4096 + next) % 4096) as usize
 }
 
-// Puts a row at the first of its id's places that is free, else at the last. The row 0 counts as free.
+// Puts a row at the first place of its id, or at the second where the first has another row. The row 0 counts as none.
 fn put_guess(table: &mut [u16; 4096], id: u32, row: u32) {
-    let mut tries: u32 = 0;
-    while tries + 1 < TRIES {
-        if table[place(id, tries)] == 0 {
-            break;
-        }
-        tries += 1;
+    let guess = (row % 65536) as u16;
+    let first = place(id, 0);
+    if table[first] == 0 {
+        table[first] = guess;
+    } else {
+        table[place(id, 1)] = guess;
     }
-    table[place(id, tries)] = (row % 65536) as u16;
 }
 
 // The rows that may have an id, by the id. Nothing is promised of them: a guess is tested before it is used.
@@ -105,31 +102,18 @@ fn has_id(object_count: u32, objects: &[u32], row: u32, id: u32) -> bool
     columns::id_of(objects, row) == id
 }
 
-// The row of the object of an id that is not at its first place.
-fn later_row(object_count: u32, objects: &[u32], table: &[u16; 4096], id: u32) -> Found
-    requires { ⌜ ObjectsAscend «object_count» (now objects) ⌝ }
-    ensures { λ r. ⌜ r ≡ foundOf (objectPlace «object_count» (now (objects .entry)) id) ⌝ }
-{
-    let mut tries: u32 = 1;
-    while tries < TRIES {
-        let guess = rows::wide(table[place(id, tries)]);
-        if has_id(object_count, objects, guess, id) {
-            return Found::At(guess);
-        }
-        tries += 1;
-    }
-    object_row(object_count, objects, id)
-}
-
-// The row of the object of an id, whatever the guesses are: most often a guessed one, else it is searched for. What is done most often is short, so that it is
-// laid into the loops that ask it.
+// The row of the object of an id, whatever the guesses are: most often a guessed one, else it is searched for.
 pub fn quick_row(object_count: u32, objects: &[u32], table: &[u16; 4096], id: u32) -> Found
     requires { ⌜ ObjectsAscend «object_count» (now objects) ⌝ }
     ensures { λ r. ⌜ r ≡ foundOf (objectPlace «object_count» (now (objects .entry)) id) ⌝ }
 {
-    let guess = rows::wide(table[place(id, 0)]);
-    if has_id(object_count, objects, guess, id) {
-        return Found::At(guess);
+    let first = rows::wide(table[place(id, 0)]);
+    if has_id(object_count, objects, first, id) {
+        return Found::At(first);
     }
-    later_row(object_count, objects, table, id)
+    let second = rows::wide(table[place(id, 1)]);
+    if has_id(object_count, objects, second, id) {
+        return Found::At(second);
+    }
+    object_row(object_count, objects, id)
 }
