@@ -30,7 +30,7 @@ struct Lent {
     tables: Tables,
     used: (u32, u32),
     scratch: (Vec<u32>, Vec<u32>),
-    list: Vec<u16>,
+    list: Vec<u32>,
     fresh: (Vec<u32>, Vec<u32>),
 }
 
@@ -95,7 +95,7 @@ fn by_library(c: &Case) -> Left {
     };
     let (list, rest) = lent.list.split_at(2 * pairs as usize);
     assert!(rest.iter().all(|w| *w == 7), "words past the list are as they were");
-    let pairs = list.chunks(2).map(|p| (p[0] as u32, p[1] as u32)).collect();
+    let pairs = list.chunks(2).map(|p| (p[0], p[1])).collect();
     Left { answer, pairs, used: (objects as usize, links as usize), objects: lent.tables.objects, links: lent.tables.links }
 }
 
@@ -368,6 +368,17 @@ fn by_parts(cases: &[Timed]) {
     }
 }
 
+// The same visits with ids of 16 and of 31 bits: the same objects, links and rows.
+fn by_ids(near: &[Timed], far: &[Timed]) {
+    let mut groups: Vec<Vec<Call>> = near.iter().zip(far).map(|(x, y)| vec![x.restore(), x.proved(), y.restore(), y.proved()]).collect();
+    let figures = rounds(&mut groups);
+    println!("\n{HEAD}  ids of 16 bits (us)  ids of 31 bits (us)  31 / 16");
+    for (c, f) in near.iter().zip(&figures) {
+        let [short, long] = [0, 2].map(|i| median(f, |r| r[i + 1] - r[i]));
+        println!("{}  {short:19.1}  {long:19.1}  {:7.2}", c.name(), median(f, |r| (r[3] - r[2]) / (r[1] - r[0])));
+    }
+}
+
 fn main() {
     let parks: Vec<Park> = SIZES.iter().map(|(sections, _)| visits::wind_park(sections)).collect();
     for p in &parks {
@@ -379,10 +390,15 @@ fn main() {
     for visits in &kinds {
         agree_on_visits(&parks, visits);
     }
+    let new = visits::Renumbering::new(&parks, &kinds[0]);
+    let far_parks: Vec<Park> = SIZES.iter().map(|(sections, _)| new.park(visits::wind_park(sections))).collect();
+    let far_visits: Vec<Visit> = kinds[0].iter().map(|v| new.visit(v)).collect();
+    agree_on_visits(&far_parks, &far_visits);
     let [accepted, broken, refused] = kinds.each_ref().map(|visits| timed(&parks, visits));
     beside_plain(&accepted);
     beside_plain(&broken);
     beside_plain(&refused);
+    by_ids(&accepted, &timed(&far_parks, &far_visits));
     beside_full(&accepted);
     beside_sqlite(&accepted, &broken);
     by_parts(&accepted);

@@ -172,7 +172,7 @@ pub fn book(seed: u32) -> Park {
 pub fn damaged(mut p: Park, seed: u32) -> Park {
     let mut d = Draw(seed);
     let (objects, links) = (p.objects.len() as u32, p.links.len() as u32);
-    let value = [0, 1, 2, 6, 30, 65_536, u32::MAX][d.below(7) as usize];
+    let value = [0, 1, 2, 6, 30, 1 << 31, u32::MAX][d.below(7) as usize];
     match d.below(6) {
         0 if objects > 0 => p.objects[d.below(objects) as usize].0 = value,
         1 if objects > 0 => p.objects[d.below(objects) as usize].1 = value,

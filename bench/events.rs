@@ -34,11 +34,11 @@ fn pick<T: Copy>(d: &mut Draw, of: &[T]) -> Option<T> {
 }
 
 // An event of a kind that the register takes, by the kinds of docs/TABLES.md, if there is one; it is applied. Types 4 and 5 of a park stand under type 3.
-fn event(d: &mut Draw, g: &mut Register, p: &Park, kind: u32) -> Option<[u32; 4]> {
+fn event(d: &mut Draw, g: &mut Register, p: &Park, ids: Ids, kind: u32) -> Option<[u32; 4]> {
     let of = |g: &Register, test: &dyn Fn(u32) -> bool| g.objects.iter().filter(|o| test(o.1 .0)).map(|o| *o.0).collect::<Vec<u32>>();
     match kind {
         0 if g.objects.len() < 1024 => {
-            let (id, t) = (1 + d.below(park::LARGEST_ID), d.below(6));
+            let (id, t) = (1 + d.below(ids.most()), d.below(6));
             if g.objects.contains_key(&id) {
                 return None;
             }
@@ -90,7 +90,7 @@ fn case(objects: u32, links: u32, ids: Ids, count: usize) -> Case {
     let (mut d, mut g, mut events) = (Draw(5), register(&p), vec![]);
     while events.len() < 4 * count {
         let kind = d.below(7);
-        events.extend(event(&mut d, &mut g, &p, kind).into_iter().flatten());
+        events.extend(event(&mut d, &mut g, &p, ids, kind).into_iter().flatten());
     }
     let mut tables = park::tables(&p);
     tables.objects.resize(10 * 1024, 0);

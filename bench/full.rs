@@ -34,7 +34,7 @@ fn answers(ids: Ids) {
     let mut d = park::Draw(99);
     let mut broken = 0;
     for seed in 1..=200 {
-        let p = damaged(&mut d, if let Ids::Drawn(_) = ids { Ids::Drawn(seed) } else { ids });
+        let p = damaged(&mut d, if let Ids::Drawn(_, most) = ids { Ids::Drawn(seed, most) } else { ids });
         let answer = full_check(&park::tables(&p));
         assert_eq!(answer, words(Plain::new(&p).full_check(&p)));
         broken += answer[0];

@@ -190,8 +190,43 @@ enum Undo {
 
 #[derive(Clone, Copy, Default)]
 struct Name {
+    id: u32,
     slot: Slot, // one above it; 0 for an id that is not there
     touch: u16,
+}
+
+// What is known of ids, as an open hash table: an id stands at the first free place from that of its hash on. It is more than twice as large as a register
+// and a batch have ids, and an id that was named stays until `clear`.
+struct Names(Vec<Name>);
+
+impl Names {
+    const BITS: u32 = 12;
+
+    fn new() -> Names {
+        Names(vec![Name::default(); 1 << Names::BITS])
+    }
+
+    fn clear(&mut self) {
+        self.0.fill(Name::default());
+    }
+
+    fn place(&self, id: u32) -> usize {
+        let mut at = (id.wrapping_mul(0x9e37_79b9) >> (32 - Names::BITS)) as usize;
+        while ![0, id].contains(&self.0[at].id) {
+            at = (at + 1) % self.0.len();
+        }
+        at
+    }
+
+    fn of(&self, id: u32) -> Name {
+        self.0[self.place(id)]
+    }
+
+    fn of_mut(&mut self, id: u32) -> &mut Name {
+        let at = self.place(id);
+        self.0[at].id = id;
+        &mut self.0[at]
+    }
 }
 
 #[derive(Clone, Copy, PartialEq, Debug)]
@@ -202,7 +237,7 @@ pub enum Answer {
 }
 
 pub struct Lists {
-    names: Vec<Name>, // by id
+    names: Names,
     objects: Vec<Object>,
     free: Vec<Slot>,
     of_type: Vec<Vec<Slot>>,
@@ -220,7 +255,7 @@ pub struct Lists {
 impl Lists {
     pub fn new() -> Lists {
         Lists {
-            names: vec![Name::default(); 65_536],
+            names: Names::new(),
             objects: vec![],
             free: vec![],
             of_type: vec![vec![]; 32],
@@ -238,9 +273,7 @@ impl Lists {
 
     // The lists of lent tables, in the memory of those before; or the refusal of the first faulty row.
     pub fn build(&mut self, book: &Book, objects: &[u32], links: &[u32]) -> Result<(), Answer> {
-        for o in &self.objects {
-            self.names[o.id as usize] = Name::default();
-        }
+        self.names.clear();
         self.of_type.iter_mut().for_each(Vec::clear);
         self.free.clear();
         self.undo.clear();
@@ -256,7 +289,7 @@ impl Lists {
         let mut above = 0;
         for (i, row) in objects.chunks_exact(10).enumerate() {
             let (id, t) = (row[0], row[1]);
-            let faulty = id <= above || id > 65_535 || t as usize >= book.cells.len();
+            let faulty = id <= above || id > crate::park::LARGEST_ID || t as usize >= book.cells.len();
             if faulty || row[2 + book.cells[t as usize] as usize..].iter().any(|w| *w != 0) {
                 return Err(i as u32);
             }
@@ -267,7 +300,7 @@ impl Lists {
             o.cells.iter_mut().zip(&row[2..]).for_each(|(c, w)| *c = *w as i32);
             o.ends.clear();
             of_type.push(i as Slot);
-            self.names[id as usize].slot = 1 + i as Slot;
+            self.names.of_mut(id).slot = 1 + i as Slot;
         }
         Ok(())
     }
@@ -304,7 +337,7 @@ impl Lists {
     }
 
     fn slot(&self, id: u32) -> Option<Slot> {
-        self.names[id as usize].slot.checked_sub(1)
+        self.names.of(id).slot.checked_sub(1)
     }
 
     fn has_link(&self, r: u32, a: Slot, b: Slot) -> bool {
@@ -337,14 +370,14 @@ impl Lists {
         let o = self.at_mut(x);
         (o.id, o.cells) = (id, cells);
         self.put_in_type(x, t);
-        self.names[id as usize].slot = x + 1;
+        self.names.of_mut(id).slot = x + 1;
         x
     }
 
     fn take(&mut self, x: Slot) {
         self.take_from_type(x);
         let id = self.at(x).id;
-        self.names[id as usize].slot = 0;
+        self.names.of_mut(id).slot = 0;
         self.free.push(x);
     }
 
@@ -390,7 +423,7 @@ impl Lists {
 // Events: each refused by its number or done, with what it leaves for the reach rules.
 impl Lists {
     fn touch(&mut self, id: u32) -> &mut Touch {
-        let name = &mut self.names[id as usize];
+        let name = self.names.of_mut(id);
         if name.touch == 0 {
             name.touch = self.touches.len() as u16;
             self.touches.push(Touch { id, ..Touch::default() });
@@ -399,7 +432,7 @@ impl Lists {
     }
 
     fn object_named(&self, id: u32) -> Result<Slot, u32> {
-        if !(1..65_536).contains(&id) {
+        if !(1..=crate::park::LARGEST_ID).contains(&id) {
             return Err(7);
         }
         self.slot(id).ok_or(8)
@@ -582,7 +615,7 @@ impl Lists {
 
     fn forget(&mut self) {
         for t in self.touches.drain(1..) {
-            self.names[t.id as usize].touch = 0;
+            self.names.of_mut(t.id).touch = 0;
         }
         for x in self.touched.drain(..) {
             self.objects[x as usize].touch = 0;

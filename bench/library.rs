@@ -122,13 +122,13 @@ extern "C" {
         objects: *mut u32, objects_len: usize, links: *mut u32, links_len: usize,
         events: *const u32, events_len: usize,
         scratch_objects: *mut u32, scratch_objects_len: usize, scratch_links: *mut u32, scratch_links_len: usize,
-        list: *mut u16, list_len: usize,
+        list: *mut u32, list_len: usize,
         answer: *mut u32,
     );
 }
 
 // Checks a batch of events on tables of which so many rows of objects and links are used. They hold the register after it, where it is accepted.
-pub fn batch(t: &mut Tables, used: (u32, u32), events: &[[u32; 4]], scratch: &mut (Vec<u32>, Vec<u32>), list: &mut [u16]) -> [u32; 6] {
+pub fn batch(t: &mut Tables, used: (u32, u32), events: &[[u32; 4]], scratch: &mut (Vec<u32>, Vec<u32>), list: &mut [u32]) -> [u32; 6] {
     let mut answer = [0; 6];
     unsafe {
         checker_batch(

@@ -33,7 +33,7 @@ fn faulty_row(p: &Park) -> Option<u32> {
     let object = |i: usize| {
         let (id, t, cells) = p.objects[i];
         let ascends = i == 0 || p.objects[i - 1].0 < id;
-        ascends && (1..=65_535).contains(&id) && p.types.get(t as usize).is_some_and(|x| cells[x.1 as usize..].iter().all(|c| *c == 0))
+        ascends && (1..=crate::park::LARGEST_ID).contains(&id) && p.types.get(t as usize).is_some_and(|x| cells[x.1 as usize..].iter().all(|c| *c == 0))
     };
     let link = |i: usize| {
         let (r, a, b) = p.links[i];
@@ -46,7 +46,7 @@ fn faulty_row(p: &Park) -> Option<u32> {
 
 // Refusals 7 to 13 of one event, in the table's order.
 pub fn refusal(p: &Park, room: (usize, usize), [kind, x, y, z]: [u32; 4]) -> Option<u32> {
-    let id = |n: u32| (1..=65_535).contains(&n);
+    let id = |n: u32| (1..=crate::park::LARGEST_ID).contains(&n);
     let (a_type, a_rel) = ((y as usize) < p.types.len(), (x as usize) < p.relationships.len());
     let known = match kind {
         0 | 5 | 6 => id(x) && a_type && z == 0,

@@ -192,28 +192,37 @@ pub fn park(objects: u32, links: u32, seed: u32) -> Park {
 pub enum Ids {
     /// 1, 4, 7, ..: as `park` gives them
     Stepped,
-    /// drawn over all ids, by a seed
-    Drawn(u32),
-    /// as many as there can be with the same remainder by 4,096: sixteen in each class
+    /// drawn by a seed, up to an end
+    Drawn(u32, u32),
+    /// all with the same remainder by 4,096
     Clashing,
 }
 
-pub const LARGEST_ID: u32 = 65_535;
+pub const LARGEST_ID: u32 = 2_147_483_647;
+pub const HALF_WORD: u32 = 65_535;
+
+impl Ids {
+    // The end of the range that new ids are drawn from.
+    pub fn most(self) -> u32 {
+        match self {
+            Ids::Stepped => HALF_WORD,
+            Ids::Drawn(_, most) => most,
+            Ids::Clashing => 1024 * 4096,
+        }
+    }
+}
 
 pub fn numbers(ids: Ids, count: usize) -> Vec<u32> {
     let mut set = std::collections::BTreeSet::new();
     match ids {
         Ids::Stepped => set.extend((0..count as u32).map(|i| 1 + i * 3)),
-        Ids::Drawn(seed) => {
+        Ids::Drawn(seed, most) => {
             let mut d = Draw(seed);
             while set.len() < count {
-                set.insert(1 + d.below(LARGEST_ID));
+                set.insert(1 + d.below(most));
             }
         }
-        Ids::Clashing => {
-            let classes = count.div_ceil(16) as u32;
-            set.extend((0..16).flat_map(|k| (1..=classes).map(move |class| class + 4096 * k)));
-        }
+        Ids::Clashing => set.extend((0..count as u32).map(|k| 1 + 4096 * k)),
     }
     set.into_iter().take(count).collect()
 }
@@ -232,8 +241,9 @@ pub fn numbered(mut p: Park, ids: Ids) -> Park {
 }
 
 // The kinds of ids that the measurements go through, with what they print for each.
-pub const KINDS: [(&str, Ids); 3] = [
+pub const KINDS: [(&str, Ids); 4] = [
     ("ids 1, 4, 7, ..", Ids::Stepped),
-    ("ids drawn over 1 to 65,535", Ids::Drawn(11)),
-    ("ids that clash: sixteen with each remainder by 4,096", Ids::Clashing),
+    ("ids drawn over 1 to 65,535", Ids::Drawn(11, HALF_WORD)),
+    ("ids drawn over 1 to 2,147,483,647", Ids::Drawn(11, LARGEST_ID)),
+    ("ids that clash: all with one remainder by 4,096", Ids::Clashing),
 ];

@@ -1,7 +1,7 @@
 // A wind park in sections whose spares serve only each other, and visits to it. The smaller park is two sections of the larger one, with the same
 // ids, cells and links, and every visit stays in those two: the same events on both.
 use crate::fitters::*;
-use crate::park::{numbers, Draw, Ids, Park};
+use crate::park::{numbers, Draw, Ids, Park, HALF_WORD, LARGEST_ID};
 use std::collections::{BTreeMap, BTreeSet};
 
 const IN_SECTION: usize = 125;
@@ -26,7 +26,7 @@ struct Numbers(Vec<u32>);
 
 impl Numbers {
     fn drawn() -> Numbers {
-        Numbers(numbers(Ids::Drawn(11), IN_SECTION * LARGE.len()))
+        Numbers(numbers(Ids::Drawn(11, HALF_WORD), IN_SECTION * LARGE.len()))
     }
     fn place(&self, s: usize, k: usize) -> u32 {
         self.0[k * LARGE.len() + s]
@@ -321,4 +321,36 @@ pub fn refused() -> Vec<Visit> {
         ending("refused: a brake on a plain drive", [2, at(AT_DRIVE), 4, 1]),
         ending("refused: a cabinet with links deleted", [1, at(AT_CABINET), 0, 0]),
     ]
+}
+
+// Ids of 31 bits in the place of those of parks and visits, in the same order, so that every row stays where it is.
+pub struct Renumbering(BTreeMap<u32, u32>);
+
+// The places of the ids in an event, by its kind.
+fn ids_in(e: &Event) -> std::ops::Range<usize> {
+    if e[0] == 3 || e[0] == 4 { 2..4 } else { 1..2 }
+}
+
+impl Renumbering {
+    pub fn new(parks: &[Park], visits: &[Visit]) -> Renumbering {
+        let mut old: BTreeSet<u32> = parks.iter().flat_map(|p| p.objects.iter().map(|o| o.0)).collect();
+        old.extend(visits.iter().flat_map(|v| &v.events).flat_map(|e| e[ids_in(e)].to_vec()));
+        let new = numbers(Ids::Drawn(11, LARGEST_ID), old.len());
+        Renumbering(old.into_iter().zip(new).collect())
+    }
+
+    pub fn park(&self, mut p: Park) -> Park {
+        p.objects.iter_mut().for_each(|o| o.0 = self.0[&o.0]);
+        p.links.iter_mut().for_each(|l| *l = (l.0, self.0[&l.1], self.0[&l.2]));
+        p
+    }
+
+    pub fn visit(&self, v: &Visit) -> Visit {
+        let mut events = v.events.clone();
+        for e in &mut events {
+            let at = ids_in(e);
+            e[at].iter_mut().for_each(|id| *id = self.0[id]);
+        }
+        Visit { name: v.name, events }
+    }
 }

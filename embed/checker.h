@@ -28,7 +28,7 @@ enum {
     CHECKER_OBJECT_WORDS = 10,
     CHECKER_LINK_WORDS = 3,
     CHECKER_EVENT_WORDS = 4,
-    CHECKER_PAIR_WORDS = 2,      /* 16-bit words: rule, id */
+    CHECKER_PAIR_WORDS = 2,      /* 32-bit words: rule, id */
     CHECKER_EVENT_TYPE_WORDS = 3 /* 16-bit words: kind, type or relationship, cell or 0 */
 };
 
@@ -42,7 +42,7 @@ enum {
     CHECKER_MOST_LINKS = 4096,
     CHECKER_MOST_EVENTS = 256,
     CHECKER_MOST_TEXT = 65536,                                      /* bytes */
-    CHECKER_MOST_PAIRS = CHECKER_MOST_RULES * CHECKER_MOST_OBJECTS, /* so a list of twice as many 16-bit words is never too short */
+    CHECKER_MOST_PAIRS = CHECKER_MOST_RULES * CHECKER_MOST_OBJECTS, /* so a list of twice as many 32-bit words is never too short */
     CHECKER_MOST_EVENT_TYPES = 4 * 32 + 32 * 8 + 2 * 32
 };
 
@@ -133,7 +133,7 @@ void checker_batch(
     uint32_t *objects, size_t objects_len, uint32_t *links, size_t links_len,
     const uint32_t *events, size_t events_len,
     uint32_t *scratch_objects, size_t scratch_objects_len, uint32_t *scratch_links, size_t scratch_links_len,
-    uint16_t *list, size_t list_len,
+    uint32_t *list, size_t list_len,
     uint32_t answer[6]);
 
 /* The event types that can break a rule. The answer is 0, how many there are in the list, 0; or 1, number, place, with the list as it was. */

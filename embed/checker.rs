@@ -21,7 +21,7 @@ pub struct Room {
 }
 
 impl Room {
-    /// As much as there can be: refusal 14 is never met, and 13 only at 1,024 objects or 4,096 links. About 345 KB with the scratch.
+    /// As much as there can be: refusal 14 is never met, and 13 only at 1,024 objects or 4,096 links. About 476 KB with the scratch.
     pub const LARGEST: Room = Room { objects: 1024, links: 4096, pairs: MOST * 1024 };
 }
 
@@ -95,7 +95,7 @@ pub struct Park {
     used: Used,
     scratch_objects: Vec<u32>,
     scratch_links: Vec<u32>,
-    list: Vec<u16>,
+    list: Vec<u32>,
     listed: usize,
 }
 
@@ -239,7 +239,7 @@ impl Park {
 
     /// The pairs that the last batch check looked at, by rule and then by id; none after a refusal.
     pub fn pairs(&self) -> impl Iterator<Item = Pair> + '_ {
-        self.list.chunks(2).take(self.listed).map(|p| Pair { rule: p[0].into(), object: p[1].into() })
+        self.list.chunks(2).take(self.listed).map(|p| Pair { rule: p[0], object: p[1] })
     }
 
     /// The full check: every rule at every object.
@@ -427,7 +427,7 @@ extern "C" {
         objects: *mut u32, objects_len: usize, links: *mut u32, links_len: usize,
         events: *const u32, events_len: usize,
         scratch_objects: *mut u32, scratch_objects_len: usize, scratch_links: *mut u32, scratch_links_len: usize,
-        list: *mut u16, list_len: usize,
+        list: *mut u32, list_len: usize,
         answer: &mut [u32; 6],
     );
 

@@ -4,7 +4,7 @@
 
 static uint32_t types[64], relationships[64], rules[64], bodies[8192], objects[10240], links[12288], events[1024];
 static uint32_t scratch_objects[10240], scratch_links[12288];
-static uint16_t list[65536];
+static uint32_t list[65536];
 static uint8_t text[65537];
 
 #define TABLE(t) t, sizeof t / sizeof *t

@@ -54,12 +54,14 @@ static uint16_t *soiled_list(size_t len) {
     return out;
 }
 
-/* A list is the expected words, and every word after them is as it was. */
-static void agree_list(const char *what, const uint16_t *list, size_t len, Table expected) {
-    int same = expected.len <= len;
-    for (size_t i = 0; same && i <= len; i++) same = list[i] == (i < expected.len ? expected.words[i] : SOIL);
-    agree(what, same);
-}
+/* A list, of words of either width, is the expected words, and every word after them is as it was. */
+#define AGREE_LIST(what, list, length, expected) do { \
+    Table wanted = (expected); \
+    size_t len = (length); \
+    int same = wanted.len <= len; \
+    for (size_t i = 0; same && i <= len; i++) same = (list)[i] == (i < wanted.len ? wanted.words[i] : SOIL); \
+    agree(what, same); \
+} while (0)
 
 /* A case's counts (bodies have none) and tables. */
 typedef struct {
@@ -102,11 +104,11 @@ static void test_run(const Sheet *s, const uint32_t scratch_len[2]) {
 
 static void test_event_lists(const Sheet *s) {
     for (uint32_t left = next(); left; left--) {
-        uint32_t answer[3], rule = next(), len = next();
-        uint16_t *list = soiled_list(len);
-        checker_events(BOOK_COUNTS(s), BOOK(s), rule, list, len, answer);
+        uint32_t answer[3], rule = next(), list_len = next();
+        uint16_t *list = soiled_list(list_len);
+        checker_events(BOOK_COUNTS(s), BOOK(s), rule, list, list_len, answer);
         agree_words("event list's answer", answer, words(3).words, 3);
-        agree_list("event list", list, len, block());
+        AGREE_LIST("event list", list, list_len, block());
         free(list);
     }
 }
@@ -127,13 +129,13 @@ static void test_write(const Sheet *s) {
 
 static void test_batch(const Sheet *s, const uint32_t scratch_len[2], uint32_t list_len) {
     uint32_t answer[6], *objects = soiled(scratch_len[0]), *links = soiled(scratch_len[1]);
-    uint16_t *list = soiled_list(list_len);
+    uint32_t *list = soiled(list_len);
     checker_batch(COUNTS(s), s->used[5], BOOK(s), REGISTER(s), TABLE(s, EVENTS), objects, scratch_len[0], links, scratch_len[1],
                   list, list_len, answer);
     Table expected = words(6);
     agree_words("batch check", answer, expected.words, 6);
     answers[expected.words[0]]++;
-    agree_list("list of pairs", list, list_len, block());
+    AGREE_LIST("list of pairs", list, list_len, block());
     agree_words("objects after the batch", s->t[OBJECTS].words, words(s->t[OBJECTS].len).words, s->t[OBJECTS].len);
     agree_words("links after the batch", s->t[LINKS].words, words(s->t[LINKS].len).words, s->t[LINKS].len);
     agree("guards of the batch check", objects[scratch_len[0]] == SOIL && links[scratch_len[1]] == SOIL);

@@ -108,6 +108,9 @@ MALFORMED = [
     ('a minus alone', 4, '(ent 10 0 -)'),
     ('a letter in a number', 4, '(ent 10 0 3o)'),
     ('2 to the 31st', 4, '(ent 10 0 2147483648)'),
+    ('2 to the 31st for an id', 6, '(ent 2147483648 1 25)'),
+    ('2 to the 31st for an end', 7, '(link 0 10 2147483648)'),
+    ('2 to the 31st for an object inserted', 8, '(insert 2147483648 0)'),
     ('one below minus 2 to the 31st', 4, '(ent 10 0 -2147483649)'),
     ('an object of a type that the text lacks', 5, '(ent 11 2 30)'),
     ('an object of a type below 0', 5, '(ent 11 -1 30)'),
@@ -248,7 +251,7 @@ def faulty_rules():
 
 # What is wrong in a row of the register, its place among the objects or the links, and the row.
 FAULTY_ROWS = [
-    ('id 0', 'ent', 0, '(ent 0 0 30)'), ('an id below 0', 'ent', 0, '(ent -1 0 30)'), ('id 65,536', 'ent', 2, '(ent 65536 1 25)'),
+    ('id 0', 'ent', 0, '(ent 0 0 30)'), ('an id below 0', 'ent', 0, '(ent -1 0 30)'), ('the least number for an id', 'ent', 0, '(ent -2147483648 0 30)'),
     ('an id twice', 'ent', 1, '(ent 10 0 30)'), ('ids that descend', 'ent', 1, '(ent 9 0 30)'), ('ids that descend, last', 'ent', 2, '(ent 10 1 25)'),
     ('an unknown relationship', 'link', 0, '(link 1 10 20)'), ('a relationship below 0', 'link', 1, '(link -1 10 21)'), ('an absent source', 'link', 2, '(link 0 12 20)'),
     ('an absent target', 'link', 1, '(link 0 10 22)'), ('a source that is not under the source type', 'link', 2, '(link 0 20 20)'),
@@ -265,6 +268,11 @@ def faulty_registers():
         case(f'5: {label}', f'refused 5 {place}', BOOK + rows['ent'] + last + (rows['link'] if table == 'link' else []))
     case('5: objects before links', 'refused 5 3', BOOK + three['ent'] + ['(ent 20 1 25)', '(link 0 10 11)'])
     case('ids 1 and 65,535', 'accepted; 0:1', BOOK + ['(ent 1 0 30)', '(ent 65535 1 25)', '(link 0 1 65535)', '(set 65535 0 0)'])
+    for i in (65536, 2**31 - 1):
+        case(f'ids {i - 1} and {i}', f'broken 0 {i - 1}; 0:{i - 1}', BOOK + [f'(ent {i - 1} 0 30)', f'(ent {i} 1 25)', f'(link 0 {i - 1} {i})', f'(set {i} 0 31)'])
+        case(f'a visit of ids {i - 1} and {i}', f'accepted; 0:{i}', BOOK + [f'(insert {i} 0)', f'(insert {i - 1} 1)', f'(set {i} 0 5)', f'(join 0 {i} {i - 1})'])
+        case(f'id {i} twice', 'refused 5 1', BOOK + [f'(ent {i} 0 30)', f'(ent {i} 1 25)'])
+    case('ids of one lower half', 'broken 0 65546; 0:65546', BOOK + ['(ent 10 0 30)', '(ent 20 1 25)', '(ent 65546 0 20)', '(link 0 10 20)', '(link 0 65546 20)', '(set 65546 0 24)'])
     faults = ['(type 0 - 1)', '(type 1 - 1)', '(rel 0 0 2)', '(rule 0 0 (num 1))', '(ent 0 0 30)', '(delete 0)']
     case('3 before 4, 5 and 7', 'refused 3 0', faults)
     case('4 before 5 and 7', 'refused 4 0', changed(faults, 2, BOOK[2]))
@@ -278,7 +286,7 @@ def faulty_registers():
 SERVO = ['(type 0 - 1)', '(type 1 - 1)', '(type 2 1 2)', '(rel 0 0 1)', '(rel 1 2 2)', BOOK[3], '(ent 10 0 30)', '(ent 11 0 30)', '(ent 20 1 25)', '(ent 21 2 5 7)',
          '(link 0 10 20)', '(link 0 11 21)', '(link 1 21 21)']
 FAULTY_EVENTS = {
-    7: ['insert 30 3', 'insert 30 -1', 'insert 0 0', 'insert 65536 0', 'delete 0', 'set 10 8 1', 'set 10 -1 1', 'join 2 10 20', 'join 0 10 65536', 'part -1 10 20', 'special 20 3',
+    7: ['insert 30 3', 'insert 30 -1', 'insert 0 0', 'insert -2147483648 0', 'delete 0', 'set 10 8 1', 'set 10 -1 1', 'join 2 10 20', 'join 0 10 -2147483648', 'part -1 10 20', 'special 20 3',
         'general 21 -1'],
     8: ['delete 30', 'set 30 0 1', 'join 0 30 20', 'join 0 10 30', 'part 0 10 30', 'special 30 2', 'general 30 1'],
     9: ['insert 10 1', 'join 0 10 20'],

@@ -2,6 +2,7 @@
 """Draws books, registers and batches: blocks for crates/test_batch, always the same for the same numbers.
 
     draw.py BOOKS BATCHES        so many books with their registers, and so many batches for each
+    draw.py BOOKS BATCHES far    the same with ids spread over 31 bits, in the same order
 
 Parks are small, so that coincidences happen: the same link parted and joined, an id deleted and inserted again. Most rules are drawn until
 they hold, since a batch check promises most from a good register.
@@ -294,7 +295,7 @@ class Batches:
     def any_event(self):
         draw = self.draw
         kind = draw.choice(plain.KINDS)
-        an_id = lambda: pick(draw, [(12, draw.randint(1, 20)), (1, draw.choice([0, -1, 65536, 65535]))])
+        an_id = lambda: pick(draw, [(12, draw.randint(1, 20)), (1, draw.choice([0, -1, -2**31, 65535]))])
         a_type = pick(draw, [(12, draw.randrange(len(self.book.types))), (1, draw.choice([-1, len(self.book.types), 32]))])
         a_rel = pick(draw, [(12, draw.randrange(len(self.book.relationships))), (1, draw.choice([-1, len(self.book.relationships)]))])
         if kind == 'set':
@@ -328,6 +329,18 @@ def spelled(f):
     return '(' + ' '.join(spelled(x) if isinstance(x, tuple) else '-' if x is None else str(x) for x in f) + ')'
 
 
+# Ids in place of 1 to 20: those around 2 to the 16th, and some that have their last bits in common.
+FAR = [1, 2, 65534, 65535, 65536, 65537, 65538, 69633, 131073, 131074, 1000000, 16777217, 16777218, 99999999, 1073741825, 1073741826, 2000000000, 2147418111, 2147418113, 2147483646]
+
+
+def far(line):
+    """An object, link or event with other ids, in the same order."""
+    kind, *x = line
+    first, ids = (1, 2) if kind in ('link', 'join', 'part') else (0, 1)
+    named = [FAR[i - 1] if 1 <= i <= 20 else plain.MOST_ID if i == 65535 else i for i in x[first:first + ids]]
+    return (kind, *x[:first], *named, *x[first + ids:])
+
+
 def lines(book, register):
     yield from (('type', n, *t) for n, t in enumerate(book.types))
     yield from (('rel', n, *r) for n, r in enumerate(book.relationships))
@@ -336,20 +349,21 @@ def lines(book, register):
     yield from (('link', *link) for link in sorted(register.links))
 
 
-def drawn(number, batches):
+def drawn(number, batches, near=True):
     """A book and its register with a first batch, and further batches for them."""
+    name, show = (number, lambda line: line) if near else (f'far {number}', far)
     draw = Draw(number)
     book = schema(draw)
     register = park(draw, book)
     add_rules(draw, book, register)
-    base = [str(number)] + [spelled(line) for line in lines(book, register)]
+    base = [str(name)] + [spelled(line if line[0] in ('type', 'rel', 'rule') else show(line)) for line in lines(book, register)]
     for k in range(batches):
-        events = [spelled(event) for event in Batches(draw, book, register).batch()]
-        yield ([f'+{number}.{k}'] if k else base) + events
+        events = [spelled(show(event)) for event in Batches(draw, book, register).batch()]
+        yield ([f'+{name}.{k}'] if k else base) + events
 
 
 if __name__ == '__main__':
     books, batches = int(sys.argv[1]), int(sys.argv[2])
     for number in range(books):
-        for block in drawn(number, batches):
+        for block in drawn(number, batches, near='far' not in sys.argv):
             print('\n'.join(block) + '\n')

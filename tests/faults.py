@@ -135,7 +135,7 @@ TEXT_FAULTS = [
     ('any form is a body', "sort_of(book, body, [context]) != 'truth'", 'sort_of(book, body, [context]) is None'),
     ('an id may stand twice', 'rows[n - 1][0] >= rows[n][0]', 'rows[n - 1][0] > rows[n][0]'),
     ('ids may descend', 'rows[n - 1][0] >= rows[n][0]', 'rows[n - 1][0] == rows[n][0]'),
-    ('id 65,536 is taken', 'not 1 <= rows[n][0] <= 65535', 'not 1 <= rows[n][0] <= 65536'),
+    ('ids end at 65,535', '<= plain.MOST_ID', '<= 65535'),
     ('a link may stand twice', 'links[n - 1] >= links[n]', 'links[n - 1] > links[n]'),
     ('links may descend', 'links[n - 1] >= links[n]', 'links[n - 1] == links[n]'),
     ('an end may be of any type', 'i in register.objects and book.under(register.type_of(i), end)', 'i in register.objects'),

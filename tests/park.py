@@ -159,8 +159,8 @@ def every_pair(count):
     """32 rules that an insert reaches at all of 1,024 objects: the longest list that there is."""
     rules = [f'(rule {r} 0 (le (size (all 1)) (num 5)))' for r in range(32)]
     objects = [f'(ent {i} 0)' for i in range(1, 1024)]
-    pairs = [f'pair {r} {i}' for r in range(32) for i in [*range(1, 1024), 65535]]
-    text = ended(['(type 0 - 0)', '(type 1 0 0)'] + rules + objects + ['(insert 65535 1)'])
+    pairs = [f'pair {r} {i}' for r in range(32) for i in [*range(1, 1024), 2147483647]]
+    text = ended(['(type 0 - 0)', '(type 1 0 0)'] + rules + objects + ['(insert 2147483647 1)'])
     count.compare('every pair', 'check', text, ended(['answer accepted'] + pairs))
 
 

@@ -11,6 +11,7 @@ import sys
 
 # What the program under test lends, and what it writes into every word that a call has no reason to change.
 OBJECT_ROWS, LINK_ROWS, EVENT_ROWS, LIST_WORDS, SOIL = 12, 16, 10, 48, 7
+MOST_ID = 2**31 - 1  # request 07, "Ids run from 1 to 2,147,483,647"
 KINDS = ['insert', 'delete', 'set', 'join', 'part', 'special', 'general']  # "Events", their order
 
 
@@ -153,9 +154,9 @@ def full_check(book, register):
 # ---------------------------------------------------------------- events
 
 def known(book, event):
-    """Whether 7 is not met: "kind, type, relationship unknown; cell not 0 to 7; id not 1 to 65,535"."""
+    """Whether 7 is not met: "kind, type, relationship unknown; cell not 0 to 7; id not 1 to" the last that there is."""
     kind, *x = event
-    is_id, is_type = (lambda i: 1 <= i <= 65535), (lambda t: 0 <= t < len(book.types))
+    is_id, is_type = (lambda i: 1 <= i <= MOST_ID), (lambda t: 0 <= t < len(book.types))
     if kind in ('insert', 'special', 'general'):
         return is_id(x[0]) and is_type(x[1])
     if kind == 'delete':

@@ -177,7 +177,7 @@ def faulty_rule(book, n):
 
 
 def faulty_object(rows, n):
-    return not 1 <= rows[n][0] <= 65535 or (n > 0 and rows[n - 1][0] >= rows[n][0])
+    return not 1 <= rows[n][0] <= plain.MOST_ID or (n > 0 and rows[n - 1][0] >= rows[n][0])
 
 
 def faulty_link(book, register, links, n):

@@ -23,7 +23,7 @@ pub fn check_tables(
     events: &[u32],
     scratch_objects: &mut [u32],
     scratch_links: &mut [u32],
-    list: &mut [u16],
+    list: &mut [u32],
     out: &mut [u8],
 ) -> usize
     requires { ⌜ (length (now objects) ≤ length (now «scratch_objects»)) × (length (now links) ≤ length (now «scratch_links»)) × (roomFor (length (now list) / 2) ≤ length (now out)) ⌝ }
@@ -67,7 +67,7 @@ fn check_read(
 {
     let mut scratch_objects = [0u32; 1280];
     let mut scratch_links = [0u32; 1536];
-    let mut list = [0u16; 2048];
+    let mut list = [0u32; 2048];
     check_tables(
         n,
         types,

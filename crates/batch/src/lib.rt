@@ -86,7 +86,7 @@ pub fn check(
     events: &[u32],
     scratch_objects: &mut [u32],
     scratch_links: &mut [u32],
-    list: &mut [u16],
+    list: &mut [u32],
 ) -> Checked
     ensures { λ r. ⌜ (let s = sheetOf (now (types .entry)) (now (relationships .entry)) (now (rules .entry)) (now (bodies .entry)) (now (objects .entry)) (now (links .entry)) (now (events .entry)) in
         let short = scratchShort (now (objects .entry)) (now (links .entry)) (now («scratch_objects» .entry)) (now («scratch_links» .entry)) in

@@ -1,46 +1,25 @@
 -- What is said of the selected pairs, by what the code found.
 use Prim.Native.Nat.{ℕ, _*_, _≤_, _<_}
 use mathlib.Core.Path.{_≡_, sym, ap, ap₂, _∙_}
-use mathlib.Core.Bool.{_&&_}
 use mathlib.Core.List.{List}
 use native.Mathlib.Omega.{arith}
 use borrow.Author.Tests.{lt-ltb, le-ltb}
-use mir.Facts.{and-yes, leb-yes}
-use lib.Dec.{leb}
 use lib.ListN.{length, take, length-map}
 use lib.Seq.{length-take-le}
-use Rattle.meaning.specs.Limits.{maxId, validId}
-use Rattle.meaning.specs.Schema.{knownType}
-use Rattle.meaning.specs.Register.{Register, cellsFit, objectFits}
+use Rattle.meaning.specs.Register.{Register}
 use Rattle.meaning.specs.Events.{Lent}
 use Rattle.meaning.specs.Reach.{Change, selectedPairs}
 use Rattle.meaning.specs.Answers.{listRefusal, outcomeOf, outcomeUnless, firstBroken}
-use Rattle.meaning.proofs.Lists.{element-in}
 use Rattle.rows.specs.Rows.{inFront}
-use Rattle.schema.proofs.Rows.{row-there}
 use Rattle.tables.specs.Layouts.{Sheet}
-use Rattle.tables.specs.Columns.{objectRow, bookOf, registerIn}
+use Rattle.tables.specs.Columns.{bookOf, registerIn}
 use Rattle.tables.specs.Answers.{answerOf}
 use Rattle.tables.specs.declared.Counts.{Counts}
 use Rattle.tables.specs.declared.Answer.the-variants.{Refused}
-use Rattle.checks.specs.Given.{Given}
-use Rattle.walks.specs.Site.{idIn}
-use Rattle.full_search.proofs.Given.{register-fits}
 use Rattle.pair_list.specs.Pairs.{pairAt, pairsOf, pairWords, Chosen}
 use Rattle.batch_selection.specs.Ended.{Ended}
 use Rattle.batch_judge.specs.declared.Judged.{Judged}
 use Rattle.batch_judge.specs.Judged.{endOutcome, Judges}
-
--- "id 1 to 65,535": an id is a half word
-pub id-low : (n : Counts) (s : Sheet) → Given n s → (row : ℕ) → row < n .objects → idIn (s .objects) row < 65536
-unfolding objectFits validId
-id-low n s given row h =
-    let o = objectRow (s .objects) row in
-    let fit = register-fits n s given .objects-fit o (element-in _ row (row-there (objectRow (s .objects)) (n .objects) row h)) in
-    let types = (bookOf n s) .schema .types in
-    let valid = and-yes (validId (o .id)) (knownType types (o .type)) (and-yes (validId (o .id) && knownType types (o .type)) (cellsFit types o) fit .0) .0 in
-    let low : o .id ≤ maxId = leb-yes (and-yes (leb 1 (o .id)) (leb (o .id) maxId) valid .1) in
-    omega arith
 
 module _ {c : Change} {n : Counts} {s : Sheet} {met : List ℕ} (e : Ended c n s met) (lent : Lent) (g : Register) (list : List ℕ) (words : lent .words ≡ length list)
     {chosen : List ℕ} {count : ℕ} (held : Chosen n chosen count) (pairs-are : pairsOf (s .objects) chosen count ≡ selectedPairs (bookOf n s) c) where

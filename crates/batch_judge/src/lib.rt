@@ -31,7 +31,7 @@ pub fn judge(
     links: &[u32],
     events: &[u32],
     met: &[u32; 256],
-    list: &mut [u16],
+    list: &mut [u32],
 ) -> Judged
     requires { ⌜ (Given n (sheetOf (now types) (now relationships) (now rules) (now bodies) (now objects) (now links) []))
         × ((c : Change) × Ended c n (sheetOf (now types) (now relationships) (now rules) (now bodies) (now objects) (now links) (now events)) (now met)) ⌝ }

@@ -26,7 +26,7 @@ pub extern "C" fn checker_batch(
     events: &[u32],
     scratch_objects: &mut [u32],
     scratch_links: &mut [u32],
-    list: &mut [u16],
+    list: &mut [u32],
     answer: &mut [u32; 6],
 )
     ensures { λ _. ⌜ (let s = sheetOf (now (types .entry)) (now (relationships .entry)) (now (rules .entry)) (now (bodies .entry)) (now (objects .entry)) (now (links .entry)) (now (events .entry)) in

@@ -15,7 +15,7 @@ ghost use Rattle.tables.specs.Columns.{typesOf, relationshipsOf, schemaOf, even
 ghost use Rattle.tables.specs.Layouts.{sheetOf};
 ghost use Rattle.tables.specs.Refusals.{foundOf, eventFault};
 
-// Whether an id is one of 1 to 65,535.
+// Whether an id is one that there can be.
 pub fn valid_id(id: u32) -> bool
     ensures { λ r. ⌜ r ≡ validId id ⌝ }
 {

@@ -107,7 +107,7 @@ strictlyUnder types g id t = holds (λ o. under types (o .type) t && not (eqb t 
 unfoldable pub hasCell : List ObjectType → Register → ℕ → ℕ → Bool
 hasCell types g id k = holds (λ o. ltb k (cellsOf types (o .type))) (objectAt g id)
 
--- 7: "kind, type, relationship unknown; cell not 0 to 7; id not 1 to 65,535": what the event says by itself is known
+-- 7: "kind, type, relationship unknown; cell not 0 to 7; id not 1 to" 2,147,483,647 (Req 07): what the event says by itself is known
 unfoldable pub knownEvent : Schema → Event → Bool
 knownEvent S (insert id t) = validId id && knownType (S .types) t
 knownEvent S (delete id) = validId id

@@ -31,9 +31,9 @@ maxEvents = 256
 abbrev pub cellCount : ℕ
 cellCount = 8
 
--- "id 1 to 65,535"
+-- Req 07: "Ids run from 1 to 2,147,483,647 in objects, links, events and lists"
 abbrev pub maxId : ℕ
-maxId = 65535
+maxId = 2147483647
 
 unfoldable pub validId : ℕ → Bool
 validId id = leb 1 id && leb id maxId

@@ -11,7 +11,7 @@ use Rattle.meaning.specs.Lists.{any, every, keep, first, holds, ascends,
 use Rattle.meaning.specs.Limits.{cellCount, validId, fitsWord}
 use Rattle.meaning.specs.Schema.{ObjectType, Schema, knownType, knownRelationship, cellsOf, under, relationshipOf, forward, sourceType, targetType}
 
--- "Object: id 1 to 65,535, type, eight signed 32-bit cells"
+-- "Object: id .., type, eight signed 32-bit cells"; ids as Req 07 has them (`Limits.maxId`)
 pub record Object : Type 0 where
   pub id : ℕ
   pub type : ℕ

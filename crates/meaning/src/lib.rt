@@ -1,4 +1,4 @@
-// The limits of document 01, "Schema, register, batch", as `specs/Limits` has them.
+// The limits of document 01, "Schema, register, batch", and of Req 07, as `specs/Limits` has them.
 pub const MAX_TYPES: u32 = 32;
 
 pub const MAX_RELATIONSHIPS: u32 = 32;
@@ -15,4 +15,4 @@ pub const MAX_EVENTS: u32 = 256;
 
 pub const CELLS: u32 = 8;
 
-pub const MAX_ID: u32 = 65535;
+pub const MAX_ID: u32 = 2147483647;

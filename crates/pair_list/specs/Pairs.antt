@@ -1,5 +1,5 @@
--- Document 01, "The list is 16-bit words, rule then id, ascending": the selected pairs as the code holds them, each a rule and an object's row in one
--- half word, and the words of their list.
+-- Req 07: "the list becomes 32-bit words, still rule then id"; ascending, as document 01 has it. The selected pairs as the code holds them, each a rule and
+-- an object's row in one half word, and the words of their list.
 use Prim.Native.Nat.{ℕ, _+_, _*_, _/_, _%_, _≤_, _<_}
 use mathlib.Core.Path.{_≡_}
 use mathlib.Core.List.{List, map, flatMap}
@@ -20,7 +20,7 @@ pairAt objects code = pairOf (code / maxObjects) (idIn objects (code % maxObject
 abbrev pub pairsOf : List ℕ → List ℕ → ℕ → List Pair
 pairsOf objects chosen count = map (pairAt objects) (take count chosen)
 
--- "16-bit words, rule then id"
+-- "32-bit words, still rule then id"
 unfoldable pub pairWords : List Pair → List ℕ
 unfolding flatMap
 pairWords = flatMap pairKey

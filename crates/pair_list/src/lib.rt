@@ -5,7 +5,7 @@ use tables::Counts;
 ghost use mathlib.Core.Path.{_≡_};
 ghost use mathlib.Core.Bool.{_&&_};
 ghost use mathlib.Core.List.{[], _∷_, _++_};
-ghost use Prim.Native.Nat.{ℕ, _+_, _*_, _/_, _%_, _≤_, _<_};
+ghost use Prim.Native.Nat.{_+_, _*_, _/_, _%_, _≤_, _<_};
 ghost use lib.Dec.{ltb, eqb};
 ghost use lib.ListN.{length, getD, take, drop};
 ghost use Rattle.meaning.specs.Answers.{firstBroken};
@@ -13,7 +13,6 @@ ghost use Rattle.rows.specs.Rows.{inFront};
 ghost use Rattle.tables.specs.Layouts.{sheetOf};
 ghost use Rattle.tables.specs.Columns.{bookOf, registerIn};
 ghost use Rattle.tables.specs.Answers.{answerOf};
-ghost use Rattle.walks.specs.Site.{idIn};
 ghost use Rattle.full_search.specs.Search.{Clear};
 ghost use Rattle.pair_list.specs.Pairs.{pairsOf, pairWords, Chosen};
 
@@ -27,17 +26,17 @@ fn code(chosen: &[u16; 32768], at: u32) -> u32
 }
 
 // The two words of a pair at their place.
-fn put(at: usize, rule: u32, id: u32, list: &mut [u16])
-    requires { ⌜ (rule < 65536) × (id < 65536) × (at + 2 ≤ length (now list)) ⌝ }
+fn put(at: usize, rule: u32, id: u32, list: &mut [u32])
+    requires { ⌜ at + 2 ≤ length (now list) ⌝ }
     ensures { λ _. ⌜ now (list .exit) ≡ take at (now (list .entry)) ++ (rule ∷ id ∷ []) ++ drop (at + 2) (now (list .entry)) ⌝ }
 {
-    list[at] = rule as u16;
-    list[at + 1] = id as u16;
+    list[at] = rule;
+    list[at + 1] = id;
 }
 
 // Writes the pairs at the front of the list; the words past them keep what they held.
-pub fn write(n: Counts, count: u32, chosen: &[u16; 32768], objects: &[u32], list: &mut [u16])
-    requires { ⌜ (Chosen n (now chosen) count) × (2 * count ≤ length (now list)) × ((row : ℕ) → row < n .objects → idIn (now objects) row < 65536) ⌝ }
+pub fn write(n: Counts, count: u32, chosen: &[u16; 32768], objects: &[u32], list: &mut [u32])
+    requires { ⌜ (Chosen n (now chosen) count) × (2 * count ≤ length (now list)) ⌝ }
     ensures { λ _. ⌜ now (list .exit) ≡ inFront (pairWords (pairsOf (now (objects .entry)) (now (chosen .entry)) count)) (now (list .entry)) ⌝ }
 {
     let mut at: u32 = 0;

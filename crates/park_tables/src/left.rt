@@ -63,7 +63,7 @@ pub fn print_after(
 {
     let mut scratch_objects = [0u32; 10240];
     let mut scratch_links = [0u32; 12288];
-    let mut list = [0u16; 65536];
+    let mut list = [0u32; 65536];
     let checked = batch::check(
         n,
         types,

@@ -32,7 +32,7 @@ pub fn print_full(
         (now (out .exit) ≡ inFront bytes (now (out .entry))) × (r ≡ length bytes)) ⌝ }
 {
     let answer = full::check(n, types, relationships, rules, bodies, objects, links);
-    let none = [0u16; 1];
+    let none = [0u32; 1];
     printing::print(answer, 0, &none, out)
 }
 
@@ -55,7 +55,7 @@ pub fn print_check(
 {
     let mut scratch_objects = [0u32; 10240];
     let mut scratch_links = [0u32; 12288];
-    let mut list = [0u16; 65536];
+    let mut list = [0u32; 65536];
     answers::check_tables(
         n,
         types,

@@ -14,7 +14,7 @@ use Rattle.tables.specs.declared.Answer.{Answer}
 use Rattle.tables.specs.declared.Answer.the-variants.{Accepted, Broken, Refused}
 use Rattle.printing.specs.Lines.{lineOf}
 use Rattle.printing.specs.Printed.{acceptedName, brokenName, refusedName, pairName, answerLine, pairLine, pairLines, pairsShown, printed, meant, pairIn, pairsIn, countShown, roomFor}
-use Rattle.printing.proofs.Numbers.{ten-digits, five-digits}
+use Rattle.printing.proofs.Numbers.{ten-digits}
 use Rattle.printing.proofs.Lines.{line-none, two-size}
 use Rattle.printing.proofs.Rows.{flat-more, flat-short, rows-back}
 
@@ -77,13 +77,13 @@ module _ (list : List ℕ) where
   few-shown (Broken rule id) count = omega arith
   few-shown (Refused number place) count = omega arith
 
-  -- words of 16 bits
-  module _ (words : (k : ℕ) → getD list k 0 < 2 ^ 16) where
-    pub pairs-size : (count : ℕ) → length (pairLines (pairsIn list count)) ≤ 17 * count
+  -- words of 32 bits
+  module _ (words : (k : ℕ) → getD list k 0 < 2 ^ 32) where
+    pub pairs-size : (count : ℕ) → length (pairLines (pairsIn list count)) ≤ 27 * count
     unfolding pairLines pairLine
     pairs-size count =
-        flat-short pairLine (pairIn list) 17 count
-        (λ i h. two-size 5 pairName (wordAt list 2 i 0) (wordAt list 2 i 1) (five-digits (wordAt list 2 i 0) (words (i * 2 + 0))) (five-digits (wordAt list 2 i 1) (words (i * 2 + 1))))
+        flat-short pairLine (pairIn list) 27 count
+        (λ i h. two-size 10 pairName (wordAt list 2 i 0) (wordAt list 2 i 1) (ten-digits (wordAt list 2 i 0) (words (i * 2 + 0))) (ten-digits (wordAt list 2 i 1) (words (i * 2 + 1))))
 
     pub printed-size : (answer : Answer) (count : ℕ) → length (answerLine (meant answer)) ≤ roomFor 0 → length (printed (meant answer) (pairsIn list count)) ≤ roomFor count
     printed-size answer count h =

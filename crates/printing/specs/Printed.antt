@@ -52,7 +52,7 @@ meant Accepted = accepted
 meant (Broken rule id) = brokenAt rule id
 meant (Refused number place) = refused number place
 
--- "16-bit words, rule then id": the first pairs of a list
+-- Req 07, "32-bit words, still rule then id": the first pairs of a list
 abbrev pub pairIn : List ℕ → ℕ → Pair
 pairIn list i = pairOf (wordAt list 2 i 0) (wordAt list 2 i 1)
 
@@ -65,6 +65,6 @@ countShown Accepted count = count
 countShown (Broken rule id) count = count
 countShown (Refused number place) count = zero
 
--- bytes enough for an answer and so many pairs: numbers of 32 bits in the first line, of 16 bits in the others
+-- bytes enough for an answer and so many pairs, two numbers of 32 bits in a line
 abbrev pub roomFor : ℕ → ℕ
-roomFor count = 37 + 17 * count
+roomFor count = 37 + 27 * count

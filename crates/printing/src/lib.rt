@@ -17,6 +17,6 @@ pub fn refuse(number: u32, line: u32, out: &mut [u8]) -> usize
     requires { ⌜ roomFor 0 ≤ length (now out) ⌝ }
     ensures { λ r. ⌜ (now (out .exit) ≡ inFront (printed (refused number line) []) (now (out .entry))) × (r ≡ length (printed (refused number line) [])) ⌝ }
 {
-    let none = [0u16; 1];
+    let none = [0u32; 1];
     print(Answer::Refused(number, line), 0, &none, out)
 }

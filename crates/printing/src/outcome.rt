@@ -31,7 +31,7 @@ fn shown(answer: Answer, pairs: u32) -> u32
 }
 
 // A line for each of the first pairs of the list.
-fn pair_lines(out: &mut [u8], at: usize, pairs: u32, list: &[u16]) -> usize
+fn pair_lines(out: &mut [u8], at: usize, pairs: u32, list: &[u32]) -> usize
     requires { ⌜ (2 * pairs ≤ length (now list)) × (at ≤ length (now out) + 1) ⌝ }
     ensures { λ r. ⌜ Put (now (out .entry)) at (pairLines (pairsIn (now (list .entry)) pairs)) (now (out .exit)) r ⌝ }
 {
@@ -39,8 +39,8 @@ fn pair_lines(out: &mut [u8], at: usize, pairs: u32, list: &[u16]) -> usize
     let mut i: u32 = 0;
     while i < pairs {
         let place = (i as usize) * 2;
-        let rule = rows::wide(list[place]);
-        let id = rows::wide(list[place + 1]);
+        let rule = list[place];
+        let id = list[place + 1];
         next = line(&mut *out, next, b"pair", rule, id);
         i += 1;
     }
@@ -48,7 +48,7 @@ fn pair_lines(out: &mut [u8], at: usize, pairs: u32, list: &[u16]) -> usize
 }
 
 // Prints an answer and the first pairs of its list at the front of the lent bytes, and answers how many bytes that is; those past them keep what they held.
-pub fn print(answer: Answer, pairs: u32, list: &[u16], out: &mut [u8]) -> usize
+pub fn print(answer: Answer, pairs: u32, list: &[u32], out: &mut [u8]) -> usize
     requires { ⌜ (2 * pairs ≤ length (now list)) × (roomFor pairs ≤ length (now out)) ⌝ }
     ensures { λ r. ⌜ (let bytes = printed (meant answer) (pairsIn (now (list .entry)) pairs) in
         (now (out .exit) ≡ inFront bytes (now (out .entry))) × (r ≡ length bytes)) ⌝ }

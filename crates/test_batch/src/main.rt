@@ -52,14 +52,14 @@ fn soil(words: &mut [u32], used: usize) {
 }
 
 // What the register and the list hold, as one number.
-fn checksum(objects: &[u32], links: &[u32], list: [u16; 48]) {
-    let total = show::sum_list(show::sum(show::sum(1, objects), links), list);
-    show::after(b"; ", total);
+fn checksum(objects: &[u32], links: &[u32], list: [u32; 48]) {
+    let total = show::sum(show::sum(show::sum(1, objects), links), &list);
+    show::after(b"; ", total % 4294967291);
     io::write_all(1, b"\n");
 }
 
 // How much of the register and of the list is used. A refusal says nothing of them.
-fn counts(checked: Checked, list: [u16; 48]) {
+fn counts(checked: Checked, list: [u32; 48]) {
     let answer = checked.answer;
     if let Answer::Refused(_, _) = answer {
         return;
@@ -83,7 +83,7 @@ fn check(
 ) {
     let mut scratch_objects = [9u32; 120];
     let mut scratch_links = [9u32; 48];
-    let mut list = [7u16; 48];
+    let mut list = [7u32; 48];
     let checked = batch::check(
         n,
         types,

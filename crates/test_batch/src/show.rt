@@ -24,13 +24,13 @@ pub fn answer(a: Answer) {
     }
 }
 
-fn pair(rule: u16, id: u16) {
+fn pair(rule: u32, id: u32) {
     after(b" ", rule as u64);
     after(b":", id as u64);
 }
 
 // The first pairs of a list.
-pub fn pairs(list: [u16; 48], count: u32) {
+pub fn pairs(list: [u32; 48], count: u32) {
     let mut i: u32 = 0;
     while i < 24 {
         if count <= i {
@@ -68,10 +68,6 @@ fn mixed(total: u64, word: u32) -> u64 {
     (total % 4294967291) * 65599 + (word as u64)
 }
 
-fn wide(word: u16) -> u32 {
-    word as u32
-}
-
 // A checksum that goes on with the words of a table.
 pub fn sum(start: u64, words: &[u32]) -> u64 {
     let mut total = start;
@@ -81,15 +77,4 @@ pub fn sum(start: u64, words: &[u32]) -> u64 {
         i += 1;
     }
     total
-}
-
-// A checksum that goes on with the words of a list.
-pub fn sum_list(start: u64, words: [u16; 48]) -> u64 {
-    let mut total = start;
-    let mut i: usize = 0;
-    while i < 48 {
-        total = mixed(total, wide(words[i]));
-        i += 1;
-    }
-    total % 4294967291
 }

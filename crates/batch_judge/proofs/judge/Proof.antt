@@ -8,7 +8,7 @@ use lib.ListN.{length-replicate}
 use Rattle.tables.specs.Layouts.{Sheet, sheetOf}
 use Rattle.full_search.specs.Search.{Clear}
 use Rattle.full_search.proofs.Given.{register-fits, can-index, zeros}
-use Rattle.batch_judge.proofs.Judging.{id-low, no-room, listed}
+use Rattle.batch_judge.proofs.Judging.{no-room, listed}
 use borrow.Author.Needs.{needs}
 use Rattle.batch_judge.proofs.judge.Statement.{statement}
 use Rattle.batch_judge.proofs.judge.Tie as tie
@@ -51,9 +51,7 @@ returns c = λ k ended lent words g.
 write-requires : tie.Need-write-requires
 write-requires c κs =
     let test = c .before .before in
-    let chose = test .before .before in
-    let s = entry (chose .before .before .before .before) in
-    (chose .selected-pairs .ensures .1, omega (arith, test .if1 .left), id-low (s .args .n) (sheet s []) (s .pre .0))
+    (test .before .before .selected-pairs .ensures .1, omega (arith, test .if1 .left))
 
 search-requires : tie.Need-search-requires
 search-requires c κs =

@@ -9,17 +9,11 @@ use borrow.Author.Needs.{needs}
 use Rattle.pair_list.proofs.put.Statement.{statement}
 use Rattle.pair_list.proofs.put.Tie as tie
 
-cast-list : tie.Need-cast-list
-cast-list c = search needs
-
 mul-list : tie.Need-mul-list
 mul-list c = search needs
 
 slice-write-list : tie.Need-slice-write-list
 slice-write-list c = search needs
-
-cast-list-2 : tie.Need-cast-list-2
-cast-list-2 c = search needs
 
 add-list : tie.Need-add-list
 add-list c = search needs
@@ -37,9 +31,9 @@ returns : tie.Need-returns
 returns c =
     let a = c .args in
     let next : a .at + 1 ≡ suc (a .at) = omega arith in
-    ap (λ i. set (set (a .list .now) (a .at) (a .rule)) i (a .id)) next ∙ sets-eq (a .rule ∷ a .id ∷ []) (a .list .now) (a .at) (c .pre .2)
+    ap (λ i. set (set (a .list .now) (a .at) (a .rule)) i (a .id)) next ∙ sets-eq (a .rule ∷ a .id ∷ []) (a .list .now) (a .at) (c .pre)
 
 pub put-spec : {M : Type 1} → statement M
 put-spec =
     tie.close
-    (tie.spec cast-list mul-list slice-write-list cast-list-2 add-list mul-list-2 slice-write-list-2 same-length returns)
+    (tie.spec mul-list slice-write-list add-list mul-list-2 slice-write-list-2 same-length returns)

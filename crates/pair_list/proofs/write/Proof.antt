@@ -1,6 +1,6 @@
 -- `pair_list::write` meets its contract: what is written so far are the words of the pairs before the place.
-use Prim.Native.Nat.{_-_, _/_, _%_, _≤_, _<_}
-use mathlib.Core.Path.{_≡_, sym, ap, subst, _∙_}
+use Prim.Native.Nat.{_-_, _/_, _%_, _≤_}
+use mathlib.Core.Path.{_≡_, ap, _∙_}
 use native.Mathlib.Omega.{arith}
 use Rattle.rows.specs.Rows.{inFront}
 use Rattle.walks.specs.Site.{idIn}
@@ -34,14 +34,7 @@ mul-put c = let start = c .before .before .before .before .before .before in ome
 put-requires : tie.Need-put-requires Inv-loop μ-loop
 put-requires c κs =
     let head = c .before .before .before .before in
-    let start = head .before .before .before in
-    let read = c .before .before .code .ensures in
-    let id-is = c .before .id-of .ensures ∙ ap (λ k. idIn (start .args .objects .now) (k % 1024)) read in
-    let here = c .before .before .before .loop-test .taken in (
-      omega (arith, ap (λ k. k / 1024) read, start .pre .0 .rules-there (head .loop .at) here, start .pre .0 .few-rules),
-      subst (λ k. k < 65536) (sym id-is) (start .pre .2 _ (start .pre .0 .rows-there (head .loop .at) here)),
-      omega (arith, head .loop .inv .1 .long, start .pre .1),
-    )
+    omega (arith, head .loop .inv .1 .long, head .before .before .before .pre .1)
 
 add-at : tie.Need-add-at Inv-loop μ-loop
 add-at c = omega arith
