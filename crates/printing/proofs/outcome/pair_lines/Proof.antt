@@ -54,13 +54,12 @@ loop-less c = search needs
 
 loop-again : tie.Need-loop-again Inv-loop μ-loop
 loop-again c =
-    let at-id = c .before .before .before .before .before in
-    let at-rule = at-id .before .before in
-    let head = at-rule .before .before .before in
+    let at-line = c .before .before in
+    let head = at-line .before .before .before .before .before .before in
     let start = head .before .before .before in (
       search needs,
       head .loop .inv .1,
-      put-as (put-then (head .loop .inv .2) (c .before .before .line .ensures)) (more-pairs (start .args .list .now) (head .loop .i) (head .loop .inv .1) (at-rule .wide .ensures) (at-id .wide2 .ensures)),
+      put-as (put-then (head .loop .inv .2) (at-line .line .ensures)) (more-pairs (start .args .list .now) (head .loop .i) (head .loop .inv .1) refl refl),
     )
 
 same-length : tie.Need-same-length Inv-loop μ-loop
