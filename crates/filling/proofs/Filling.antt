@@ -17,6 +17,7 @@ use Rattle.meaning.proofs.Lists.{every-getD}
 use Rattle.lexical.specs.Lines.{lineIn, lineEnded}
 use Rattle.lexical.proofs.Runs.{both}
 use Rattle.rows.specs.Rows.{withRow}
+use Rattle.rows.proofs.Fronts.{row-put}
 use Rattle.tables.specs.Layouts.{Sheet, sheetOf, Layout, typeTable, relationshipTable, ruleTable, objectTable, linkTable, eventTable, bodyWords, limitOf, widthOf, linesLent}
 use Rattle.text.specs.Tokens.{isWord}
 use Rattle.text.specs.Names.{typeName, relationshipName, ruleName, objectName, linkName}
@@ -55,11 +56,9 @@ module _ (t used : List ℕ) (is : t ≡ filled (length t) used) (at : ℕ) (wid
       ∙ ap (λ k. replicate k 0) fewer)
 
   row-filled : (width count : ℕ) (words : List ℕ) → count * width ≡ at → length words ≡ width → at + width ≤ length t → withRow t width count words ≡ filled (length t) (used ++ words)
-  unfolding withRow
   row-filled width count words placed long room =
-      ap (λ a. cond (eqb (length words) width && leb (a + width) (length t)) (take a t ++ words ++ drop (a + width) t) t) placed
-      ∙ ap₂ (λ p q. cond (p && q) (take at t ++ words ++ drop (at + width) t) t) (eq-eqb (length words) width long) (le-leb (at + width) (length t) room)
-      ∙ ap (λ n. take at t ++ words ++ drop (at + n) t) (sym long)
+      row-put t words width count long (omega (arith, placed))
+      ∙ ap₂ (λ a n. take a t ++ words ++ drop (a + n) t) placed (sym long)
       ∙ put-filled words
 
   pad-filled : (width : ℕ) (words : List ℕ) → length words ≤ width → at + width ≤ length t → filled (length t) (used ++ words) ≡ filled (length t) (used ++ padded width words)

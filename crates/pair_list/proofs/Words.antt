@@ -1,5 +1,5 @@
 -- The words of the pairs before a place, and of one more.
-use Prim.Native.Nat.{ℕ, _+_, _*_, _/_, _%_, _<_}
+use Prim.Native.Nat.{ℕ, _+_, _*_, _/_, _%_, _≤_, _<_}
 use mathlib.Core.Path.{_≡_, refl, sym, ap, _∙_}
 use mathlib.Core.List.{List, [], _∷_, _++_, map, map-append, flatMap}
 use native.Mathlib.Omega.{arith}
@@ -8,8 +8,8 @@ use lib.ListN.{length, getD, take, drop, length-map}
 use lib.Seq.{take-suc, length-take-le}
 use Rattle.meaning.specs.Limits.{maxObjects}
 use Rattle.meaning.specs.Reach.{Pair, pairOf, pairKey}
-use Rattle.rows.specs.Rows.{inFront}
-use Rattle.rows.proofs.Fronts.{front-more}
+use Rattle.rows.specs.Rows.{inFront, withRow}
+use Rattle.rows.proofs.Fronts.{row-put, front-more}
 use Rattle.walks.specs.Site.{idIn}
 use Rattle.pair_list.specs.Pairs.{pairAt, pairsOf, pairWords}
 
@@ -43,8 +43,8 @@ module _ (objects chosen list : List ℕ) where
 
   pub written-one : {at rule id : ℕ} {now now' : List ℕ} → Written at now → at < length chosen
       → rule ≡ getD chosen at 0 / maxObjects → id ≡ idIn objects (getD chosen at 0 % maxObjects)
-      → length now' ≡ length now → now' ≡ take (at * 2) now ++ (rule ∷ id ∷ []) ++ drop (at * 2 + 2) now → Written (at + 1) now'
-  written-one {at} {rule} {id} {now} {now'} w h p q same put =
+      → at * 2 + 2 ≤ length now → length now' ≡ length now → now' ≡ withRow now 2 at (rule ∷ id ∷ []) → Written (at + 1) now'
+  written-one {at} {rule} {id} {now} {now'} w h p q room same put =
       let before : at * 2 ≡ length (pairWords (pairsOf objects chosen at)) =
       omega (arith, words-length (pairsOf objects chosen at), length-map (take at chosen) (pairAt objects), length-take-le at chosen (omega arith)) in
       let pair : pairAt objects (getD chosen at 0) ≡ pairOf rule id = sym (λ j. pairOf (p j) (q j)) in
@@ -54,6 +54,7 @@ module _ (objects chosen list : List ℕ) where
         long = same ∙ w .long;
         words =
             put
+            ∙ row-put now (rule ∷ id ∷ []) 2 at refl room
             ∙ ap (λ l. take (at * 2) l ++ (rule ∷ id ∷ []) ++ drop (at * 2 + 2) l) (w .words)
             ∙ front-more (pairWords (pairsOf objects chosen at)) (rule ∷ id ∷ []) list (at * 2) 2 before refl
             ∙ ap (λ ws. inFront ws list) (sym all);

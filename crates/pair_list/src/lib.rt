@@ -4,10 +4,10 @@ use tables::Answer;
 use tables::Counts;
 ghost use mathlib.Core.Path.{_≡_};
 ghost use mathlib.Core.Bool.{_&&_};
-ghost use mathlib.Core.List.{[], _∷_, _++_};
-ghost use Prim.Native.Nat.{_+_, _*_, _/_, _%_, _≤_, _<_};
+ghost use mathlib.Core.List.{[]};
+ghost use Prim.Native.Nat.{_*_, _/_, _≤_, _<_};
 ghost use lib.Dec.{ltb, eqb};
-ghost use lib.ListN.{length, getD, take, drop};
+ghost use lib.ListN.{length, getD};
 ghost use Rattle.meaning.specs.Answers.{firstBroken};
 ghost use Rattle.rows.specs.Rows.{inFront};
 ghost use Rattle.tables.specs.Layouts.{sheetOf};
@@ -25,15 +25,6 @@ fn code(chosen: &[u16; 32768], at: u32) -> u32
     rows::wide(chosen[place])
 }
 
-// The two words of a pair at their place.
-fn put(at: usize, rule: u32, id: u32, list: &mut [u32])
-    requires { ⌜ at + 2 ≤ length (now list) ⌝ }
-    ensures { λ _. ⌜ now (list .exit) ≡ take at (now (list .entry)) ++ (rule ∷ id ∷ []) ++ drop (at + 2) (now (list .entry)) ⌝ }
-{
-    list[at] = rule;
-    list[at + 1] = id;
-}
-
 // Writes the pairs at the front of the list; the words past them keep what they held.
 pub fn write(n: Counts, count: u32, chosen: &[u16; 32768], objects: &[u32], list: &mut [u32])
     requires { ⌜ (Chosen n (now chosen) count) × (2 * count ≤ length (now list)) ⌝ }
@@ -43,7 +34,8 @@ pub fn write(n: Counts, count: u32, chosen: &[u16; 32768], objects: &[u32], list
     while at < count {
         let pair = code(chosen, at);
         let id = register::id_of(objects, pair % 1024);
-        put((at as usize) * 2, pair / 1024, id, list);
+        let words = [pair / 1024, id];
+        rows::write_row(&mut *list, tables::PAIR_WIDTH, at, &words);
         at += 1;
     }
 }

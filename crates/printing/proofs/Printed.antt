@@ -2,7 +2,6 @@
 use Prim.Native.Nat.{ℕ, _+_, _*_, _^_, _≤_, _<_}
 use mathlib.Core.Path.{_≡_, refl, sym, ap, _∙_}
 use mathlib.Core.List.{List, [], _∷_, _++_, flatMap}
-use native.Mathlib.Nat.{add-zero}
 use native.Mathlib.Omega.{arith}
 use lib.Dec.{lit<}
 use lib.ListN.{length, getD, length-append}
@@ -58,12 +57,10 @@ module _ (list : List ℕ) where
   no-pairs = refl
 
   -- a turn of the loop
-  pub more-pairs : (i : ℕ) {name : List ℕ} {rule id : ℕ} → name ≡ pairName → rule ≡ getD list (i * 2) 0 → id ≡ getD list (i * 2 + 1) 0
+  pub more-pairs : (i : ℕ) {name : List ℕ} {rule id : ℕ} → name ≡ pairName → rule ≡ wordAt list 2 i 0 → id ≡ wordAt list 2 i 1
       → pairLines (pairsIn list i) ++ lineOf name (rule ∷ id ∷ []) ≡ pairLines (pairsIn list (i + 1))
   unfolding pairLines pairLine
-  more-pairs i p q r =
-      let first = q ∙ ap (λ k. getD list k 0) (sym (add-zero (i * 2))) in
-      ap (λ l. pairLines (pairsIn list i) ++ l) (λ j. lineOf (p j) (first j ∷ r j ∷ [])) ∙ flat-more pairLine (pairIn list) i
+  more-pairs i p q r = ap (λ l. pairLines (pairsIn list i) ++ l) (λ j. lineOf (p j) (q j ∷ r j ∷ [])) ∙ flat-more pairLine (pairIn list) i
 
   -- those that are shown
   pub shown-lines : (answer : Answer) (count : ℕ) → answerLine (meant answer) ++ pairLines (pairsIn list (countShown answer count)) ≡ printed (meant answer) (pairsIn list count)

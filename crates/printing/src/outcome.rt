@@ -2,7 +2,7 @@
 use crate::pieces::line;
 use tables::Answer;
 ghost use mathlib.Core.Path.{_≡_};
-ghost use Prim.Native.Nat.{_+_, _*_, _≤_};
+ghost use Prim.Native.Nat.{_+_, _≤_};
 ghost use lib.ListN.{length};
 ghost use Rattle.rows.specs.Rows.{inFront};
 ghost use Rattle.line_writer.specs.Put.{Put};
@@ -32,15 +32,14 @@ fn shown(answer: Answer, pairs: u32) -> u32
 
 // A line for each of the first pairs of the list.
 fn pair_lines(out: &mut [u8], at: usize, pairs: u32, list: &[u32]) -> usize
-    requires { ⌜ (2 * pairs ≤ length (now list)) × (at ≤ length (now out) + 1) ⌝ }
+    requires { ⌜ at ≤ length (now out) + 1 ⌝ }
     ensures { λ r. ⌜ Put (now (out .entry)) at (pairLines (pairsIn (now (list .entry)) pairs)) (now (out .exit)) r ⌝ }
 {
     let mut next = at;
     let mut i: u32 = 0;
     while i < pairs {
-        let place = (i as usize) * 2;
-        let rule = list[place];
-        let id = list[place + 1];
+        let rule = rows::word(list, tables::PAIR_WIDTH, i, 0);
+        let id = rows::word(list, tables::PAIR_WIDTH, i, 1);
         next = line(&mut *out, next, b"pair", rule, id);
         i += 1;
     }
@@ -49,7 +48,7 @@ fn pair_lines(out: &mut [u8], at: usize, pairs: u32, list: &[u32]) -> usize
 
 // Prints an answer and the first pairs of its list at the front of the lent bytes, and answers how many bytes that is; those past them keep what they held.
 pub fn print(answer: Answer, pairs: u32, list: &[u32], out: &mut [u8]) -> usize
-    requires { ⌜ (2 * pairs ≤ length (now list)) × (roomFor pairs ≤ length (now out)) ⌝ }
+    requires { ⌜ roomFor pairs ≤ length (now out) ⌝ }
     ensures { λ r. ⌜ (let bytes = printed (meant answer) (pairsIn (now (list .entry)) pairs) in
         (now (out .exit) ≡ inFront bytes (now (out .entry))) × (r ≡ length bytes)) ⌝ }
 {

@@ -5,8 +5,15 @@ use mathlib.Core.List.{List, [], _∷_, _++_, flatMap}
 use native.Mathlib.Nat.{add-zero, zero-add, add-suc, suc-add, add-comm, suc-mul, zero-mul, add-mul}
 use native.Mathlib.Omega.{arith}
 use lib.ListN.{length, getD, take, drop, length-append}
+use borrow.Author.Tests.{le-leb, eq-eqb}
 use lib.Seq.{take-at, drop-append-add, drop-drop, drop-cons, take-add}
-use Rattle.rows.specs.Rows.{wordAt, rowsFrom, readRows, inFront}
+use Rattle.rows.specs.Rows.{wordAt, rowsFrom, readRows, inFront, withRow}
+
+-- a row that fits is put
+pub row-put : (t words : List ℕ) (width row : ℕ) → length words ≡ width → row * width + width ≤ length t
+    → withRow t width row words ≡ take (row * width) t ++ words ++ drop (row * width + width) t
+unfolding withRow
+row-put t words width row long room = rw (eq-eqb (length words) width long, le-leb (row * width + width) (length t) room)
 
 -- words that follow those at the front
 pub front-more : (front words list : List ℕ) (at size : ℕ) → at ≡ length front → size ≡ length words

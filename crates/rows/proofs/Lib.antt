@@ -7,7 +7,7 @@
 --   Words     a word and its signed value
 --   Moves     the rows after a row is put in, taken out or changed
 --   Listed    the list of rows after that
---   Fronts    words at the front of a list; the first rows as the words of each
+--   Fronts    a row put; words at the front of a list; the first rows as the words of each
 pub mod Offsets
 pub mod Meet
 pub mod Shift

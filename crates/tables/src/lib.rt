@@ -15,6 +15,9 @@ pub const LINK_WIDTH: u32 = 3;
 
 pub const EVENT_WIDTH: u32 = 4;
 
+// Words of a pair in a list: rule, id.
+pub const PAIR_WIDTH: u32 = 2;
+
 // How many rows of each lent table are used.
 pub struct Counts {
     pub types: u32,

@@ -21,7 +21,7 @@ print-requires c κs =
     let start = start-of at-check in
     let few = pairs-within (at-check .check .ensures) in
     let long = at-check .check .kept .1 .1 .1 .1 .1 .1 .1 .1 .1 .1 .0 in
-    (few, omega (arith, few, long, start .pre .2))
+    omega (arith, few, long, start .pre .2)
 
 same-length : tie.Need-same-length
 same-length c = search needs

@@ -25,16 +25,11 @@ code-requires c κs = let start = c .before .before .before .before in omega (ar
 id-of-requires : tie.Need-id-of-requires Inv-loop μ-loop
 id-of-requires c κs = search needs
 
-cast-put : tie.Need-cast-put Inv-loop μ-loop
-cast-put c = search needs
+slice-aggregate-write-row : tie.Need-slice-aggregate-write-row Inv-loop μ-loop
+slice-aggregate-write-row c = search needs
 
-mul-put : tie.Need-mul-put Inv-loop μ-loop
-mul-put c = let start = c .before .before .before .before .before .before in omega (arith, start .pre .0 .few)
-
-put-requires : tie.Need-put-requires Inv-loop μ-loop
-put-requires c κs =
-    let head = c .before .before .before .before in
-    omega (arith, head .loop .inv .1 .long, head .before .before .before .pre .1)
+write-row-requires : tie.Need-write-row-requires Inv-loop μ-loop
+write-row-requires c κs = search needs
 
 add-at : tie.Need-add-at Inv-loop μ-loop
 add-at c = omega arith
@@ -45,13 +40,14 @@ loop-less c = omega arith
 loop-again : tie.Need-loop-again Inv-loop μ-loop
 loop-again c =
     let done = c .before .before in
-    let head = done .before .before .before .before .before in
+    let at-id = done .before .before .before in
+    let head = at-id .before .before .before in
     let start = head .before .before .before in
-    let read = done .before .before .before .code .ensures in (
+    let read = at-id .before .code .ensures in (
       omega arith,
       written-one _ _ _ (head .loop .inv .1) (omega (arith, start .pre .0, start .pre .1)) (ap (λ k. k / 1024) read)
-          (done .before .before .id-of .ensures ∙ ap (λ k. idIn (start .args .objects .now) (k % 1024)) read)
-          (done .put .kept .1 .1 .1 .0) (done .put .ensures),
+          (at-id .id-of .ensures ∙ ap (λ k. idIn (start .args .objects .now) (k % 1024)) read)
+          (omega (arith, head .loop .inv .1 .long, start .pre .1)) (done .write-row .kept .0) (done .write-row .ensures),
     )
 
 same-length : tie.Need-same-length Inv-loop μ-loop
@@ -73,9 +69,8 @@ write-spec =
     loop-holds
     code-requires
     id-of-requires
-    cast-put
-    mul-put
-    put-requires
+    slice-aggregate-write-row
+    write-row-requires
     add-at
     loop-less
     loop-again

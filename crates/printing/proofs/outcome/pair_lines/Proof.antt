@@ -17,28 +17,13 @@ abbrev μ-loop : tie.MeasureT-loop
 μ-loop out₀ at pairs list next₀ i₀ name out next i = pairs - i
 
 loop-holds : tie.Need-loop-holds Inv-loop μ-loop
-loop-holds c = (search needs, refl, put-as (put-nothing _ _ (c .before .before .pre .1)) (sym (no-pairs (c .before .before .args .list .now))))
+loop-holds c = (search needs, refl, put-as (put-nothing _ _ (c .before .before .pre)) (sym (no-pairs (c .before .before .args .list .now))))
 
-cast-place : tie.Need-cast-place Inv-loop μ-loop
-cast-place c = search needs
+word-requires : tie.Need-word-requires Inv-loop μ-loop
+word-requires c κs = search needs
 
-mul-place : tie.Need-mul-place Inv-loop μ-loop
-mul-place c = search needs
-
-mul-rule : tie.Need-mul-rule Inv-loop μ-loop
-mul-rule c = search needs
-
-shared-slice-read-rule : tie.Need-shared-slice-read-rule Inv-loop μ-loop
-shared-slice-read-rule c = search needs
-
-add-id : tie.Need-add-id Inv-loop μ-loop
-add-id c = search needs
-
-mul-id : tie.Need-mul-id Inv-loop μ-loop
-mul-id c = search needs
-
-shared-slice-read-id : tie.Need-shared-slice-read-id Inv-loop μ-loop
-shared-slice-read-id c = search needs
+word-requires-2 : tie.Need-word-requires-2 Inv-loop μ-loop
+word-requires-2 c κs = search needs
 
 slice-aggregate-line : tie.Need-slice-aggregate-line Inv-loop μ-loop
 slice-aggregate-line c = search needs
@@ -55,11 +40,13 @@ loop-less c = search needs
 loop-again : tie.Need-loop-again Inv-loop μ-loop
 loop-again c =
     let at-line = c .before .before in
-    let head = at-line .before .before .before .before .before .before in
+    let at-id = at-line .before .before .before in
+    let at-rule = at-id .before in
+    let head = at-rule .before .before in
     let start = head .before .before .before in (
       search needs,
       head .loop .inv .1,
-      put-as (put-then (head .loop .inv .2) (at-line .line .ensures)) (more-pairs (start .args .list .now) (head .loop .i) (head .loop .inv .1) refl refl),
+      put-as (put-then (head .loop .inv .2) (at-line .line .ensures)) (more-pairs (start .args .list .now) (head .loop .i) (head .loop .inv .1) (at-rule .word .ensures) (at-id .word2 .ensures)),
     )
 
 same-length : tie.Need-same-length Inv-loop μ-loop
@@ -79,13 +66,8 @@ pair-lines-spec =
     Inv-loop
     μ-loop
     loop-holds
-    cast-place
-    mul-place
-    mul-rule
-    shared-slice-read-rule
-    add-id
-    mul-id
-    shared-slice-read-id
+    word-requires
+    word-requires-2
     slice-aggregate-line
     line-requires
     add-i

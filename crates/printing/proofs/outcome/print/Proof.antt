@@ -6,7 +6,7 @@ use borrow.Author.Needs.{needs}
 use Rattle.line_writer.proofs.Puts.{put-then, put-as, put-within}
 use Rattle.printing.specs.Printed.{answerLine, pairLines, meant, pairsIn}
 use Rattle.printing.proofs.Lines.{put-front}
-use Rattle.printing.proofs.Printed.{shown-lines, few-shown, printed-size}
+use Rattle.printing.proofs.Printed.{shown-lines, printed-size}
 use Rattle.printing.proofs.outcome.print.Statement.{statement}
 use Rattle.printing.proofs.outcome.print.Tie as tie
 
@@ -17,10 +17,7 @@ shown-requires : tie.Need-shown-requires
 shown-requires c κs = search needs
 
 pair-lines-requires : tie.Need-pair-lines-requires
-pair-lines-requires c κs =
-    let at-line = c .before .before .before .before in
-    let start = at-line .before .before .before .before in
-    (omega (arith, start .pre .0, c .before .shown .ensures, few-shown (start .args .list .now) (start .args .answer) (start .args .pairs)), put-within (at-line .answer-line .ensures .0))
+pair-lines-requires c κs = put-within (c .before .before .before .before .answer-line .ensures .0)
 
 same-length : tie.Need-same-length
 same-length c = search needs
@@ -36,7 +33,7 @@ returns c =
     let lines = ap (λ k. answerLine (meant (a .answer)) ++ pairLines (pairsIn list k)) (at-shown .shown .ensures) ∙ shown-lines list (a .answer) (a .pairs) in
     put-front
     (put-as (put-then (at-line .answer-line .ensures .0) (c .before .before .pair-lines .ensures)) lines)
-    (omega (arith, start .pre .1, printed-size list (λ k. at-list .shared-slice-known .given k .fits) (a .answer) (a .pairs) (at-line .answer-line .ensures .1)))
+    (omega (arith, start .pre, printed-size list (λ k. at-list .shared-slice-known .given k .fits) (a .answer) (a .pairs) (at-line .answer-line .ensures .1)))
 
 pub print-spec : {M : Type 1} → statement M
 print-spec =
