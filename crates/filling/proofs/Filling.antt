@@ -3,18 +3,17 @@ use Prim.Native.Nat.{ℕ, zero, suc, _+_, _-_, _*_, min, _≤_, _<_}
 use mathlib.Core.Path.{_≡_, refl, sym, ap, ap₂, subst, _∙_}
 use mathlib.Core.Bool.{Bool, true, false, _&&_, _||_, not, cond, false≢true}
 use mathlib.Core.List.{List, [], _∷_, _++_, append-nil, append-assoc}
-use mathlib.Core.Option.{Option, none, some}
+use mathlib.Core.Option.{none, some}
 use native.Mathlib.Nat.{add-mul, one-mul, div-mul-le-self}
 use native.Mathlib.Omega.{arith}
 use lib.Dec.{ltb, leb, eqb}
-use lib.ListN.{length, getD, take, drop, set, replicate, length-append, length-replicate, replicate-append-replicate}
+use lib.ListN.{length, getD, take, drop, set, replicate, length-append, replicate-append-replicate}
 use lib.Seq.{drop-drop, take-at, drop-at}
 use denote.Floats.{is-true}
-use borrow.Author.Tests.{leb-true, eqb-true, eqb-false, ltb-false, le-leb, eq-eqb, ne-eqb}
-use Rattle.meaning.specs.Lists.{every, keep}
-use Rattle.meaning.specs.Limits.{maxForms}
+use borrow.Author.Tests.{leb-true, eqb-true, eqb-false, ltb-false, eq-eqb, ne-eqb}
+use Rattle.meaning.specs.Lists.{every}
 use Rattle.meaning.proofs.Lists.{every-getD}
-use Rattle.lexical.specs.Lines.{lineIn, lineEnded}
+use Rattle.lexical.specs.Lines.{lineIn}
 use Rattle.lexical.proofs.Runs.{both}
 use Rattle.rows.specs.Rows.{withRow}
 use Rattle.rows.proofs.Fronts.{row-put}
@@ -22,7 +21,7 @@ use Rattle.tables.specs.Layouts.{Sheet, sheetOf, Layout, typeTable, relationshi
 use Rattle.text.specs.Tokens.{isWord}
 use Rattle.text.specs.Names.{typeName, relationshipName, ruleName, objectName, linkName}
 use Rattle.text.specs.Bodies.{Written, padded, formsIn, rowsOf, wellWritten}
-use Rattle.text.specs.Entries.{Entry, row, rule, eventSection, sectionOf, entryWords, isOf, countOf, tableOf, bodiesOf, entryIn}
+use Rattle.text.specs.Entries.{Entry, row, rule, eventSection, sectionOf, entryWords, countOf, tableOf, bodiesOf, entryIn}
 use Rattle.text.specs.Texts.{maxText, taken, readFrom, reading, filled}
 use Rattle.text.proofs.Bodies.{rows-length}
 use Rattle.text.proofs.Entries.{sayable, rowFits, by-section, padded-length}
@@ -30,10 +29,9 @@ use Rattle.text.proofs.Blocks.{count-append, table-append}
 use Rattle.brackets.specs.Whole.{WholeBody, rowsPut}
 use Rattle.line_reader.specs.declared.line.Row.{Row}
 use Rattle.line_reader.specs.Rows.{rowHeld, bodyPlace}
-use Rattle.filling.specs.Fills.{sheetWith}
-use Rattle.filling.specs.Fills.{rowPut, LinePut}
+use Rattle.filling.specs.Fills.{sheetWith, LinePut}
 use Rattle.line_reader.proofs.Bodied.{whole-body}
-use Rattle.reading.proofs.Looking.{Looking, LineRead, look-starts, starts-before, look-follows, look-done, look-with, ended-fine, section-fine, row-fine, e, found, section-of, words-are, said, count-small, read-short, taken-same}
+use Rattle.reading.proofs.Looking.{Looking, LineRead, look-starts, starts-before, look-done, look-with, ended-fine, section-fine, row-fine, e, found, section-of, words-are, said, count-small, read-short, taken-same}
 
 -- ---- words put after those of a table
 

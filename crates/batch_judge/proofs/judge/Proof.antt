@@ -1,12 +1,11 @@
 -- `batch_judge::judge` meets its contract.
 use Prim.Native.Nat.{ℕ}
-use mathlib.Core.Path.{refl, _∙_}
+use mathlib.Core.Path.{refl}
 use mathlib.Core.List.{List, []}
 use native.Mathlib.Omega.{arith}
 use denote.Ref.{now}
 use lib.ListN.{length-replicate}
 use Rattle.tables.specs.Layouts.{Sheet, sheetOf}
-use Rattle.full_search.specs.Search.{Clear}
 use Rattle.full_search.proofs.Given.{register-fits, can-index, zeros}
 use Rattle.batch_judge.proofs.Judging.{no-room, listed}
 use borrow.Author.Needs.{needs}

@@ -1,6 +1,6 @@
 -- `park_tables::left::print_after` meets its contract.
 use native.Mathlib.Omega.{arith}
-use mathlib.Core.Path.{sym, ap, _∙_}
+use mathlib.Core.Path.{ap, _∙_}
 use lib.ListN.{length}
 use Rattle.rows.specs.Rows.{inFront}
 use Rattle.tables.specs.Layouts.{Sheet, sheetOf}
