@@ -2,7 +2,7 @@
 use Prim.Native.Nat.{ℕ, zero, suc, _+_, _*_, _/_, _%_, _≤_, _<_}
 use mathlib.Core.Path.{_≡_, refl, sym, ap, subst, _∙_}
 use mathlib.Core.Bool.{Bool, true, false, _&&_, cond}
-use mathlib.Core.List.{List, [], _∷_, _++_, map, flatMap}
+use mathlib.Core.List.{List, [], _∷_, map, flatMap}
 use native.Mathlib.Omega.{arith}
 use mir.Facts.{and-yes, yes-and, yes-ltb}
 use lib.Dec.{T, ltb, ltb→lt}
@@ -78,7 +78,6 @@ held c n rules bodies objects chosen may {count} few few-rules long low is =
     record {
       long = long;
       few = omega arith;
-      few-rules = few-rules;
       rules-there = λ i h. ltb→lt _ _ (and-yes (in-rules i) (in-rows i) (each i h) .0);
       rows-there = λ i h. ltb→lt _ _ (and-yes (in-rules i) (in-rows i) (each i h) .1);
     }

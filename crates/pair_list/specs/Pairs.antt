@@ -29,6 +29,5 @@ pairWords = flatMap pairKey
 pub record Chosen (n : Counts) (chosen : List ℕ) (count : ℕ) : Type 0 where
   pub long : length chosen ≡ maxRules * maxObjects
   pub few : count ≤ maxRules * maxObjects
-  pub few-rules : n .rules ≤ maxRules
   pub rules-there : (i : ℕ) → i < count → getD chosen i 0 / maxObjects < n .rules
   pub rows-there : (i : ℕ) → i < count → getD chosen i 0 % maxObjects < n .objects
