@@ -204,6 +204,11 @@ def longer(name):
     return lambda case: case.lent[name].append(0)
 
 
+def first_named(i):
+    """Another id in the first event: a join's or part's source, else its object."""
+    return lambda case: case.lent['events'].__setitem__(2 if case.lent['events'][0] in (3, 4) else 1, i)
+
+
 def damages():
     """Each kind of damage to tables that have two types, rules, objects, links and events or more: its refusal, who meets it, what is done."""
     for name in COUNTED:
@@ -221,11 +226,13 @@ def damages():
     yield 2, 0, BOOKS, word('rules', 3, 65)
     yield 4, 0, BOOKS, word('bodies', 0, 23)
     yield 5, 0, EVERY, word('objects', 0, 0)
+    yield 5, 0, EVERY, word('objects', 0, 2**31)
     yield 5, 0, EVERY, word('objects', 1, 32)
     yield 5, 1, EVERY, swap('objects')
     yield 5, 0, EVERY, word('links', 0, 32)
     yield 5, 1, EVERY, swap('links')
     yield 7, 0, BATCHED, word('events', 0, 7)
+    yield from ((7, 0, BATCHED, first_named(i)) for i in (0, 2**31, 2**32 - 1))
     yield from ((6, 0, ['run', 'batch'], shorter_scratch(at)) for at in (0, 1))
 
 
@@ -332,6 +339,7 @@ def all_cases():
     for number in range(120):
         cases = list(from_blocks(draw.drawn(number, 5)))
         yield from (case.file_words() for case in cases)
+        yield from (case.file_words() for case in from_blocks(draw.drawn(number, 2, near=False)))
         yield reading(cases[0])
         yield from damaged_texts(cases[0], number)
         yield from too_small(cases[0])

@@ -16,6 +16,7 @@ HERE = os.path.dirname(os.path.abspath(__file__))
 
 # What is wrong; a piece of plain.py that stands there once; what stands there instead.
 FAULTS = [
+    ('ids end at 65,535', 'MOST_ID = 2**31 - 1', 'MOST_ID = 2**16 - 1'),
     ('a loss counts only if the link is gone at the end',
      'any(such(link) for link in self.parted)', 'any(such(link) and link not in self.end.links for link in self.parted)'),
     ('a gain counts though the link is gone at the end', 'such(link) and link in self.end.links', 'such(link)'),
