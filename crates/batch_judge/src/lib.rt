@@ -61,7 +61,7 @@ pub fn judge(
             pairs: 0,
         };
     }
-    pair_list::write(n, count, &chosen, objects, list);
+    pair_list::write(count, &chosen, objects, list);
     let answer = pair_list::search(
         n,
         types,

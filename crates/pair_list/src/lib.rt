@@ -26,8 +26,8 @@ fn code(chosen: &[u16; 32768], at: u32) -> u32
 }
 
 // Writes the pairs at the front of the list; the words past them keep what they held.
-pub fn write(n: Counts, count: u32, chosen: &[u16; 32768], objects: &[u32], list: &mut [u32])
-    requires { ⌜ (Chosen n (now chosen) count) × (2 * count ≤ length (now list)) ⌝ }
+pub fn write(count: u32, chosen: &[u16; 32768], objects: &[u32], list: &mut [u32])
+    requires { ⌜ (length (now chosen) ≡ 32768) × (count ≤ 32768) × (2 * count ≤ length (now list)) ⌝ }
     ensures { λ _. ⌜ now (list .exit) ≡ inFront (pairWords (pairsOf (now (objects .entry)) (now (chosen .entry)) count)) (now (list .entry)) ⌝ }
 {
     let mut at: u32 = 0;

@@ -50,7 +50,8 @@ returns c = λ k ended lent words g.
 write-requires : tie.Need-write-requires
 write-requires c κs =
     let test = c .before .before in
-    (test .before .before .selected-pairs .ensures .1, omega (arith, test .if1 .left))
+    let held = test .before .before .selected-pairs .ensures .1 in
+    (held .long, held .few, omega (arith, test .if1 .left))
 
 search-requires : tie.Need-search-requires
 search-requires c κs =
@@ -60,7 +61,7 @@ search-requires c κs =
     (record { given = s .pre .0; indexed = indexed .index2 .ensures }, chose .selected-pairs .ensures .1)
 
 same-length : tie.Need-same-length
-same-length c = let wrote = c .before .before .before .before .before in wrote .write .kept .1 .1 .1 .1 .0
+same-length c = let wrote = c .before .before .before .before .before in wrote .write .kept .1 .1 .1 .0
 
 returns-2 : tie.Need-returns-2
 returns-2 c = λ k ended lent words g.

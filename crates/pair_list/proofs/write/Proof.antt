@@ -20,7 +20,7 @@ loop-holds : tie.Need-loop-holds Inv-loop μ-loop
 loop-holds c = (omega arith, written-none _ _ _)
 
 code-requires : tie.Need-code-requires Inv-loop μ-loop
-code-requires c κs = let start = c .before .before .before .before in omega (arith, start .pre .0 .few)
+code-requires c κs = let start = c .before .before .before .before in omega (arith, start .pre .1)
 
 id-of-requires : tie.Need-id-of-requires Inv-loop μ-loop
 id-of-requires c κs = search needs
@@ -47,7 +47,7 @@ loop-again c =
       omega arith,
       written-one _ _ _ (head .loop .inv .1) (omega (arith, start .pre .0, start .pre .1)) (ap (λ k. k / 1024) read)
           (at-id .id-of .ensures ∙ ap (λ k. idIn (start .args .objects .now) (k % 1024)) read)
-          (omega (arith, head .loop .inv .1 .long, start .pre .1)) (done .write-row .kept .0) (done .write-row .ensures),
+          (omega (arith, head .loop .inv .1 .long, start .pre .2)) (done .write-row .kept .0) (done .write-row .ensures),
     )
 
 same-length : tie.Need-same-length Inv-loop μ-loop
