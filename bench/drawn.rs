@@ -78,6 +78,14 @@ impl Drawer<'_> {
         }
     }
 
+    // The body, or a forall over a role of self: a quiet body, at which an insert by itself selects nothing.
+    fn made_quiet(&mut self, body: Form, context: u32) -> Form {
+        let roles = self.roles(&[context]);
+        let Some((_, r, t)) = pick(&mut self.draw, &roles) else { return body };
+        let each = self.truth(1, &mut vec![context, t]);
+        Form::Connect(1, b(Form::Quantify(0, b(Form::Role(0, r)), b(each))), b(body))
+    }
+
     // A collection and its members' type.
     fn collection(&mut self, depth: u32, scope: &mut Vec<u32>) -> (Form, u32) {
         if depth > 0 && self.draw.below(4) == 0 {
@@ -160,7 +168,10 @@ pub fn book(seed: u32) -> Park {
     while rules.len() < count as usize {
         let context = drawer.draw.below(n);
         let depth = drawer.draw.below(5);
-        let body = drawer.truth(depth, &mut vec![context]);
+        let mut body = drawer.truth(depth, &mut vec![context]);
+        if drawer.draw.below(4) == 0 {
+            body = drawer.made_quiet(body, context);
+        }
         if forms(&body) <= 64 {
             rules.push((context, body));
         }
@@ -223,13 +234,13 @@ fn event(d: &mut Draw, p: &Park) -> [u32; 4] {
     }
 }
 
-// A batch of up to twelve events. One in some hundred of those that are refused is kept.
+// A batch of up to twelve events. One in some hundred of those that are refused is kept. Half of the objects that are deleted come back at once.
 pub fn batch(p: &Park, seed: u32) -> Vec<[u32; 4]> {
     let mut d = Draw(seed);
     let count = d.below(13) as usize;
-    let (mut now, mut out) = (literal::copy(p), vec![]);
+    let (mut now, mut out, mut gone) = (literal::copy(p), vec![], None);
     for _ in 0..200 {
-        let e = event(&mut d, &now);
+        let e = gone.take().unwrap_or_else(|| event(&mut d, &now));
         let refused = literal::refusal(&now, ROOM, e).is_some();
         if out.len() == count || refused && d.below(150) > 0 {
             continue;
@@ -237,6 +248,9 @@ pub fn batch(p: &Park, seed: u32) -> Vec<[u32; 4]> {
         out.push(e);
         if refused {
             break;
+        }
+        if e[0] == 1 && d.below(2) == 0 {
+            gone = now.objects.iter().find(|o| o.0 == e[1]).map(|o| [0, o.0, o.1, 0]);
         }
         now = literal::done(&now, e);
     }

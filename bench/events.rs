@@ -1,5 +1,5 @@
-// Batches of events beside a plain run of them over ordered maps, in one run: the same registers, and the time of 0, 5, 40 and 256 events. Then the
-// event lists of thirty rules.
+// Batches of events beside a plain run of them over ordered maps, in one run: the same registers, and the time of 0, 5, 40 and 256 events; deletes that
+// take links along, beside as many sets; and the event lists of thirty rules.
 #[allow(dead_code)]
 mod library;
 #[allow(dead_code)]
@@ -11,6 +11,7 @@ use std::collections::{BTreeMap, BTreeSet};
 
 const SIZES: [(u32, u32); 2] = [(250, 1000), (1000, 4000)];
 const COUNTS: [usize; 4] = [0, 5, 40, 256];
+const HUB_LINKS: usize = 1024;
 
 // A register as ordered maps.
 #[derive(Clone)]
@@ -45,6 +46,7 @@ fn event(d: &mut Draw, g: &mut Register, p: &Park, ids: Ids, kind: u32) -> Optio
             g.objects.insert(id, (t, [0; 8]));
             Some([0, id, t, 0])
         }
+        // those with links are measured by themselves
         1 => {
             let free: Vec<u32> = g.objects.keys().copied().filter(|id| !g.links.iter().any(|l| l.1 == *id || l.2 == *id)).collect();
             let id = pick(d, &free)?;
@@ -84,7 +86,7 @@ struct Case {
     events: Vec<u32>,
 }
 
-// A park with lent rows to the limits and a batch of all kinds, whose register after it is the plain one.
+// A park with lent rows to the limits and a batch of all kinds.
 fn case(objects: u32, links: u32, ids: Ids, count: usize) -> Case {
     let p = park::numbered(park::park(objects, links, 7), ids);
     let (mut d, mut g, mut events) = (Draw(5), register(&p), vec![]);
@@ -92,13 +94,18 @@ fn case(objects: u32, links: u32, ids: Ids, count: usize) -> Case {
         let kind = d.below(7);
         events.extend(event(&mut d, &mut g, &p, ids, kind).into_iter().flatten());
     }
-    let mut tables = park::tables(&p);
+    agreed(&p, events, &g)
+}
+
+// A batch on lent rows to the limits, whose register after it is the plain one.
+fn agreed(p: &Park, events: Vec<u32>, after: &Register) -> Case {
+    let mut tables = park::tables(p);
     tables.objects.resize(10 * 1024, 0);
     tables.links.resize(3 * 4096, 0);
-    let c = Case { tables, used: (objects, links), events };
+    let c = Case { tables, used: (p.objects.len() as u32, p.links.len() as u32), events };
     let mut scratch = (vec![7; 10 * 1024], vec![7; 3 * 4096]);
     let answer = run(&c.tables, c.used, &c.events, &mut scratch);
-    let (plain_objects, plain_links) = rows(&g);
+    let (plain_objects, plain_links) = rows(after);
     assert_eq!(answer, [0, (plain_objects.len() / 10) as u32, (plain_links.len() / 3) as u32]);
     assert_eq!(scratch.0[..plain_objects.len()], plain_objects);
     assert_eq!(scratch.1[..plain_links.len()], plain_links);
@@ -113,6 +120,63 @@ fn calls(cases: &[Case]) -> Vec<Call<'_>> {
             call(move || run(&c.tables, c.used, &c.events, &mut scratch))
         })
         .collect()
+}
+
+// A park of 1,024 objects and 4,096 links, of which one object has 1,024: a cabinet, whose links stand side by side, or a drive, whose links are scattered.
+fn with_hub(cabinet: bool) -> (Park, u32) {
+    let mut p = park::park(1024, 4096, 7);
+    let of = |t: u32| p.objects.iter().filter(|o| o.1 == t).map(|o| o.0).collect::<Vec<u32>>();
+    let (hub, others) = if cabinet { (of(0)[0], of(1)) } else { (of(1)[0], of(0)) };
+    let own = (0..10).flat_map(|r| others.iter().map(move |x| if cabinet { (r, hub, *x) } else { (r, *x, hub) }));
+    let (mut links, mut d): (BTreeSet<_>, _) = (own.take(HUB_LINKS).collect(), Draw(7));
+    while links.len() < p.links.len() {
+        let l = p.links[d.below(4096) as usize];
+        if l.1 != hub && l.2 != hub {
+            links.insert(l);
+        }
+    }
+    p.links = links.into_iter().collect();
+    (p, hub)
+}
+
+struct Deletes {
+    name: &'static str,
+    taken: usize,
+    cases: [Case; 3], // no event, as many sets, the deletes
+}
+
+fn deletes_of(name: &'static str, p: &Park, ids: &[u32]) -> Deletes {
+    let before = register(p);
+    let (mut set, mut after) = (before.clone(), before.clone());
+    for id in ids {
+        set.objects.get_mut(id).unwrap().1[0] = 1;
+        after.objects.remove(id);
+        after.links.retain(|l| l.1 != *id && l.2 != *id);
+    }
+    let events = |event: fn(u32) -> [u32; 4]| ids.iter().flat_map(|id| event(*id)).collect::<Vec<u32>>();
+    let sets = agreed(p, events(|id| [2, id, 0, 1]), &set);
+    let deletes = agreed(p, events(|id| [1, id, 0, 0]), &after);
+    Deletes { name, taken: before.links.len() - after.links.len(), cases: [agreed(p, vec![], &before), sets, deletes] }
+}
+
+// The time of deletes that take links along, beside that of as many sets of the same objects.
+fn deletes() {
+    let ((cabinets, cabinet), (drives, drive)) = (with_hub(true), with_hub(false));
+    let p = park::park(1024, 4096, 7);
+    let fourth: Vec<u32> = p.objects.iter().step_by(4).map(|o| o.0).collect();
+    let all = [
+        deletes_of("a cabinet of 1,024 links", &cabinets, &[cabinet]),
+        deletes_of("a drive of 1,024 links", &drives, &[drive]),
+        deletes_of("every fourth object", &p, &fourth),
+    ];
+    let figures = rounds(&mut all.iter().map(|d| calls(&d.cases)).collect::<Vec<_>>());
+    println!("deletes, of 1,024 objects and 4,096 links  events  links taken  time (us)  as many sets (us)  / sets  of it the deletes (us)  the sets (us)  each link (ns)");
+    for (d, f) in all.iter().zip(&figures) {
+        let (deletes, sets, ratio) = (median(f, |r| r[2]), median(f, |r| r[1]), median(f, |r| r[2] / r[1]));
+        let [own, of_sets] = [2, 1].map(|i| median(f, |r| r[i] - r[0]));
+        print!("{:41}  {:6}  {:11}  {deletes:9.1}  {sets:17.1}  {ratio:6.2}", d.name, d.cases[2].events.len() / 4, d.taken);
+        println!("  {own:22.1}  {of_sets:13.1}  {:14.1}", 1000.0 * own / d.taken as f64);
+    }
 }
 
 // Lists the event types of every rule of a park's book; how many there are.
@@ -141,6 +205,7 @@ fn event_lists() {
 
 fn main() {
     event_lists();
+    deletes();
     let cases = park::KINDS.map(|(_, ids)| SIZES.map(|(objects, links)| COUNTS.map(|count| case(objects, links, ids, count))));
     let figures = rounds(&mut cases.iter().flatten().map(|c| calls(c)).collect::<Vec<_>>());
     for ((name, _), lines) in park::KINDS.iter().zip(figures.chunks(SIZES.len())) {

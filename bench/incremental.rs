@@ -127,6 +127,7 @@ impl Book {
             Form::Role(_, r) => {
                 out.join |= up(r / 2);
                 out.part |= down(r / 2);
+                out.delete |= down(self.of(f));
             }
             Form::All(t) => {
                 out.insert |= up(*t);
@@ -460,16 +461,31 @@ impl Lists {
 
     fn delete(&mut self, book: &Book, id: u32) -> Result<(), u32> {
         let x = self.object_named(id)?;
-        let o = self.at(x);
-        if !o.ends.is_empty() {
-            return Err(12);
-        }
-        let (t, cells) = (o.kind, o.cells);
+        self.take_links(x);
+        let (t, cells) = (self.at(x).kind, self.at(x).cells);
         self.undo.push(Undo::Bring(x, id, t, cells));
         self.take(x);
         self.touch(id).deleted |= book.above[t as usize];
         self.occurring.delete |= book.above[t as usize];
         Ok(())
+    }
+
+    // The links of an object that is deleted: each is a loss for the object at the other end, and none for the object itself.
+    fn take_links(&mut self, x: Slot) {
+        for (role, y) in std::mem::take(&mut self.at_mut(x).ends) {
+            if y != x {
+                let other = self.at_mut(y);
+                let i = other.ends.iter().position(|e| *e == (role ^ 1, x)).unwrap();
+                other.ends.swap_remove(i);
+                let far = other.id;
+                self.touch(far).losses |= 1 << (role ^ 1);
+            } else if role % 2 == 1 {
+                continue; // a link of the object to itself stands at both its roles
+            }
+            self.links -= 1;
+            let r = role as u32 / 2;
+            self.undo.push(if role % 2 == 0 { Undo::Link(r, x, y) } else { Undo::Link(r, y, x) });
+        }
     }
 
     fn set(&mut self, book: &Book, id: u32, k: u32, value: i32) -> Result<(), u32> {
@@ -929,12 +945,27 @@ fn close(rows: &mut [u32], used: &mut usize, width: usize, key: &[u32]) {
     rows[width * *used..][..width].fill(0);
 }
 
+// The links that have an object at no end, in their order.
+fn close_links(rows: &mut [u32], used: &mut usize, id: u32) {
+    let mut kept = 0;
+    for row in 0..*used {
+        if ![rows[3 * row + 1], rows[3 * row + 2]].contains(&id) {
+            rows.copy_within(3 * row..3 * row + 3, 3 * kept);
+            kept += 1;
+        }
+    }
+    *used = kept;
+}
+
 // An accepted visit on the lent tables.
 pub fn write_back(book: &Book, events: &[[u32; 4]], objects: &mut [u32], links: &mut [u32], used: &mut (usize, usize)) {
     for [kind, x, y, z] in events.iter().copied() {
         match kind {
             0 => open(objects, &mut used.0, 10, &[x, y, 0, 0, 0, 0, 0, 0, 0, 0], 1),
-            1 => close(objects, &mut used.0, 10, &[x]),
+            1 => {
+                close(objects, &mut used.0, 10, &[x]);
+                close_links(links, &mut used.1, x);
+            }
             3 => open(links, &mut used.1, 3, &[x, y, z], 3),
             4 => close(links, &mut used.1, 3, &[x, y, z]),
             _ => {

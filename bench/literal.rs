@@ -68,7 +68,7 @@ pub fn refusal(p: &Park, room: (usize, usize), [kind, x, y, z]: [u32; 4]) -> Opt
         (9, &|| kind == 0 && there(x) || kind == 3 && linked),
         (10, &|| kind == 4 && !linked),
         (11, &|| !fits(p, [kind, x, y, z])),
-        (12, &|| kind == 1 && p.links.iter().any(|l| l.1 == x || l.2 == x) || kind == 6 && holds_it(p, x, y)),
+        (12, &|| kind == 6 && holds_it(p, x, y)),
         (13, &|| kind == 0 && p.objects.len() >= room.0.min(1024) || kind == 3 && p.links.len() >= room.1.min(4096)),
     ];
     tests.iter().find(|t| t.1()).map(|t| t.0)
@@ -95,7 +95,10 @@ pub fn done(p: &Park, [kind, x, y, z]: [u32; 4]) -> Park {
     let mut q = copy(p);
     match kind {
         0 => q.objects.push((x, y, [0; 8])),
-        1 => q.objects.retain(|o| o.0 != x),
+        1 => {
+            q.objects.retain(|o| o.0 != x);
+            q.links.retain(|l| l.1 != x && l.2 != x);
+        }
         3 => q.links.push((x, y, z)),
         4 => q.links.retain(|l| *l != (x, y, z)),
         _ => {
@@ -136,10 +139,16 @@ impl Story<'_> {
         self.events.iter().any(|e| e[..3] == [2, id, k])
     }
 
+    // Up by a join whose link is there at the end; down by a part, or by a delete of another object that took a link to it along.
     fn role_moves(&self, id: u32, r: u32, up: bool) -> bool {
-        let near = |e: &[u32; 4]| e[1] == r / 2 && id == if r % 2 == 0 { e[2] } else { e[3] };
-        let there = |e: &[u32; 4]| self.last().links.contains(&(e[1], e[2], e[3]));
-        self.events.iter().any(|e| near(e) && if up { e[0] == 3 && there(e) } else { e[0] == 4 })
+        let link = |far: u32| if r % 2 == 0 { (r / 2, id, far) } else { (r / 2, far, id) };
+        let of_role = |e: &[u32; 4]| (e[1], e[2], e[3]) == link(if r % 2 == 0 { e[3] } else { e[2] });
+        self.events.iter().enumerate().any(|(i, e)| match e[0] {
+            1 => !up && e[1] != id && self.after[i].links.binary_search(&link(e[1])).is_ok(),
+            3 => up && of_role(e) && self.last().links.contains(&(e[1], e[2], e[3])),
+            4 => !up && of_role(e),
+            _ => false,
+        })
     }
 
     fn all_moves(&self, t: u32, up: bool) -> bool {

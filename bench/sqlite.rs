@@ -204,6 +204,9 @@ fn fill(c: &Connection, p: &Park) {
     for (r, a, b) in &p.links {
         c.run(&format!("INSERT INTO link{r} VALUES ({a}, {b})"));
     }
+    // a delete of an object takes its links along
+    let taken = (0..p.relationships.len()).map(|r| format!("DELETE FROM link{r} WHERE a = old.id; DELETE FROM link{r} WHERE b = old.id; "));
+    c.run(&format!("CREATE TRIGGER taken AFTER DELETE ON object BEGIN {}END", taken.collect::<String>()));
     for (n, (context, body)) in p.rules.iter().enumerate() {
         c.run(&Words { park: p }.view(n, *context, body));
     }

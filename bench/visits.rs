@@ -170,6 +170,7 @@ impl Crew {
     }
 
     fn delete(&mut self, id: u32) -> Object {
+        self.links.retain(|l| l.1 != id && l.2 != id);
         self.events.push([1, id, 0, 0]);
         self.objects.remove(&id).unwrap()
     }
@@ -201,13 +202,28 @@ impl Crew {
         self.events.push([6, id, t, 0]);
     }
 
-    // A drive comes off its hub and another one goes in: mounted like the old one, and fitting two cabinets.
+    fn links_of(&self, id: u32) -> Vec<(u32, u32, u32)> {
+        self.links.iter().copied().filter(|l| l.1 == id || l.2 == id).collect()
+    }
+
+    // A drive comes off its hub, its links parted one after the other, and another one goes in.
     fn exchange_drive(&mut self, s: usize, u: usize, i: usize, same_id: bool) {
         let old = self.numbers.part(s, u, AT_DRIVE + i);
-        let links: Vec<_> = self.links.iter().copied().filter(|l| l.1 == old || l.2 == old).collect();
+        let links = self.links_of(old);
         for l in &links {
             self.part(*l);
         }
+        self.put_in_place(old, &links, same_id);
+    }
+
+    // The same by a delete that takes the links along.
+    fn scrap_drive(&mut self, s: usize, u: usize, i: usize, same_id: bool) {
+        let old = self.numbers.part(s, u, AT_DRIVE + i);
+        self.put_in_place(old, &self.links_of(old), same_id);
+    }
+
+    // A drive is deleted, and another one goes in: mounted by the old one's links, and fitting two cabinets.
+    fn put_in_place(&mut self, old: u32, links: &[(u32, u32, u32)], same_id: bool) {
         let (t, cells) = self.delete(old);
         let new = if same_id { old } else { self.new_id() };
         self.insert(new, DRIVE);
@@ -285,12 +301,21 @@ fn drive_exchange() -> Vec<Event> {
     c.sent(40)
 }
 
-// The visits that are accepted, of 5, 40 and 256 events.
+fn drives_scrapped() -> Vec<Event> {
+    let mut c = Crew::new(4);
+    c.scrap_drive(SMALL[0], 4, 1, false);
+    c.scrap_drive(SMALL[1], 1, 2, true);
+    c.new_box(SMALL[1], 2, 1);
+    c.sent(40)
+}
+
+// The visits that are accepted, of 5, 40, 256 and again 40 events.
 pub fn accepted() -> Vec<Visit> {
     vec![
         Visit { name: "readings", events: Crew::new(1).sent(5) },
         Visit { name: "a drive exchanged", events: drive_exchange() },
         Visit { name: "hubs exchanged", events: hub_exchange() },
+        Visit { name: "drives scrapped with their links", events: drives_scrapped() },
     ]
 }
 
@@ -309,6 +334,7 @@ pub fn broken() -> Vec<Visit> {
         ending("broken: an encoder of another kind", [2, at(AT_ENCODER + 1), 0, 7]),
         ending("broken: a blade without its charge", [2, at(AT_BOX + 2), 0, 20]),
         ending("broken: a drive without a cabinet", [4, FEEDS, at(AT_CABINET), at(AT_DRIVE + 2)]),
+        ending("broken: a cabinet scrapped", [1, at(AT_CABINET), 0, 0]),
     ]
 }
 
@@ -319,7 +345,7 @@ pub fn refused() -> Vec<Visit> {
         ending("refused: no such object", [2, 1 + *n.0.last().unwrap(), 0, 1]),
         ending("refused: a link that is there", [3, FEEDS, at(AT_CABINET), at(AT_DRIVE)]),
         ending("refused: a brake on a plain drive", [2, at(AT_DRIVE), 4, 1]),
-        ending("refused: a cabinet with links deleted", [1, at(AT_CABINET), 0, 0]),
+        ending("refused: a drive deleted twice", [1, n.part(SMALL[0], 4, AT_DRIVE + 1), 0, 0]),
     ]
 }
 

@@ -297,7 +297,7 @@ def largest(last):
             register.links |= {(t, name(t, k), name((t + 1) % 32, (k + j) % 32)) for j in range(4)}
     gone = name(5, 9)
     own = sorted(link for link in register.links if gone in link[1:])
-    events = [('part', *link) for link in own] + [('delete', gone), ('insert', gone, 5), ('set', gone, 1, 130)]
+    events = [('part', *link) for link in own[:3]] + [('delete', gone), ('insert', gone, 5), ('set', gone, 1, 130)]  # which takes the others
     events += [('join', *link) for link in own]
     events += [('set', name(n % 7, n % 32), 0, n % 32) for n in range(255 - len(events))] + [last]
     return Case(largest_book(), register, events, LARGEST, 65536)

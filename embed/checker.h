@@ -51,7 +51,7 @@ enum {
 /* Kinds of events: the first word of an event's row and of an event type. */
 enum checker_kind {
     CHECKER_INSERT = 0,  /* id, type, 0 */
-    CHECKER_DELETE = 1,  /* id, 0, 0 */
+    CHECKER_DELETE = 1,  /* id, 0, 0; the object's links go with it */
     CHECKER_SET = 2,     /* id, cell, value */
     CHECKER_JOIN = 3,    /* relationship, source id, target id */
     CHECKER_PART = 4,    /* relationship, source id, target id */
@@ -78,7 +78,7 @@ enum checker_refusal {
     CHECKER_PRESENT = 9,   /* an inserted object or a joined link is there: event */
     CHECKER_NO_LINK = 10,  /* a parted link is not there: event */
     CHECKER_NO_FIT = 11,   /* a cell, an end or a new type does not fit: event */
-    CHECKER_LINKED = 12,   /* a link needs the object as it is: event */
+    CHECKER_LINKED = 12,   /* a link needs the type that a general leaves: event */
     CHECKER_FULL = 13,     /* no row is left: event */
     CHECKER_TOO_SHORT = 14 /* the list or the written text needs more than is lent: 0 */
 };

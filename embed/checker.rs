@@ -42,7 +42,7 @@ pub enum Answer {
 #[derive(Clone, Copy, Debug, PartialEq, Eq)]
 pub enum Event {
     Insert { object: u32, type_number: u32 },
-    Delete { object: u32 },
+    Delete { object: u32 }, // with its links
     Set { object: u32, cell: u32, value: i32 },
     Join { relationship: u32, source: u32, target: u32 },
     Part { relationship: u32, source: u32, target: u32 },

@@ -71,7 +71,7 @@ fn deepest(innermost: &str, step: &str, whole: &str) -> String {
 fn text_with(body: &str) -> String {
     let book = "(type 0 - 1)\n(type 1 - 1)\n(type 2 0 1)\n(type 3 1 1)\n(rel 0 0 1)\n";
     let register = "(ent 1 0 1)\n(ent 2 1 1)\n(ent 3 2 1)\n(link 0 1 2)\n";
-    let comings = "(insert 4 2)\n(delete 4)\n(insert 4 0)\n(set 1 0 2)\n(set 2 0 2)\n(part 0 1 2)\n(join 0 1 2)\n(join 0 4 2)\n";
+    let comings = "(insert 4 2)\n(delete 4)\n(insert 4 0)\n(delete 2)\n(insert 2 1)\n(join 0 1 2)\n(set 1 0 2)\n(set 2 0 2)\n(part 0 1 2)\n(join 0 1 2)\n(join 0 4 2)\n";
     let turns = "(special 1 2)\n(general 1 0)\n(special 2 3)\n(general 2 1)\n";
     format!("{book}(rule 0 0 {body})\n{register}{comings}{turns}")
 }

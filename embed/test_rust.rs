@@ -183,8 +183,13 @@ fn largest() -> Tally {
     let full = lent::park(&plain);
     let (r, a, b) = plain.links[0];
     let (part, join) = ([4, r, a, b], [3, r, a, b]);
-    // an insert without a row, a row freed and used again, and one that is not freed
-    for rows in [vec![[0, 65_000, 0, 0]], vec![part, join], vec![[2, a, 0, 1]], vec![part, join, [3, 9, a, b], [3, 8, a, b]]] {
+    // an insert without a row, a row freed and used again, and one that is not freed; deletes that free rows of both tables
+    let replaced = vec![[1, a, 0, 0], [0, 65_000, 0, 0], [3, r, 65_000, b], [3, 9, 65_000, b]];
+    let one_more = [&replaced[..], &[[0, 65_001, 0, 0]]].concat();
+    let scrapped: Vec<_> = plain.objects.iter().step_by(50).map(|o| [1, o.0, 0, 0]).collect();
+    let again: Vec<_> = scrapped.iter().flat_map(|e| [*e, [0, e[1], 0, 0]]).collect();
+    let freed = [vec![part, join], vec![part, join, [3, 9, a, b], [3, 8, a, b]], replaced, one_more, scrapped, again];
+    for rows in [vec![[0, 65_000, 0, 0]], vec![[2, a, 0, 1]]].into_iter().chain(freed) {
         visit(&mut t, &mut full.clone(), &plain, Room::LARGEST, &rows);
     }
     t
@@ -259,9 +264,9 @@ fn event_lists() -> Tally {
     let (park, events) = Park::read(include_bytes!("../docs/examples/park.txt")).expect("the example");
     t.count(park.clone().check(&events));
     let set = |type_number| EventType::Set { type_number, cell: 0 };
-    let join = EventType::Join { relationship: 0 };
-    let part = EventType::Part { relationship: 0 };
-    t.agree("an event list", park.events(0) == Ok(vec![EventType::Insert { type_number: 0 }, set(0), set(1), join, part]));
+    let (insert, delete) = (EventType::Insert { type_number: 0 }, EventType::Delete { type_number: 1 });
+    let (join, part) = (EventType::Join { relationship: 0 }, EventType::Part { relationship: 0 });
+    t.agree("an event list", park.events(0) == Ok(vec![insert, delete, set(0), set(1), join, part]));
     t.refusal("a rule that is not there", park.events(4), (4, 4));
     t
 }

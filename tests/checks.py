@@ -42,7 +42,7 @@ def marked_cases():
     case('(e) part, then join of that link', 'accepted; 0:10', BOOK_A + ['(part 0 10 20)', '(join 0 10 20)'])
     case('(f) insert 12 0', 'accepted; 0:12', BOOK_A + ['(insert 12 0)'])
     case('(g) insert 12 0 with a forall over the role', 'accepted;', changed(BOOK_A, 3, QUIET) + ['(insert 12 0)'])
-    case('(h) delete 20', 'refused 12 0', BOOK_A + ['(delete 20)'])
+    case('(h) delete 20', 'accepted; 0:10', BOOK_A + ['(delete 20)'])
     case('(i) join 0 10 20', 'refused 9 0', BOOK_A + ['(join 0 10 20)'])
 
 
@@ -292,9 +292,24 @@ FAULTY_EVENTS = {
     9: ['insert 10 1', 'join 0 10 20'],
     10: ['part 0 11 20', 'part 1 20 21'],
     11: ['set 20 1 5', 'join 0 20 21', 'join 0 10 11', 'special 21 1', 'special 20 1', 'general 20 0', 'general 21 2'],
-    12: ['delete 20', 'delete 10', 'delete 21', 'general 21 1'],
+    12: ['general 21 1'],
 }
 HARMLESS = ['(set 10 0 40)', '(set 11 0 50)']
+# A link needs 10 below type 0 at its source, another 11 at its target.
+ENDS = ['(type 0 - 1)', '(type 1 0 1)', '(rel 0 1 0)', '(rel 1 0 1)', '(rule 0 0 (le (cell 0 0) (num 99)))', '(ent 10 1 1)', '(ent 11 1 1)', '(ent 12 0 1)', '(link 0 10 12)', '(link 1 12 11)']
+
+
+def linked_objects():
+    """A delete takes an object's links along (request 01): of a link's target, of its source, of one that is linked to itself as well. A general still meets 12."""
+    for i, pairs in ((20, ' 0:10 0:11'), (10, ' 0:11'), (21, ' 0:11')):
+        sets = ['(set 11 0 40)', '(set 11 0 50)']
+        for place, where in enumerate(PLACES):
+            case(f'delete {i} with its links, {where}', f'accepted;{pairs}', SERVO + sets[:place] + [f'(delete {i})'] + sets[place:])
+    for i in (10, 11):
+        sets = ['(set 12 0 2)', '(set 12 0 3)']
+        for place, where in enumerate(PLACES):
+            case(f'12: general {i} 0, {where}', f'refused 12 {place}', ENDS + sets[:place] + [f'(general {i} 0)'] + sets[place:])
+    case('general of both ends once the object between is deleted', 'accepted;', ENDS + ['(delete 12)', '(general 10 0)', '(general 11 0)'])
 
 
 def faulty_events():
@@ -315,12 +330,18 @@ def events_on_the_way():
     case('9: inserted by an earlier event', 'refused 9 1', BOOK_A + ['(insert 12 0)', '(insert 12 1)'])
     case('10: parted by an earlier event', 'refused 10 1', BOOK_A + ['(part 0 10 20)', '(part 0 10 20)'])
     case('11: a cell that a special brought, gone by a general', 'refused 11 3', SERVO + ['(special 20 2)', '(set 20 1 5)', '(general 20 1)', '(set 20 1 5)'])
-    case('12: linked by an earlier event', 'refused 12 1', BOOK_A + ['(join 0 11 20)', '(delete 11)'])
-    case('12 no more once the link is parted', 'accepted; 0:10', BOOK_A + ['(part 0 10 20)', '(delete 20)'])
+    case('12: linked by an earlier event', 'refused 12 2', SERVO + ['(special 20 2)', '(join 1 20 20)', '(general 20 1)'])
+    case('12 no more once the link is parted', 'accepted;', SERVO + ['(part 1 21 21)', '(general 21 1)'])
+    case('12 no more once a delete took the link', 'accepted; 0:10', SERVO + ['(part 1 21 21)', '(special 20 2)', '(join 1 20 21)', '(delete 20)', '(general 21 1)'])
+    case('8: part of a link that a delete took', 'refused 8 1', BOOK_A + ['(delete 20)', '(part 0 10 20)'])
+    case('10: the same, its object back', 'refused 10 2', BOOK_A + ['(delete 20)', '(insert 20 1)', '(part 0 10 20)'])
+    case('9 no more: join of a link that a delete took, its object back', 'accepted; 0:10', BOOK_A + ['(delete 20)', '(insert 20 1)', '(join 0 10 20)'])
     case('13 no more once a row is free', 'accepted;', objects(128) + ['(delete 1)', '(insert 129 0)'])
     case('13: the freed row is used once', 'refused 13 2', objects(128) + ['(delete 1)', '(insert 129 0)', '(insert 1 0)'])
     case('13 no more once a link is parted', 'accepted;', links(512) + ['(part 0 1 11)', '(join 0 10 70)'])
-    case('the first faulty event decides', 'refused 12 1', BOOK_A + ['(set 11 0 1)', '(delete 20)', '(insert 0 0)'])
+    case('13 no more once a delete took links', 'accepted;', links(512) + ['(delete 1)', '(join 0 10 70)'])
+    case('13: a delete frees as many rows as it takes links', 'refused 13 3', links(510) + ['(link 0 10 69)', '(link 0 10 70)', '(delete 10)'] + [f'(join 0 9 {n})' for n in (41, 42, 43)])
+    case('the first faulty event decides', 'refused 10 1', BOOK_A + ['(set 11 0 1)', '(part 0 11 20)', '(insert 0 0)'])
     case('8 before 9, 10 and 11 at one event', 'refused 8 0', BOOK_A + ['(join 0 20 30)'])
     case('9 before 13', 'refused 9 0', objects(128) + ['(insert 128 0)'])
     case('11 before 12', 'refused 11 0', SERVO + ['(general 21 0)'])
@@ -352,7 +373,7 @@ def constraints():
 def blocks():
     """Of each case its line, the lines of its block, and its text."""
     CASES.clear()
-    for make in (marked_cases, guesses, malformed_lines, limits, faulty_schemas, faulty_rules, faulty_registers, faulty_events, events_on_the_way, short_texts, constraints):
+    for make in (marked_cases, guesses, malformed_lines, limits, faulty_schemas, faulty_rules, faulty_registers, faulty_events, linked_objects, events_on_the_way, short_texts, constraints):
         make()
     return CASES
 

@@ -4,8 +4,8 @@
     draw.py BOOKS BATCHES        so many books with their registers, and so many batches for each
     draw.py BOOKS BATCHES far    the same with ids spread over 31 bits, in the same order
 
-Parks are small, so that coincidences happen: the same link parted and joined, an id deleted and inserted again. Most rules are drawn until
-they hold, since a batch check promises most from a good register.
+Parks are small, so that coincidences happen: the same link parted and joined, an id deleted with its links and inserted again. Most rules are
+drawn until they hold, since a batch check promises most from a good register.
 """
 import sys
 
@@ -132,6 +132,14 @@ class Bodies:
             return op, self.truth(env, depth - 1)
         return op, self.truth(env, depth - 1), self.truth(env, depth - 1)
 
+    def made_quiet(self, body, context):
+        """The body, or a forall over a role of self. An insert by itself selects nothing there, so that the losses of an id inserted again show."""
+        own = roles(self.book, context)
+        if not own:
+            return body
+        c = 'role', 0, self.draw.choice(own)
+        return 'or', ('forall', c, self.truth([context, member_type(self.book, c)], 1)), body
+
 
 def forms(f):
     return 1 + sum(forms(part) for part in f if isinstance(part, tuple))
@@ -145,6 +153,8 @@ def add_rules(draw, book, register):
         context = draw.choice([t for t, _ in register.objects.values()] + [draw.randrange(len(book.types))])
         context = draw.choice(sorted(book.above(context)))
         body = bodies.truth([context], draw.randint(1, 5))
+        if draw.random() < 0.1:
+            body = bodies.made_quiet(body, context)
         book.rules.append((context, body))
         rule = len(book.rules) - 1
         holds = not any(plain.broken(book, register, rule, s) for s in register.objects)
@@ -195,6 +205,8 @@ class Batches:
             return False
         if event[0] == 'set':
             self.old_cells.append((event[1], event[2], self.now.objects[event[1]][1][event[2]]))
+        if event[0] == 'delete':
+            self.parted += sorted(plain.links_of(self.now, event[1]))
         plain.apply(self.book, self.now, event)
         self.events.append(event)
         if event[0] == 'delete':
@@ -216,14 +228,19 @@ class Batches:
         return self.do('insert', i, self.draw.randrange(len(self.book.types)))
 
     def delete(self):
-        """Takes an object out, with its links before it."""
-        i = self.one_of(self.now.objects)
-        own = [link for link in sorted(self.now.links) if i in link[1:]]
-        if i is None or len(own) > 3:
+        """Takes an object out, more often one with links than not; seldom some of them are parted before it."""
+        linked = {i for link in self.now.links for i in link[1:]}
+        i = self.one_of(linked if linked and self.draw.random() < 0.6 else self.now.objects)
+        if i is None:
             return False
-        for link in own:
-            self.do('part', *link)
+        self.part_some(i, 0.15)
         return self.do('delete', i)
+
+    def part_some(self, i, chance):
+        """Parts some links of an object, by a chance that is of all of them together."""
+        if self.draw.random() < chance:
+            for link in sorted(plain.links_of(self.now, i))[:self.draw.randint(1, 3)]:
+                self.do('part', *link)
 
     def set(self):
         if self.old_cells and self.draw.random() < 0.3:
@@ -268,33 +285,40 @@ class Batches:
         return False
 
     def again(self):
-        """An object deleted and inserted again, with its links, after a set perhaps."""
-        i = self.one_of(self.now.objects)
-        own = [link for link in sorted(self.now.links) if i in link[1:]]
-        if i is None or len(own) > 2:
+        """An object deleted and inserted again, mostly of its type and joined to some of those that it was linked to, after a set perhaps."""
+        alone = {a for _, a, b in self.now.links if a == b}
+        i = self.one_of(alone if alone and self.draw.random() < 0.3 else self.now.objects)
+        if i is None:
             return False
-        t, cells = self.now.objects[i]
-        if self.book.cells(t):
+        t, own = self.now.type_of(i), sorted(plain.links_of(self.now, i))
+        if self.book.cells(t) and self.draw.random() < 0.3:
             self.do('set', i, self.draw.randrange(self.book.cells(t)), cell_value(self.draw))
-        for link in own:
-            self.do('part', *link)
+        self.part_some(i, 0.2)
         self.do('delete', i)
-        self.do('insert', i, t)
-        return all([self.do('join', *link) for link in own])
+        self.do('insert', i, t if self.draw.random() < 0.85 else self.draw.randrange(len(self.book.types)))
+        for link in own[:3]:
+            if self.draw.random() < 0.6:
+                self.do('join', *link)
+        return True
+
+    def join_and_delete(self):
+        """A link joined, and then one of its ends deleted."""
+        return self.join() and self.do('delete', self.draw.choice(self.events[-1][2:]))
 
     def refused(self):
         """An event that is refused, by a number drawn first, or nothing."""
         wanted = self.draw.choice([7, 8, 9, 10, 11, 12, 13])
+        kinds = {12: ['general'], 13: ['insert', 'join']}.get(wanted, plain.KINDS)  # which alone meet these
         for _ in range(40):
-            event = self.any_event()
+            event = self.any_event(kinds)
             if plain.event_refusal(self.book, self.now, event) == wanted:
                 self.events.append(event)
                 return
         return
 
-    def any_event(self):
+    def any_event(self, kinds=plain.KINDS):
         draw = self.draw
-        kind = draw.choice(plain.KINDS)
+        kind = draw.choice(kinds)
         an_id = lambda: pick(draw, [(12, draw.randint(1, 20)), (1, draw.choice([0, -1, -2**31, 65535]))])
         a_type = pick(draw, [(12, draw.randrange(len(self.book.types))), (1, draw.choice([-1, len(self.book.types), 32]))])
         a_rel = pick(draw, [(12, draw.randrange(len(self.book.relationships))), (1, draw.choice([-1, len(self.book.relationships)]))])
@@ -307,8 +331,8 @@ class Batches:
 
     def batch(self):
         length = pick(self.draw, [(6, self.draw.randint(1, 3)), (4, self.draw.randint(3, 9)), (0.2, 0)])
-        steps = [(3, self.insert), (2, self.delete), (5, self.set), (4, self.join), (4, self.part), (3, self.special), (3, self.general),
-                 (2, self.link_and_back), (2, self.type_and_back), (1, self.again)]
+        steps = [(3, self.insert), (4, self.delete), (5, self.set), (4, self.join), (4, self.part), (3, self.special), (3, self.general),
+                 (2, self.link_and_back), (2, self.type_and_back), (3, self.again), (1, self.join_and_delete)]
         for _ in range(length * 2):
             if len(self.events) < length:
                 pick(self.draw, steps)()

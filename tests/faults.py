@@ -7,7 +7,6 @@
 Ends with an error if some fault is noticed by none.
 """
 import os
-import re
 import sys
 
 import checks
@@ -19,6 +18,33 @@ FAULTS = [
     ('ids end at 65,535', 'MOST_ID = 2**31 - 1', 'MOST_ID = 2**16 - 1'),
     ('a loss counts only if the link is gone at the end',
      'any(such(link) for link in self.parted)', 'any(such(link) and link not in self.end.links for link in self.parted)'),
+    ('a delete leaves the links at which it is the target', 'register.links -= links_of(register, x[0])',
+     'register.links -= {link for link in links_of(register, x[0]) if link[1] == x[0]}'),
+    ('a delete leaves the links at which it is the source', 'register.links -= links_of(register, x[0])',
+     'register.links -= {link for link in links_of(register, x[0]) if link[2] == x[0]}'),
+    ('a delete leaves the link of its object to itself', 'register.links -= links_of(register, x[0])',
+     'register.links -= {link for link in links_of(register, x[0]) if link[1] != link[2]}'),
+    ('a delete takes one of its links', 'register.links -= links_of(register, x[0])', 'register.links -= set(sorted(links_of(register, x[0]))[:1])'),
+    ('a delete takes the links of one relationship', 'register.links -= links_of(register, x[0])',
+     'register.links -= {link for link in links_of(register, x[0]) if link[0] == 0}'),
+    ('a link that a delete takes counts for the deleted id', 'such(link) and env[v] != deleted for', 'such(link) for'),
+    ('a link that a delete takes counts for the deleted id alone', 'such(link) and env[v] != deleted for', 'such(link) and env[v] == deleted for'),
+    ('a link of an object to itself counts where a delete takes it', 'such(link) and env[v] != deleted for',
+     'such(link) and (env[v] != deleted or link[1] == link[2]) for'),
+    ('a link that a delete takes counts for nobody', 'for link in self.parted) or taken', 'for link in self.parted)'),
+    ('a link that a delete takes does not count if it is back', 'such(link) and env[v] != deleted for',
+     'such(link) and env[v] != deleted and link not in self.end.links for'),
+    ('a link that a delete takes does not count if the batch joined it', 'such(link) and env[v] != deleted for',
+     'such(link) and env[v] != deleted and link in self.start.links for'),
+    ('a link that a delete takes counts while the deleted id is absent', 'such(link) and env[v] != deleted for',
+     'such(link) and env[v] != deleted and deleted not in self.end.objects for'),
+    ("delete is not listed at a role's loss", "{(4, role // 2, 0), (1, self.member_type(('role', v, role)), 0)}", '{(4, role // 2, 0)}'),
+    ("delete of the near type is listed at a role's loss", "self.member_type(('role', v, role)), 0)}", "self.member_type(('role', v, role ^ 1)), 0)}"),
+    ("delete of the variable's type is listed at a role's loss", "self.member_type(('role', v, role)), 0)}", 'env[v], 0)}'),
+    ("delete is listed at a role's gain", 'return {(3, role // 2, 0)}, {', "return {(3, role // 2, 0), (1, self.member_type(('role', v, role)), 0)}, {"),
+    ('12 is met by a delete of a linked object', "if kind == 'general' and end == x[0] and not book.under(x[1], asked):",
+     "if kind in ('delete', 'general') and end == x[0] and (kind == 'delete' or not book.under(x[1], asked)):"),
+    ('12 is met by nothing', '    if needed(book, register, event):\n        return 12\n', ''),
     ('a gain counts though the link is gone at the end', 'such(link) and link in self.end.links', 'such(link)'),
     ('a role has the links at its other end too', 'and link[near] == env[v]', 'and env[v] in link[1:]'),
     ('a role is taken the other way round', 'near = 1 if role % 2 == 0 else 2\n        such', 'near = 2 if role % 2 == 0 else 1\n        such'),
@@ -146,21 +172,20 @@ TEXT_FAULTS = [
 ]
 
 
-def reading(source, name='output'):
+def reading(source):
     space = {'__name__': 'reading'}
     exec(compile(source, 'reading', 'exec'), space)
-    return space[name]
+    return space
 
 
-def noticed(good, bad):
-    """How many books and how many batches print something else."""
-    cases, last = set(), None
-    for a, b in zip(good, bad):
-        if not re.match(r'\d+:( \d+,\d+,\d+)*$', a):
-            last = a
-        if a != b:
-            cases.add(last)
-    return len(cases)
+def printed(source, text):
+    """What a reading prints of each case; what it fails at is an outcome of its own."""
+    space = reading(source)
+    for name, book, register, events, own in space['blocks'](text):
+        try:
+            yield [space['show'](name, space['Checked'](book, register, events))] + list(space['show_lists'](book) if own else [])
+        except Exception as failure:
+            yield failure
 
 
 def by_blocks(name):
@@ -170,15 +195,15 @@ def by_blocks(name):
     source = source.replace('        self.sets, self.joined', '        self.start = register\n        self.sets, self.joined', 1)
     source = source.replace('        apply(self.book, self.end, event)', '        self.old = self.end.copy()\n        apply(self.book, self.end, event)', 1)
     text = open(name).read()
-    good = list(reading(source)(text))
+    good = list(printed(source, text))
     for label, old, new in FAULTS:
         assert source.count(old) == 1, f'{label}: {source.count(old)} places'
-        yield label, noticed(good, list(reading(source.replace(old, new))(text)))
+        yield label, sum(a != b for a, b in zip(good, printed(source.replace(old, new), text)))
 
 
 def outcomes(source, texts):
     """What a reading says of each text; what it fails at is an outcome of its own."""
-    outcome = reading(source, 'outcome')
+    outcome = reading(source)['outcome']
     for text in texts:
         try:
             yield outcome(text)

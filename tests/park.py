@@ -97,8 +97,9 @@ BOOK = ['(type 0 - 2)', '(type 1 - 1)', '(type 2 1 2)', '(type 3 - 1)', '(rel 0 
         '(rule 4 3 (exists (role 0 3) (not (kind 1 0))))']
 
 
-def park(draw):
-    """Cabinets 1 to 100, drives and servo drives up to 700, battery boxes up to 1,000; each box with a drive, drives with cabinets; a visit of 200 events."""
+def park(draw, most):
+    """Cabinets 1 to 100, drives and servo drives up to 700, battery boxes up to 1,000; each box with a drive, drives with cabinets; a visit of some 200
+    events. So many large drives at a cabinet are too many: 9 are reached, 20 are not."""
     objects = [f'(ent {i} 0 4000 0)' for i in range(1, 101)]
     objects += [f'(ent {i} 1 {draw.randrange(5, 30)})' if i % 3 else f'(ent {i} 2 {draw.randrange(5, 30)} 3)' for i in range(101, 701)]
     objects += [f'(ent {i} 3 12)' for i in range(701, 1001)]
@@ -107,8 +108,10 @@ def park(draw):
     links = ['(link 0 %d %d)' % link for link in sorted(feeds)] + ['(link 1 %d %d)' % link for link in sorted(boxes)]
     visit = [f'(set {i} 0 {draw.randrange(5, 30)})' for i in draw.sample(range(101, 701), 150)]
     visit += ['(part 0 %d %d)' % link for link in draw.sample(sorted(feeds), 40)] + [f'(insert {i} 3)' for i in range(2001, 2005)]
-    visit += [f'(join 1 {101 + i} {2001 + i})' for i in range(4)] + ['(special 102 2)', '(general 105 1)']
-    return ended(BOOK + objects + links + visit), [f'(set {i} 0 9)' for i in range(101, 130)] + ['(delete 50)']
+    visit += [f'(set {i} 0 12)' for i in range(2001, 2005)] + [f'(join 1 {101 + i} {2001 + i})' for i in range(4)] + ['(special 103 2)', '(general 105 1)']
+    visit += ['(delete 3)', '(delete 700)', '(delete 7)', '(insert 7 0)']  # each of them with its links
+    book = [line.replace('(num 9)', f'(num {most})') for line in BOOK]
+    return ended(book + objects + links + visit), [f'(set {i} 0 9)' for i in range(101, 130)] + ['(delete 50)', '(delete 51)', '(insert 50 0)']
 
 
 TYPES = ['(type 0 - 8)', '(type 1 - 0)', '(rel 0 1 1)']
@@ -172,7 +175,8 @@ def main():
         # a block whose name starts with + is a batch for the same book
         count.case(name, text, lines(next_text if next_name.startswith('+') else text, True))
     for seed in range(3):
-        count.case(f'a thousand objects, {seed}', *park(random.Random(seed)))
+        for most in (9, 20):
+            count.case(f'a thousand objects, {seed}, at most {most}', *park(random.Random(seed), most))
     refusals(count)
     every_pair(count)
     print(f'{len(cases[::every])} cases, {count.visits} next visits, {count.runs} runs of park, {count.wrong} disagreements')

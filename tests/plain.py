@@ -189,11 +189,11 @@ def fits(book, register, event):
 
 
 def needed(book, register, event):
-    """Whether 12 is met: "delete of a linked object, or general out of a type a link needs". Reading 14: at both ends."""
+    """Whether 12 is met: "general out of a type a link needs"; by request 01 it "remains for `general` alone". Reading 14: at both ends."""
     kind, *x = event
     for r, a, b in register.links:
         for end, asked in ((a, book.relationships[r][0]), (b, book.relationships[r][1])):
-            if kind in ('delete', 'general') and end == x[0] and (kind == 'delete' or not book.under(x[1], asked)):
+            if kind == 'general' and end == x[0] and not book.under(x[1], asked):
                 return True
     return False
 
@@ -222,13 +222,20 @@ def event_refusal(book, register, event):
     return 13 if full(register, event) else None
 
 
+def links_of(register, i):
+    """The links that have an object at an end, or at both."""
+    return {link for link in register.links if i in link[1:]}
+
+
 def apply(book, register, event):
-    # "Insert adds the object, delete takes it out, set puts v in cell k, ..; nothing else changes."
+    # "Insert adds the object, delete takes it out, set puts v in cell k, ..; nothing else changes." Request 01: "`delete` removes the
+    # object's links itself."
     kind, *x = event
     if kind == 'insert':
         register.objects[x[0]] = (x[1], (0,) * 8)
     elif kind == 'delete':
         del register.objects[x[0]]
+        register.links -= links_of(register, x[0])
     elif kind == 'set':
         t, cells = register.objects[x[0]]
         register.objects[x[0]] = (t, cells[:x[1]] + (x[2],) + cells[x[1] + 1:])
@@ -291,6 +298,7 @@ class Batch(Reach):
     def __init__(self, book, register, events):
         self.book, self.end, self.refused = book, register.copy(), None
         self.sets, self.joined, self.parted = set(), set(), set()
+        self.taken = set()  # (a link that a delete took along, the object deleted)
         self.changes = []  # (kind, id, the types it brought the object into, the types it took it out of)
         for place, event in enumerate(events):
             number = event_refusal(book, self.end, event)
@@ -302,6 +310,8 @@ class Batch(Reach):
     def note(self, event):
         kind, *x = event
         before = self.end.type_of(x[0]) if kind not in ('join', 'part') else None
+        if kind == 'delete':
+            self.taken |= {(link, x[0]) for link in links_of(self.end, x[0])}
         apply(self.book, self.end, event)
         if kind in ('join', 'part'):
             (self.joined if kind == 'join' else self.parted).add(tuple(x))
@@ -324,11 +334,13 @@ class Batch(Reach):
     either = staticmethod(any)
 
     def role(self, v, role, env):
-        # "gain if a join named such a link and it is there at the end .. loss if a part named one, back again or not"
+        # "gain if a join named such a link and it is there at the end .. loss if a part named one, back again or not". Request 01, of what a
+        # delete takes: "Each counts as parted for the object at the other end, not for the deleted id, even if that id is inserted again."
         near = 1 if role % 2 == 0 else 2
         such = lambda link: link[0] == role // 2 and link[near] == env[v]
         gain = any(such(link) and link in self.end.links for link in self.joined)
-        return gain, any(such(link) for link in self.parted)
+        taken = any(such(link) and env[v] != deleted for link, deleted in self.taken)
+        return gain, any(such(link) for link in self.parted) or taken
 
     def all(self, t, env):
         # "gain if an insert or special brought in an object that is under t at the end; loss if a delete or general took one out"
@@ -368,7 +380,7 @@ class Batch(Reach):
         return [(r, s) for r in range(len(self.book.rules)) for s in sorted(self.end.objects) if self.selected(r, s)]
 
     def occurring(self):
-        """The event types that occur: what each event of the batch counts for."""
+        """The event types that occur: what each event of the batch counts for; a delete for its types alone, whatever it takes along."""
         changes = {(KINDS.index(k), t, 0) for k, _, entered, left in self.changes for t in entered | left}
         sets = {(2, t, k) for i, k in self.sets for t in self.book.above(self.end.type_of(i))}  # Reading 22
         return changes | sets | {(3, link[0], 0) for link in self.joined} | {(4, link[0], 0) for link in self.parted}
@@ -429,7 +441,8 @@ class EventList(Reach):
     either = staticmethod(lambda types: set().union(*types))
 
     def role(self, v, role, env):
-        return {(3, role // 2, 0)}, {(4, role // 2, 0)}  # "role gain lists join, loss part"
+        # "role gain lists join, loss part"; by request 01 "delete of the type at the role's far end is listed too" with the loss
+        return {(3, role // 2, 0)}, {(4, role // 2, 0), (1, self.member_type(('role', v, role)), 0)}
 
     def all(self, t, env):
         # "gain lists insert t and special t, loss delete t and general t"

@@ -10,6 +10,8 @@ import sys
 
 BOOK = ['(type 0 - 1)', '(type 1 - 1)', '(rel 0 0 1)', '(rule 0 0 (le (sum (role 0 0) 0) (cell 0 0)))']
 REGISTER = ['(ent 10 0 30)', '(ent 11 0 30)', '(ent 20 1 25)', '(link 0 10 20)']
+# Drives and, below them, servo drives, and a rule that nothing in the batch moves; the link needs a servo drive.
+SUB = ['(type 0 - 1)', '(type 1 - 1)', '(type 2 1 1)', '(rel 0 0 2)', '(rule 0 1 (le (cell 0 0) (num 99)))', '(ent 11 0 30)', '(ent 20 2 25)', '(link 0 11 20)']
 LONG = ['(type 0 - 1)'] + [f'(ent {n} 0 -2147483648)' for n in range(10001, 10129)] + ['(set 10001 0 0)'] * 64
 RULES = BOOK[:3] + [f'(rule {n} 0 (not (kind 0 1)))' for n in range(9)]
 
@@ -52,7 +54,8 @@ CASES = [
     ('a join of a link that is there', 'refused 9 0', BOOK + REGISTER + ['(join 0 10 20)']),
     ('a part of a link that is absent', 'refused 10 0', BOOK + REGISTER + ['(part 0 11 20)']),
     ('a set of a cell that the type lacks', 'refused 11 0', BOOK + REGISTER + ['(set 20 1 1)']),
-    ('a delete of a linked object', 'refused 12 0', BOOK + REGISTER + ['(delete 20)']),
+    ('a general out of a type that a link needs', 'refused 12 0', SUB + ['(general 20 1)']),
+    ('the same once the link went with a delete', 'accepted', SUB + ['(delete 11)', '(general 20 1)']),
     ('an insert into 128 objects', 'refused 13 0', objects(128) + ['(insert 129 0)']),
     ('an insert into a row that was freed', 'accepted', objects(128) + ['(delete 1)', '(insert 129 0)']),
     ('a join to 512 links', 'refused 13 0', links(512) + ['(join 0 10 70)']),

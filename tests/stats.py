@@ -56,6 +56,19 @@ def count_book(count, book):
         count['depth %d' % depth(body)] += 1
 
 
+def count_taken(count, batch, events):
+    """Batches whose deletes take links along."""
+    taken, gone = {link for link, _ in batch.taken}, {i for _, i in batch.taken}
+    own = {i for (_, a, b), i in batch.taken if a == b}
+    inserts, joins = {e[1] for e in events if e[0] == 'insert'}, {e[1:] for e in events if e[0] == 'join'}
+    count['batch: a linked object deleted'] += bool(taken)
+    count['batch: a linked object deleted and inserted'] += bool(gone & inserts)
+    count['batch: a link taken and joined'] += bool(taken & joins)
+    count['batch: a link of an object to itself taken'] += bool(own)
+    count['batch: a link of an object to itself taken, and the object inserted'] += bool(own & inserts)
+    count['batch: three or more links taken by one delete'] += any(sum(i == j for _, j in batch.taken) > 2 for i in gone)
+
+
 def count_undone(count, events):
     """Batches that name the same thing twice."""
     joins, parts = ({e[1:] for e in events if e[0] == kind} for kind in ('join', 'part'))
@@ -75,6 +88,7 @@ def count_case(count, book, register, events, checked):
     count.update('event ' + event[0] for event in events)
     count['batch: empty'] += not events
     count_undone(count, events)
+    count_taken(count, checked.batch, events)
     held = plain.full_check(book, register) is None
     count['all held before, ' + kind] += held
     count['some rule broken before, ' + kind] += not held

@@ -25,7 +25,7 @@ use Rattle.checks.specs.Given.{Given, EventsLent}
 use Rattle.checks.proofs.Given.{given-all, typed, cells}
 use Rattle.events.specs.Runs.{lentBy, RunLeft}
 use Rattle.lent_run.specs.Lent.{scratchShort}
-use Rattle.trace.proofs.Runs.{seen, met-low}
+use Rattle.trace.proofs.Runs.{seen, met-low, lost-by}
 use Rattle.batch_selection.specs.Ended.{Ended}
 use Rattle.batch.proofs.Outcomes.{Unrefused, batch-same}
 
@@ -42,8 +42,8 @@ countsWith n objects links =
 abbrev pub sheetWith : Sheet → List ℕ → List ℕ → List ℕ → Sheet
 sheetWith s objects links events = sheetOf (s .types) (s .relationships) (s .rules) (s .bodies) objects links events
 
-module _ (n : Counts) (s : Sheet) (scratchObjects scratchLinks : List ℕ) (words : ℕ) (u : Unrefused n s scratchObjects scratchLinks words) {m l : ℕ} {objects links met : List ℕ}
-    (left : RunLeft ((bookOf n s) .schema) (lentBy (s .objects) (s .links) 0) (registerIn n s) (batchIn n s) m objects l links met) where
+module _ (n : Counts) (s : Sheet) (scratchObjects scratchLinks : List ℕ) (words : ℕ) (u : Unrefused n s scratchObjects scratchLinks words) {m l : ℕ} {objects links met losses : List ℕ} {lost : ℕ}
+    (left : RunLeft ((bookOf n s) .schema) (lentBy (s .objects) (s .links) 0) (registerIn n s) (batchIn n s) m objects l links met lost losses) where
   abbrev k : Book
   k = bookOf n s
 
@@ -95,12 +95,15 @@ module _ (n : Counts) (s : Sheet) (scratchObjects scratchLinks : List ℕ) (word
   fits : RegisterFits (k .schema) g
   fits = checked k g (u .contents) .register
 
-  pub ended : Ended c (countsWith n m l) (sheetWith s objects links (s .events)) met
+  pub ended : Ended c (countsWith n m l) (sheetWith s objects links (s .events)) met lost losses
   ended =
       record {
-        seen = seen (countsWith n m l) (s .types) objects links (s .events) met left fits taken few-types refl refl (known .1 .few-events);
+        seen = seen (countsWith n m l) (s .types) objects links (s .events) met lost losses left fits taken few-types refl refl (known .1 .few-events);
         schema-is = refl;
-        met-low = met-low (countsWith n m l) (s .types) objects links (s .events) met left fits taken few-types refl refl (known .1 .few-events);
+        met-low = met-low (countsWith n m l) (s .types) objects links (s .events) met lost losses left fits taken few-types refl refl (known .1 .few-events);
+        losses-few = left .losses-few;
+        losses-low = left .losses-low;
+        lost = lost-by (countsWith n m l) (s .types) objects links (s .events) met lost losses left fits taken few-types refl refl (known .1 .few-events);
         untouched = λ i h e id.
             let r = ruleRow (s .rules) (s .bodies) i in
             off (selected c r id)

@@ -134,6 +134,8 @@ pub fn check(
                 &*scratch_links,
                 events,
                 &met,
+                held.losses,
+                &ran.losses,
                 &mut *list,
             );
             settle(

@@ -21,7 +21,7 @@ use Rattle.batch_selection.specs.Ended.{Ended}
 use Rattle.batch_judge.specs.declared.Judged.{Judged}
 use Rattle.batch_judge.specs.Judged.{endOutcome, Judges}
 
-module _ {c : Change} {n : Counts} {s : Sheet} {met : List ℕ} (e : Ended c n s met) (lent : Lent) (g : Register) (list : List ℕ) (words : lent .words ≡ length list)
+module _ {c : Change} {n : Counts} {s : Sheet} {met losses : List ℕ} {lost : ℕ} (e : Ended c n s met lost losses) (lent : Lent) (g : Register) (list : List ℕ) (words : lent .words ≡ length list)
     {chosen : List ℕ} {count : ℕ} (held : Chosen n chosen count) (pairs-are : pairsOf (s .objects) chosen count ≡ selectedPairs (bookOf n s) c) where
   number : length (selectedPairs (bookOf n s) c) ≡ count
   number = sym (ap length pairs-are) ∙ length-map (take count chosen) (pairAt (s .objects)) ∙ length-take-le count chosen (omega (arith, held .few, held .long))

@@ -31,12 +31,14 @@ pub fn judge(
     links: &[u32],
     events: &[u32],
     met: &[u32; 256],
+    loss_count: u32,
+    losses: &[u32; 8704],
     list: &mut [u32],
 ) -> Judged
     requires { ⌜ (Given n (sheetOf (now types) (now relationships) (now rules) (now bodies) (now objects) (now links) []))
-        × ((c : Change) × Ended c n (sheetOf (now types) (now relationships) (now rules) (now bodies) (now objects) (now links) (now events)) (now met)) ⌝ }
+        × ((c : Change) × Ended c n (sheetOf (now types) (now relationships) (now rules) (now bodies) (now objects) (now links) (now events)) (now met) «loss_count» (now losses)) ⌝ }
     ensures { λ r. ⌜ (let s = sheetOf (now (types .entry)) (now (relationships .entry)) (now (rules .entry)) (now (bodies .entry)) (now (objects .entry)) (now (links .entry)) (now (events .entry)) in
-        (c : Change) → Ended c n s (now (met .entry)) → (lent : Lent) → lent .words ≡ length (now (list .entry)) → (g : Register)
+        (c : Change) → Ended c n s (now (met .entry)) «loss_count» (now (losses .entry)) → (lent : Lent) → lent .words ≡ length (now (list .entry)) → (g : Register)
         → Judges (endOutcome (bookOf n s) lent g c) (now (list .entry)) r (now (list .exit))) ⌝ }
 {
     let mut index = [0u16; 81920];
@@ -53,6 +55,8 @@ pub fn judge(
         &index,
         events,
         met,
+        loss_count,
+        losses,
         &mut chosen,
     );
     if list.len() < (count as usize) * 2 {

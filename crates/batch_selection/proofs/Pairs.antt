@@ -83,7 +83,7 @@ held c n rules bodies objects chosen may {count} few few-rules long low is =
     }
 
 -- the pairs of the codes of the touched rules
-pub pairs-are : {c : Change} {n : Counts} {s : Sheet} {met : List ℕ} (e : Ended c n s met) → ObjectsAscend (n .objects) (s .objects) → n .objects ≤ maxObjects → (count : ℕ) (chosen : List ℕ)
+pub pairs-are : {c : Change} {n : Counts} {s : Sheet} {met losses : List ℕ} {lost : ℕ} (e : Ended c n s met lost losses) → ObjectsAscend (n .objects) (s .objects) → n .objects ≤ maxObjects → (count : ℕ) (chosen : List ℕ)
     → take count chosen ≡ flatMap (ruleCodes c (s .rules) (s .bodies) (s .objects) (n .objects)) (keep (λ i. touched c (ruleRow (s .rules) (s .bodies) i)) (readRows (λ x. x) (n .rules)))
     → pairsOf (s .objects) chosen count ≡ selectedPairs (bookOf n s) c
 pairs-are {c} {n} {s} e ascend few count chosen is =

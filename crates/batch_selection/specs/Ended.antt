@@ -5,16 +5,20 @@ use mathlib.Core.Bool.{false}
 use mathlib.Core.List.{List}
 use lib.ListN.{getD}
 use Rattle.meaning.specs.Limits.{maxTypes}
-use Rattle.meaning.specs.Reach.{Change, selected}
+use Rattle.meaning.specs.Reach.{Change, someStep, taken, selected}
 use Rattle.meaning.specs.EventList.{touched}
+use Rattle.tables.specs.Losses.{lostIn, LossesLow}
 use Rattle.tables.specs.Layouts.{Sheet}
 use Rattle.tables.specs.Columns.{ruleRow, bookOf}
 use Rattle.tables.specs.declared.Counts.{Counts}
 use Rattle.trace_places.specs.Traces.{Seen}
 
--- the tables are those of the batch's end, with the type that each event met; "a rule none of whose listed event types occurs has no pair"
-pub record Ended (c : Change) (n : Counts) (s : Sheet) (met : List ℕ) : Type 0 where
+-- the tables are those of the batch's end, with the type that each event met and the losses that its deletes wrote; "a rule none of whose listed event types occurs has no pair"
+pub record Ended (c : Change) (n : Counts) (s : Sheet) (met : List ℕ) (count : ℕ) (losses : List ℕ) : Type 0 where
   pub seen : Seen c n (s .types) (s .objects) (s .links) (s .events) (λ i. getD met i 0)
   pub schema-is : c .schema ≡ (bookOf n s) .schema
   pub met-low : (i : ℕ) → i < n .events → getD met i 0 ≤ maxTypes
+  pub losses-few : count ≤ 4352
+  pub losses-low : LossesLow losses count
+  pub lost : (r u : ℕ) → lostIn losses count r u ≡ someStep c (taken r u)
   pub untouched : (i : ℕ) → i < n .rules → touched c (ruleRow (s .rules) (s .bodies) i) ≡ false → (id : ℕ) → selected c (ruleRow (s .rules) (s .bodies) i) id ≡ false

@@ -57,18 +57,30 @@ pub fn selected_pairs(
     index: &[u16; 81920],
     events: &[u32],
     met: &[u32; 256],
+    loss_count: u32,
+    losses: &[u32; 8704],
     chosen: &mut [u16],
 ) -> u32
     requires { ⌜ (Clear n (sheetOf (now types) (now relationships) (now rules) (now bodies) (now objects) (now links) []) (now index))
-        × ((c : Change) × Ended c n (sheetOf (now types) (now relationships) (now rules) (now bodies) (now objects) (now links) (now events)) (now met))
+        × ((c : Change) × Ended c n (sheetOf (now types) (now relationships) (now rules) (now bodies) (now objects) (now links) (now events)) (now met) «loss_count» (now losses))
         × (length (now chosen) ≡ 32768) ⌝ }
     ensures { λ r. ⌜ (let s = sheetOf (now (types .entry)) (now (relationships .entry)) (now (rules .entry)) (now (bodies .entry)) (now (objects .entry)) (now (links .entry)) (now (events .entry)) in
         (length (now (chosen .exit)) ≡ length (now (chosen .entry)))
         × (Chosen n (now (chosen .exit)) r)
-        × ((c : Change) → Ended c n s (now (met .entry)) → pairsOf (now (objects .entry)) (now (chosen .exit)) r ≡ selectedPairs (bookOf n s) c)) ⌝ }
+        × ((c : Change) → Ended c n s (now (met .entry)) «loss_count» (now (losses .entry)) → pairsOf (now (objects .entry)) (now (chosen .exit)) r ≡ selectedPairs (bookOf n s) c)) ⌝ }
 {
-    let mut trace = [0u16; 2593];
-    make(n, types, objects, links, events, met, &mut trace);
+    let mut trace = [0u16; 16675];
+    make(
+        n,
+        types,
+        objects,
+        links,
+        events,
+        met,
+        loss_count,
+        losses,
+        &mut trace,
+    );
     let rules_touched = touched_rules(n, types, relationships, rules, bodies, objects, events, met);
     select(
         n,

@@ -28,7 +28,7 @@ fn put_brought(
     objects: &[u32],
     links: &[u32],
     events: &[u32],
-    trace: &[u16; 2593],
+    trace: &[u16; 16675],
     context: u32,
     sets: &mut [bool],
 )
@@ -78,7 +78,7 @@ fn put_candidates(
     bodies: &[u32],
     spans: &[u32; 65],
     events: &[u32],
-    trace: &[u16; 2593],
+    trace: &[u16; 16675],
     rule: u32,
     sets: &mut [bool],
 ) -> bool
@@ -139,7 +139,7 @@ pub fn candidates(
     bodies: &[u32],
     spans: &[u32; 65],
     events: &[u32],
-    trace: &[u16; 2593],
+    trace: &[u16; 16675],
     rule: u32,
     sets: &mut [bool],
 ) -> [bool; 1024]

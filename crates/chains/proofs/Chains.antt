@@ -1,6 +1,6 @@
 -- The law of chains: what a word of a chain leads to, and one place more at the head of its chain.
 use Prim.Native.Nat.{ℕ, zero, suc, _+_, _-_, _≤_, _<_}
-use mathlib.Core.Path.{_≡_, refl, sym, ap, subst, _∙_}
+use mathlib.Core.Path.{_≡_, refl, sym, ap, ap₂, subst, _∙_}
 use mathlib.Core.Logic.{⊎-elim}
 use mathlib.Core.Bool.{Bool, true, false, cond}
 use native.Mathlib.Nat.{eq-or-lt-of-le}
@@ -60,6 +60,25 @@ module _ (key : ℕ → ℕ) (k : ℕ) where
     lead-step : (i : ℕ) → i < n → lead key n k i ≡ cond (eqb (key i) k) (suc i) (lead key n k (suc i))
     unfolding lead
     lead-step i h = let e : n - i ≡ suc (n - suc i) = omega arith in ap (leadFrom key k i) e
+
+-- keys that are the same below n make the same chains
+module _ (key key' : ℕ → ℕ) where
+  from-same : (k i m : ℕ) → ((j : ℕ) → i ≤ j → j < i + m → key j ≡ key' j) → leadFrom key k i m ≡ leadFrom key' k i m
+  from-same k i zero same = refl
+  from-same k i (suc m) same =
+      ap₂ (λ x l. cond (eqb x k) (suc i) l) (same i (omega arith) (omega arith)) (from-same k (suc i) m (λ j h l. same j (omega arith) (omega arith)))
+
+  module _ (n : ℕ) (same : (j : ℕ) → j < n → key j ≡ key' j) where
+    lead-same : (k i : ℕ) → lead key n k i ≡ lead key' n k i
+    unfolding lead
+    lead-same k i = from-same k i (n - i) (λ j h l. same j (omega arith))
+
+    pub chained-same : (at : ℕ → ℕ) {next heads : ℕ → ℕ} {i : ℕ} → Chained at key n next heads i → Chained at key' n next heads i
+    chained-same at c =
+        record {
+          next-is = λ p h l. c .next-is p h l ∙ ap (slotWord at) (ap (λ k. lead key n k (suc p)) (same p l) ∙ lead-same (key' p) (suc p));
+          head-is = λ k. c .head-is k ∙ ap (slotWord at) (lead-same k _);
+        }
 
 module _ (at key : ℕ → ℕ) (n : ℕ) where
   -- no place yet

@@ -1,35 +1,37 @@
 -- The table of objects or of links after the row of an event is put in, taken out or changed: it is what `apply` says.
-use Prim.Native.Nat.{ℕ, zero, suc, _+_, _*_, _-_, _≤_, _<_}
+use Prim.Native.Nat.{ℕ, suc, _+_, _*_, _-_, _≤_, _<_}
 use mathlib.Core.Path.{_≡_, refl, sym, ap, subst, _∙_}
 use mathlib.Core.Logic.{⊎-elim}
-use mathlib.Core.Bool.{Bool, not, cond}
+use mathlib.Core.Bool.{Bool, false, not, cond}
 use mathlib.Core.List.{List, [], _∷_, _++_, map}
-use mathlib.Core.Option.{Option, none, some, Option·none-ne-some}
+use mathlib.Core.Option.{some}
 use native.Mathlib.Nat.{le-trans, zero-add}
 use native.Mathlib.Omega.{arith}
 use lib.Dec.{T, ltb, eqb}
 use lib.IntN.{ℤ, pos}
 use lib.ListN.{length, getD, take, replicate, set as replaceAt}
 use lib.Seq.{getD-set-other}
-use mir.Facts.{eqb-yes, yes-eqb, eqb-no, ltb-yes, ltb-no, T-not}
+use mir.Facts.{eqb-yes, yes-eqb, ltb-yes, ltb-no, T-not}
 use Rattle.meaning.specs.Lists.{sameList}
 use Rattle.meaning.specs.Limits.{cellCount}
-use Rattle.meaning.specs.Schema.{Schema, ObjectType, Relationship, cellsOf}
-use Rattle.meaning.specs.Register.{Object, Link, objectKey, linkKey, sameLink}
+use Rattle.meaning.specs.Schema.{Schema, cellsOf}
+use Rattle.meaning.specs.Register.{Object, Link, Register, objectKey, linkKey, sameLink}
 use Rattle.meaning.specs.Events.{Event, amended, insert, delete, set, join, part, special, general, linkOf, newObject, withCell, withType, withHigherType, apply}
-use Rattle.meaning.proofs.Lists.{decide}
-use Rattle.meaning.proofs.Order.{same-list-eq, same-list-refl}
-use Rattle.rows.specs.Rows.{wordAt, rowsFrom, readRows, signed, zeroPast, withWord, withoutColumns, withoutRow}
+use Rattle.meaning.specs.Reach.{stepAt, taken}
+use Rattle.meaning.proofs.Lists.{decide, length-keep}
+use Rattle.meaning.proofs.Order.{same-list-eq, same-list-refl, length-put}
+use Rattle.rows.specs.Rows.{wordAt, readRows, signed, zeroPast, withWord, withoutColumns, withoutRow}
 use Rattle.keys.specs.Keys.{keyAt, LowerBound}
-use Rattle.rows.proofs.Offsets.{row-before}
 use Rattle.rows.proofs.Zeros.{zero-past, past-zero}
 use Rattle.rows.proofs.Moves.{inserted, inserted-length, inserted-past, without-length, without-last, without-past, word-length, word-own, word-other, word-past, cleared-length, cleared-front, cleared-past, cleared-column, cleared-row}
 use Rattle.rows.proofs.Listed.{rows-same, rows-set, rows-cleared}
 use Rattle.tables.specs.Columns.{objectRow, linkRow}
-use Rattle.register.specs.Tables.{objectsWith, linksWith, ObjectsAscend, LinksAscend, objectPlace, linkPlace}
+use Rattle.schema.proofs.Rows.{length-rows}
+use Rattle.register.specs.Tables.{objectsWith, linksWith, objectPlace, linkPlace}
 use Rattle.register.proofs.Hits.{hit-some}
 use Rattle.register.proofs.Changes.{ByWords, row-put-in, row-taken-out, row-changed, missed-all}
-use Rattle.event_effects.specs.Effects.{Applied, ObjectsApplied, LinksApplied, CanInsert, CanChange, CanJoin, CanPart}
+use Rattle.event_effects.specs.Effects.{Applied, ObjectsApplied, LinksApplied, LossesKept, CanInsert, CanChange, CanJoin, CanPart}
+use Rattle.event_effects.proofs.Losses.{none-added}
 
 -- ---- rows by their words
 
@@ -91,14 +93,9 @@ module _ (S : Schema) (n : ℕ) (objects : List ℕ) (id : ℕ) where
   object-put-in t r can b =
       record {
         effect =
-            λ ls z.
-            record {
-              objects =
-                  row-put-in 10 objectRow object-by-words objects n r objectKey (λ x y. refl) (newWords id t) refl (can .room) (newObject id t) refl b
-                  (λ i h e. T-not (hasId id (objectRow objects i)) (yes-eqb (ap (λ k. getD k 0 0) e)) (missed-all (hasId id) (objectRow objects) n (can .absent) i h))
-                  z;
-              links = ls;
-            };
+            λ ls.
+            row-put-in 10 objectRow object-by-words objects n r objectKey (λ x y. refl) (newWords id t) refl (can .room) (newObject id t) refl b
+            (λ i h e. T-not (hasId id (objectRow objects i)) (yes-eqb (ap (λ k. getD k 0 0) e)) (missed-all (hasId id) (objectRow objects) n (can .absent) i h));
         lengths = inserted-length objects 10 r n (newWords id t) (b .within) (can .room) refl;
         zeros = λ z. grown-zeros objects 10 n z r (newWords id t) (b .within) (can .room) refl (omega arith);
       }
@@ -116,13 +113,8 @@ module _ (S : Schema) (n : ℕ) (objects : List ℕ) (id : ℕ) where
     object-taken-out left s =
         record {
           effect =
-              λ ls z.
-              record {
-                objects =
-                    row-taken-out 10 objectRow object-by-words objects n r objectKey (can .ascend) (hasId id) (id ∷ []) (has-key id) (found .0) (found .1) (can .lent) left s
-                    z;
-                links = ls;
-              };
+              λ ls.
+              row-taken-out 10 objectRow object-by-words objects n r objectKey (can .ascend) (hasId id) (id ∷ []) (has-key id) (found .0) (found .1) (can .lent) left s;
           lengths = without-length objects 10 r n (found .0) (can .lent);
           zeros = λ z. shrunk-zeros objects 10 n z r left (found .0) (can .lent) (omega arith);
         }
@@ -135,10 +127,10 @@ module _ (S : Schema) (n : ℕ) (objects : List ℕ) (id : ℕ) where
       past : (k : ℕ) → r * 10 + 10 ≤ k → getD u k 0 ≡ getD objects k 0
 
     amends : (event : Event) (u : List ℕ) (change : Object → Object) → Amends u change
-        → ((ls : List Link) → amended id change (objectsWith n objects ls) ≡ apply S event (objectsWith n objects ls)) → ObjectsApplied S event n objects n u
+        → ((ls : List Link) → (amended id change (objectsWith n objects ls)) .objects ≡ (apply S event (objectsWith n objects ls)) .objects) → ObjectsApplied S event n objects n u
     amends event u change a what =
         record {
-          effect = λ ls. (λ z. record { objects = rows z; links = ls }) ∙ what ls;
+          effect = λ ls. rows ∙ what ls;
           lengths = a .same-length;
           zeros = λ z. let h = found .0 in past-zero u 10 n (λ k l. a .past k (omega arith) ∙ zero-past objects 10 n k z l);
         }
@@ -265,14 +257,9 @@ module _ (S : Schema) (n : ℕ) (links : List ℕ) (x y z : ℕ) where
   link-put-in r can b =
       record {
         effect =
-            λ os p.
-            record {
-              objects = os;
-              links =
-                  row-put-in 3 linkRow link-by-words links n r linkKey (λ u v. refl) (x ∷ y ∷ z ∷ []) refl (can .room) l refl b
-                  (λ i h e. T-not (sameLink l (linkRow links i)) (subst (λ k. T (sameList (linkKey l) k)) (sym e) (same-list-refl (linkKey l))) (missed-all (sameLink l) (linkRow links) n (can .absent) i h))
-                  p;
-            };
+            λ os.
+            row-put-in 3 linkRow link-by-words links n r linkKey (λ u v. refl) (x ∷ y ∷ z ∷ []) refl (can .room) l refl b
+            (λ i h e. T-not (sameLink l (linkRow links i)) (subst (λ k. T (sameList (linkKey l) k)) (sym e) (same-list-refl (linkKey l))) (missed-all (sameLink l) (linkRow links) n (can .absent) i h));
         lengths = inserted-length links 3 r n (x ∷ y ∷ z ∷ []) (b .within) (can .room) refl;
         zeros = λ p. grown-zeros links 3 n p r (x ∷ y ∷ z ∷ []) (b .within) (can .room) refl (omega arith);
       }
@@ -286,13 +273,8 @@ module _ (S : Schema) (n : ℕ) (links : List ℕ) (x y z : ℕ) where
     link-taken-out left s =
         record {
           effect =
-              λ os p.
-              record {
-                objects = os;
-                links =
-                    row-taken-out 3 linkRow link-by-words links n r linkKey (can .ascend) (sameLink l) (linkKey l) is-key (there .0) (there .1) (can .lent) left s
-                    p;
-              };
+              λ os.
+              row-taken-out 3 linkRow link-by-words links n r linkKey (can .ascend) (sameLink l) (linkKey l) is-key (there .0) (there .1) (can .lent) left s;
           lengths = without-length links 3 r n (there .0) (can .lent);
           zeros = λ p. shrunk-zeros links 3 n p r left (there .0) (can .lent) (omega arith);
         }
@@ -300,27 +282,50 @@ module _ (S : Schema) (n : ℕ) (links : List ℕ) (x y z : ℕ) where
 -- ---- both tables
 
 module _ (S : Schema) (e : Event) (n : ℕ) (objects : List ℕ) (m : ℕ) (links : List ℕ) where
-  pub objects-applied : {k : ℕ} {now : List ℕ} → ObjectsApplied S e n objects k now → Applied S e n objects m links k now m links
-  objects-applied a =
+  pub both-applied : {n′ : ℕ} {objects′ : List ℕ} {m′ : ℕ} {links′ : List ℕ} → ObjectsApplied S e n objects n′ objects′ → LinksApplied S e m links m′ links′
+      → Applied S e n objects m links n′ objects′ m′ links′
+  both-applied a b =
       record {
-        effect = a .effect (readRows (linkRow links) m);
+        effect = λ i. record { objects = a .effect (readRows (linkRow links) m) i; links = b .effect (readRows (objectRow objects) n) i };
         objects-length = a .lengths;
-        links-length = refl;
+        links-length = b .lengths;
         objects-zero = a .zeros;
-        links-zero = λ z. z;
+        links-zero = b .zeros;
       }
 
-  pub links-applied : {k : ℕ} {now : List ℕ} → LinksApplied S e m links k now → Applied S e n objects m links n objects k now
-  links-applied a =
-      record {
-        effect = a .effect (readRows (objectRow objects) n);
-        objects-length = refl;
-        links-length = a .lengths;
-        objects-zero = λ z. z;
-        links-zero = a .zeros;
-      }
+  -- an event that leaves the links, and one that leaves the objects
+  pub objects-applied : ((g : Register) → (apply S e g) .links ≡ g .links) → {k : ℕ} {now : List ℕ} → ObjectsApplied S e n objects k now
+      → Applied S e n objects m links k now m links
+  objects-applied stay a = both-applied a (record { effect = λ os. sym (stay (linksWith os m links)); lengths = refl; zeros = λ z. z })
+
+  pub links-applied : ((g : Register) → (apply S e g) .objects ≡ g .objects) → {k : ℕ} {now : List ℕ} → LinksApplied S e m links k now
+      → Applied S e n objects m links n objects k now
+  links-applied stay b = both-applied (record { effect = λ ls. sym (stay (objectsWith n objects ls)); lengths = refl; zeros = λ z. z }) b
+
+-- ---- the losses of an event that is no delete
+
+module _ {S : Schema} {e : Event} {m : ℕ} {links : List ℕ} {m′ : ℕ} {links′ : List ℕ} (done : LinksApplied S e m links m′ links′) where
+  -- there are as many links as the event leaves
+  links-after : m′ ≡ length ((apply S e (linksWith [] m links)) .links)
+  links-after = sym (length-rows (linkRow links′) m′) ∙ ap length (done .effect [])
+
+pub joined-few : {S : Schema} {x y z m : ℕ} {links : List ℕ} {m′ : ℕ} {links′ : List ℕ} → LinksApplied S (join x y z) m links m′ links′ → m′ ≤ m + 1
+unfolding apply
+joined-few {x = x} {y = y} {z = z} {m = m} {links = links} done =
+    omega (arith, links-after done, length-put linkKey (linkOf x y z) (readRows (linkRow links) m), length-rows (linkRow links) m)
+
+pub parted-few : {S : Schema} {x y z m : ℕ} {links : List ℕ} {m′ : ℕ} {links′ : List ℕ} → LinksApplied S (part x y z) m links m′ links′ → m′ ≤ m + 1
+unfolding apply
+parted-few {x = x} {y = y} {z = z} {m = m} {links = links} done =
+    omega (arith, links-after done, length-keep (λ l. not (sameLink (linkOf x y z) l)) (readRows (linkRow links) m), length-rows (linkRow links) m)
+
+pub losses-stay : (g : Register) (e : Event) {m k : ℕ} {losses : List ℕ} {m′ : ℕ} → ((r u : ℕ) → taken r u (stepAt g e) ≡ false) → m′ ≤ m + 1 → LossesKept g e m k losses m′ k losses
+losses-stay g e nothing few = record { added = none-added nothing; grown = omega arith }
 
 -- the same of an event that is another's name
 pub as-applied : {S : Schema} {n : ℕ} {objects : List ℕ} {m : ℕ} {links : List ℕ} {n′ : ℕ} {objects′ : List ℕ} {m′ : ℕ} {links′ : List ℕ} {e d : Event}
     → d ≡ e → Applied S e n objects m links n′ objects′ m′ links′ → Applied S d n objects m links n′ objects′ m′ links′
 as-applied {S} {n} {objects} {m} {links} {n′} {objects′} {m′} {links′} q a = subst (λ e. Applied S e n objects m links n′ objects′ m′ links′) (sym q) a
+
+pub as-kept : {g : Register} {m k : ℕ} {losses : List ℕ} {m′ k′ : ℕ} {losses′ : List ℕ} {e d : Event} → d ≡ e → LossesKept g e m k losses m′ k′ losses′ → LossesKept g d m k losses m′ k′ losses′
+as-kept {g} {m} {k} {losses} {m′} {k′} {losses′} q a = subst (λ e. LossesKept g e m k losses m′ k′ losses′) (sym q) a

@@ -1,29 +1,68 @@
 -- Document 01, "Events": an event's effect on the table of objects or of links, and what no refusal gives an event.
 use Prim.Native.Nat.{ℕ, _+_, _*_, _≤_, _<_}
 use mathlib.Core.Path.{_≡_}
+use mathlib.Core.Bool.{Bool, _||_}
 use mathlib.Core.List.{List}
 use mathlib.Core.Option.{none}
 use lib.Dec.{T}
 use lib.ListN.{length}
-use Rattle.meaning.specs.Limits.{maxObjects, maxLinks, cellCount}
+use Rattle.meaning.specs.Limits.{maxRelationships, maxObjects, maxLinks, maxEvents, cellCount}
 use Rattle.meaning.specs.Schema.{ObjectType, Schema, cellsOf}
-use Rattle.meaning.specs.Register.{Object, Link}
-use Rattle.meaning.specs.Events.{Event, insert, delete, set, join, part, special, general, linkOf, apply}
-use Rattle.rows.specs.Rows.{zeroPast}
-use Rattle.tables.specs.Columns.{registerOf}
+use Rattle.meaning.specs.Register.{Object, Link, Register}
+use Rattle.meaning.specs.Events.{Event, insert, delete, set, join, part, special, general, linkOf, endsAt, apply}
+use Rattle.meaning.specs.Reach.{stepAt, taken}
+use Rattle.rows.specs.Rows.{readRows, zeroPast}
+use Rattle.tables.specs.Columns.{objectRow, linkRow, registerOf}
+use Rattle.tables.specs.Losses.{lostIn, LossesLow}
 use Rattle.register.specs.Tables.{objectsWith, linksWith, ObjectsAscend, LinksAscend, objectPlace, linkPlace}
 
 -- the table of objects, with n used rows, is m used rows of `now` after the event; "rows past the used ones are 0"
 pub record ObjectsApplied (S : Schema) (e : Event) (n : ℕ) (objects : List ℕ) (m : ℕ) (now : List ℕ) : Type 0 where
-  pub effect : (ls : List Link) → objectsWith m now ls ≡ apply S e (objectsWith n objects ls)
+  pub effect : (ls : List Link) → readRows (objectRow now) m ≡ (apply S e (objectsWith n objects ls)) .objects
   pub lengths : length now ≡ length objects
   pub zeros : T (zeroPast objects 10 n) → T (zeroPast now 10 m)
 
 -- and the table of links
 pub record LinksApplied (S : Schema) (e : Event) (n : ℕ) (links : List ℕ) (m : ℕ) (now : List ℕ) : Type 0 where
-  pub effect : (os : List Object) → linksWith os m now ≡ apply S e (linksWith os n links)
+  pub effect : (os : List Object) → readRows (linkRow now) m ≡ (apply S e (linksWith os n links)) .links
   pub lengths : length now ≡ length links
   pub zeros : T (zeroPast links 3 n) → T (zeroPast now 3 m)
+
+-- ---- losses
+
+-- A batch turns no link into two losses, and it starts with at most 4,096 links and joins at most 256.
+abbrev pub lossRows : ℕ
+lossRows = maxLinks + maxEvents
+
+-- The losses of k′ used rows are those that k rows had, and the ones that were found: from object u by role r.
+pub record LossesAdded (found : ℕ → ℕ → Bool) (k : ℕ) (losses : List ℕ) (k′ : ℕ) (losses′ : List ℕ) : Type 0 where
+  pub lost : (r u : ℕ) → lostIn losses′ k′ r u ≡ (lostIn losses k r u || found r u)
+  pub low : LossesLow losses k → LossesLow losses′ k′
+  pub lengths : length losses′ ≡ length losses
+
+-- A loss can be written of a link that has the object at an end.
+pub record CanLose (id : ℕ) (l : Link) (k : ℕ) (losses : List ℕ) : Type 0 where
+  pub ends : T (endsAt id l)
+  pub low : l .relationship < maxRelationships
+  pub room : k < lossRows
+  pub long : length losses ≡ lossRows * 2
+
+-- the used links name relationships that a schema can have, "at most 32"
+abbrev pub RelationshipsLow : ℕ → List ℕ → Type 0
+RelationshipsLow m links = (i : ℕ) → i < m → (linkRow links i) .relationship < maxRelationships
+
+-- a row is left for the loss of each link
+pub record LossRoom (m k : ℕ) (losses : List ℕ) : Type 0 where
+  pub room : k + m ≤ lossRows
+  pub long : length losses ≡ lossRows * 2
+
+-- Links can be taken out with their losses.
+pub record CanTake (m : ℕ) (links : List ℕ) (k : ℕ) (losses : List ℕ) : Type 0 where
+  pub lent : m * 3 ≤ length links
+  pub low : RelationshipsLow m links
+  pub left : LossRoom m k losses
+
+-- ---- what no refusal gives
 
 -- neither 9 nor 13 is met: the object is not there, and a row is left for it
 pub record CanInsert (n : ℕ) (objects : List ℕ) (id : ℕ) : Type 0 where
@@ -51,10 +90,16 @@ pub record CanPart (n : ℕ) (links : List ℕ) (l : Link) : Type 0 where
   pub there : linkPlace n links l ≡ none → ⊥
   pub lent : n * 3 ≤ length links
 
+-- 8 is not met, and the links that go with the object are those of a schema
+pub record CanDelete (n : ℕ) (objects : List ℕ) (m : ℕ) (links : List ℕ) (id : ℕ) : Type 0 where
+  pub object : CanChange n objects id
+  pub lent : m * 3 ≤ length links
+  pub low : RelationshipsLow m links
+
 -- What no refusal gives an event on tables of n objects and m links. For a general: "0 to 8 cells" of a type.
 unfoldable pub Can : List ObjectType → ℕ → List ℕ → ℕ → List ℕ → Event → Type 0
 Can types n objects m links (insert id t) = CanInsert n objects id
-Can types n objects m links (delete id) = CanChange n objects id
+Can types n objects m links (delete id) = CanDelete n objects m links id
 Can types n objects m links (set id k v) = CanChange n objects id × (k < cellCount)
 Can types n objects m links (join r a b) = CanJoin m links (linkOf r a b)
 Can types n objects m links (part r a b) = CanPart m links (linkOf r a b)
@@ -68,3 +113,9 @@ pub record Applied (S : Schema) (e : Event) (n : ℕ) (objects : List ℕ) (m : 
   pub links-length : length links′ ≡ length links
   pub objects-zero : T (zeroPast objects 10 n) → T (zeroPast objects′ 10 n′)
   pub links-zero : T (zeroPast links 3 m) → T (zeroPast links′ 3 m′)
+
+-- The losses after the event, where m links and k losses were used before it: those that were there, and those of the links that a delete took along. Of links
+-- and losses together there is at most one more.
+pub record LossesKept (g : Register) (e : Event) (m k : ℕ) (losses : List ℕ) (m′ k′ : ℕ) (losses′ : List ℕ) : Type 0 where
+  pub added : LossesAdded (λ r u. taken r u (stepAt g e)) k losses k′ losses′
+  pub grown : k′ + m′ ≤ k + m + 1

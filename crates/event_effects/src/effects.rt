@@ -1,5 +1,6 @@
 // What an event that is not refused does to the table of objects or of links. Each answers how many rows are used after it.
 use crate::Held;
+use crate::deletes::take_links;
 use tables::Found;
 ghost use Prim.Native.Nat.{_≤_, _<_};
 ghost use Rattle.meaning.specs.Limits.{cellCount};
@@ -7,9 +8,9 @@ ghost use Rattle.meaning.specs.Schema.{Schema, Relationship, cellsOf};
 ghost use Rattle.meaning.specs.Events.{insert, delete, set, join, part, special, general, linkOf};
 ghost use mathlib.Core.List.{List};
 ghost use Rattle.rows.specs.Rows.{signed};
-ghost use Rattle.tables.specs.Columns.{typesOf, noEvent, eventOf, eventRow};
+ghost use Rattle.tables.specs.Columns.{typesOf, registerOf, noEvent, eventOf, eventRow};
 ghost use mathlib.Core.Path.{_≡_};
-ghost use Rattle.event_effects.specs.Effects.{Can, Applied, ObjectsApplied, LinksApplied, CanInsert, CanChange, CanJoin, CanPart};
+ghost use Rattle.event_effects.specs.Effects.{Can, Applied, ObjectsApplied, LinksApplied, CanInsert, CanChange, CanDelete, CanJoin, CanPart, LossRoom, LossesKept};
 
 // Insert: a row in the place of the id, with cells 0.
 fn put_object(count: u32, objects: &mut [u32], id: u32, t: u32) -> u32
@@ -105,42 +106,59 @@ fn take_link(count: u32, links: &mut [u32], relationship: u32, source: u32, targ
     }
 }
 
+// Delete: the object's row and those of its links taken out.
+fn take_out(
+    held: Held,
+    objects: &mut [u32],
+    links: &mut [u32],
+    losses: &mut [u32; 8704],
+    id: u32,
+) -> Held
+    requires { ⌜ (CanDelete (held .objects) (now objects) (held .links) (now links) id) × (LossRoom (held .links) (held .losses) (now losses)) ⌝ }
+    ensures { λ h. ⌜ ((S : Schema) → Applied S (delete id) (held .objects) (now (objects .entry)) (held .links) (now (links .entry))
+        (h .objects) (now (objects .exit)) (h .links) (now (links .exit)))
+        × (LossesKept (registerOf (held .objects) (now (objects .entry)) (held .links) (now (links .entry))) (delete id)
+        (held .links) (held .losses) (now (losses .entry)) (h .links) (h .losses) (now (losses .exit))) ⌝ }
+{
+    let mut left = take_links(held, &mut *links, &mut *losses, id);
+    left.objects = take_object(held.objects, &mut *objects, id);
+    left
+}
+
 // What an event of three fields does to the tables; it answers the used rows after it. The event is one that is not refused.
 pub fn effect(
     type_count: u32,
     types: &[u32],
-    object_count: u32,
+    held: Held,
     objects: &mut [u32],
-    link_count: u32,
     links: &mut [u32],
+    losses: &mut [u32; 8704],
     kind: u32,
     x: u32,
     y: u32,
     z: u32,
 ) -> Held
-    requires { ⌜ (Can (typesOf «type_count» (now types)) «object_count» (now objects) «link_count» (now links) (eventOf kind x y z))
-        × (eventOf kind x y z ≡ noEvent → ⊥) ⌝ }
-    ensures { λ r. ⌜ ((rs : List Relationship) →
+    requires { ⌜ (Can (typesOf «type_count» (now types)) (held .objects) (now objects) (held .links) (now links) (eventOf kind x y z))
+        × (eventOf kind x y z ≡ noEvent → ⊥) × (LossRoom (held .links) (held .losses) (now losses)) ⌝ }
+    ensures { λ h. ⌜ ((rs : List Relationship) →
         Applied (record { types = typesOf «type_count» (now (types .entry)); relationships = rs }) (eventOf kind x y z)
-        «object_count» (now (objects .entry)) «link_count» (now (links .entry))
-        (r .objects) (now (objects .exit)) (r .links) (now (links .exit))) ⌝ }
+        (held .objects) (now (objects .entry)) (held .links) (now (links .entry))
+        (h .objects) (now (objects .exit)) (h .links) (now (links .exit)))
+        × (LossesKept (registerOf (held .objects) (now (objects .entry)) (held .links) (now (links .entry))) (eventOf kind x y z)
+        (held .links) (held .losses) (now (losses .entry)) (h .links) (h .losses) (now (losses .exit))) ⌝ }
 {
-    let mut n = object_count;
-    let mut m = link_count;
+    let mut after = held;
     match kind {
-        0 => n = put_object(object_count, &mut *objects, x, y),
-        1 => n = take_object(object_count, &mut *objects, x),
-        2 => put_cell(object_count, &mut *objects, x, y, z),
-        3 => m = put_link(link_count, &mut *links, x, y, z),
-        4 => m = take_link(link_count, &mut *links, x, y, z),
-        5 => put_type(object_count, &mut *objects, x, y),
-        6 => put_higher_type(type_count, types, object_count, &mut *objects, x, y),
+        0 => after.objects = put_object(held.objects, &mut *objects, x, y),
+        1 => after = take_out(held, &mut *objects, &mut *links, &mut *losses, x),
+        2 => put_cell(held.objects, &mut *objects, x, y, z),
+        3 => after.links = put_link(held.links, &mut *links, x, y, z),
+        4 => after.links = take_link(held.links, &mut *links, x, y, z),
+        5 => put_type(held.objects, &mut *objects, x, y),
+        6 => put_higher_type(type_count, types, held.objects, &mut *objects, x, y),
         _ => {}
     }
-    Held {
-        objects: n,
-        links: m,
-    }
+    after
 }
 
 // What the event in a row of the table of events does. It is one that is not refused.
@@ -150,15 +168,18 @@ pub fn row_effect(
     held: Held,
     objects: &mut [u32],
     links: &mut [u32],
+    losses: &mut [u32; 8704],
     events: &[u32],
     row: u32,
 ) -> Held
     requires { ⌜ (Can (typesOf «type_count» (now types)) (held .objects) (now objects) (held .links) (now links) (eventRow (now events) row))
-        × (eventRow (now events) row ≡ noEvent → ⊥) ⌝ }
-    ensures { λ r. ⌜ ((rs : List Relationship) →
+        × (eventRow (now events) row ≡ noEvent → ⊥) × (LossRoom (held .links) (held .losses) (now losses)) ⌝ }
+    ensures { λ h. ⌜ ((rs : List Relationship) →
         Applied (record { types = typesOf «type_count» (now (types .entry)); relationships = rs }) (eventRow (now (events .entry)) row)
         (held .objects) (now (objects .entry)) (held .links) (now (links .entry))
-        (r .objects) (now (objects .exit)) (r .links) (now (links .exit))) ⌝ }
+        (h .objects) (now (objects .exit)) (h .links) (now (links .exit)))
+        × (LossesKept (registerOf (held .objects) (now (objects .entry)) (held .links) (now (links .entry))) (eventRow (now (events .entry)) row)
+        (held .links) (held .losses) (now (losses .entry)) (h .links) (h .losses) (now (losses .exit))) ⌝ }
 {
     let kind = rows::word(events, tables::EVENT_WIDTH, row, 0);
     let x = rows::word(events, tables::EVENT_WIDTH, row, 1);
@@ -167,10 +188,10 @@ pub fn row_effect(
     effect(
         type_count,
         types,
-        held.objects,
+        held,
         objects,
-        held.links,
         links,
+        losses,
         kind,
         x,
         y,

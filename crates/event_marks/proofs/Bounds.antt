@@ -1,5 +1,5 @@
 -- Each event type that a well-typed rule lists has a place among the marks: its type or relationship is one of 32, its cell one of 8.
-use Prim.Native.Nat.{ℕ, _+_, _*_, _/_, _%_, _≤_, _<_}
+use Prim.Native.Nat.{ℕ, zero, suc, _+_, _*_, _/_, _%_, _≤_, _<_}
 use mathlib.Core.Path.{_≡_, refl, ap, _∙_}
 use mathlib.Core.Logic.{⊎-elim}
 use mathlib.Core.Bool.{Bool, true, false, _&&_, cond}
@@ -11,7 +11,7 @@ use lib.ListN.{length, getD, getElem?, List·getD-eq-default}
 use mir.Facts.{and-yes, yes-and, ltb-yes, yes-ltb, ltb-no, T-not-not}
 use Rattle.meaning.specs.Lists.{every, firstOf, putInOrder, _∈_}
 use Rattle.meaning.specs.Limits.{maxTypes, maxRelationships, maxForms, cellCount}
-use Rattle.meaning.specs.Schema.{ObjectType, Schema, knownType, knownRelationship, knownRole, typeAt, cellsOf, hasParent, under, relationshipOf, nearType, typeFault, relationshipFault}
+use Rattle.meaning.specs.Schema.{ObjectType, Relationship, Schema, knownType, knownRelationship, knownRole, typeAt, cellsOf, hasParent, under, relationshipOf, forward, relationshipAt, sourceType, targetType, nearType, farType, faultyRelationship, typeFault, relationshipFault}
 use Rattle.meaning.specs.Forms.{Sort, Form, compare, negate, connect, quantify, kind, num, cell, size, sum, combine, role, all, select, bind, variable, memberType, wellTyped, formCount, Rule, Book, faultyRule, ruleFault}
 use Rattle.meaning.specs.Reach.{Direction, up, down, opposite, Passing, same, reversed, either, through, leftOf, rightOf, firstTruth, secondTruth, sourceOf, secondTerm, quiet}
 use Rattle.meaning.specs.EventList.{EventType, insertOf, deleteOf, setOf, joinOf, partOf, specialOf, generalOf, eventTypeWords, whereParent, roleLists, allLists, kindLists, lists, contextLists, eventList}
@@ -50,7 +50,40 @@ through-placed same listed h d = h d
 through-placed reversed listed h d = h (opposite d)
 through-placed either listed h d = both-placed (listed up) (listed down) (h up) (h down)
 
-module _ (S : Schema) (few-types : length (S .types) ≤ maxTypes) (few-relationships : length (S .relationships) ≤ maxRelationships) (few-cells : (t : ℕ) → cellsOf (S .types) t ≤ cellCount) where
+-- ---- where a role leads
+
+-- what is read at a place of a list stands there
+there : {A : Type 0} (l : List A) (n : ℕ) (d : A) → n < length l → getElem? l n ≡ some (getD l n d)
+there [] n d h = absurd (omega arith)
+there (x ∷ xs) zero d h = refl
+there (x ∷ xs) (suc n) d h = there xs n d (omega arith)
+
+-- each known role leads to a known type
+abbrev FarKnown : Schema → Type 0
+FarKnown S = (r : ℕ) → T (knownRole (S .relationships) r) → T (knownType (S .types) (farType (S .relationships) r))
+
+far-known : (S : Schema) → relationshipFault S ≡ none → FarKnown S
+unfolding relationshipFault faultyRelationship knownRole knownRelationship relationshipAt sourceType targetType farType
+far-known S clear r h = step (forward r)
+  where
+    ends : Relationship
+    ends = relationshipAt (S .relationships) (relationshipOf r)
+
+    known : ℕ → Bool
+    known = knownType (S .types)
+
+    both : T (known (ends .source)) × T (known (ends .target))
+    both =
+        let source = known (ends .source) in
+        let target = known (ends .target) in
+        let at = there (S .relationships) (relationshipOf r) _ (ltb-yes h) in
+        and-yes source target (T-not-not (source && target) (fault-none (faultyRelationship (S .types)) (S .relationships) clear (relationshipOf r) ends at .1))
+
+    step : (b : Bool) → T (known (cond b (ends .target) (ends .source)))
+    step true = both .1
+    step false = both .0
+
+module _ (S : Schema) (few-types : length (S .types) ≤ maxTypes) (few-relationships : length (S .relationships) ≤ maxRelationships) (few-cells : (t : ℕ) → cellsOf (S .types) t ≤ cellCount) (far-types : FarKnown S) where
   -- ---- forms without parts
 
   number : (t : ℕ) → t < 32 → T (ltb t 32 && true)
@@ -64,10 +97,12 @@ module _ (S : Schema) (few-types : length (S .types) ≤ maxTypes) (few-relation
   unfolding knownRole knownRelationship
   few-role r h = let less : relationshipOf r < length (S .relationships) = ltb-yes h in omega arith
 
-  role-placed : (r : ℕ) → T (knownRole (S .relationships) r) → (d : Direction) → Placed (roleLists r d)
+  role-placed : (r : ℕ) → T (knownRole (S .relationships) r) → (d : Direction) → Placed (roleLists S r d)
   unfolding roleLists eventTypeWords
   role-placed r h up = one-placed (joinOf (relationshipOf r)) (number (relationshipOf r) (few-role r h))
-  role-placed r h down = one-placed (partOf (relationshipOf r)) (number (relationshipOf r) (few-role r h))
+  role-placed r h down =
+      let far = farType (S .relationships) r in
+      yes-and (placed (partOf (relationshipOf r))) _ (number (relationshipOf r) (few-role r h)) (one-placed (deleteOf far) (number far (few far (far-types r h))))
 
   kind-placed : (t : ℕ) → T (knownType (S .types) t) → (d : Direction) → Placed (kindLists S t d)
   unfolding kindLists eventTypeWords
@@ -186,7 +221,7 @@ module _ (k : Book) (clear : bookRefusal k ≡ none) (few-types : length (k .sch
       let typed = wellTyped S (r .context ∷ []) (r .body) in
       let fits = T-not-not (known && typed && leb (formCount (r .body)) maxForms) (fault-none (faultyRule S) (k .rules) (book-parts .1) n r there .1) in
       let good = and-yes known typed (and-yes (known && typed) (leb (formCount (r .body)) maxForms) fits .0) in
-      rule-placed S few-types few-relationships (types-fit (S .types) (book-parts .0 .0) .cells-bound) r (good .0) (good .1)
+      rule-placed S few-types few-relationships (types-fit (S .types) (book-parts .0 .0) .cells-bound) (far-known S (book-parts .0 .1)) r (good .0) (good .1)
 
 -- ---- the place
 

@@ -4,7 +4,6 @@ use event_tests::both_under;
 use event_tests::full;
 use event_tests::has_cell;
 use event_tests::has_link;
-use event_tests::is_linked;
 use event_tests::is_present;
 use event_tests::strictly_above;
 use event_tests::strictly_under;
@@ -44,22 +43,19 @@ fn of_insert(type_count: u32, lent: usize, count: u32, objects: &[u32], id: u32,
     Found::Nothing
 }
 
-// The first refusal that a delete meets.
-fn of_delete(object_count: u32, objects: &[u32], link_count: u32, links: &[u32], id: u32) -> Found
-    requires { ⌜ ObjectsAscend «object_count» (now objects) ⌝ }
-    ensures { λ r. ⌜ ((S : Schema) (lent : Lent) → r ≡ foundOf (eventRefusal S lent
-        (registerOf «object_count» (now (objects .entry)) «link_count» (now (links .entry))) (delete id))) ⌝ }
+// The first refusal that a delete meets. Its links go with the object, so that no link stands against it.
+fn of_delete(count: u32, objects: &[u32], id: u32) -> Found
+    requires { ⌜ ObjectsAscend count (now objects) ⌝ }
+    ensures { λ r. ⌜ ((S : Schema) (lent : Lent) (ls : List Link) → r ≡ foundOf (eventRefusal S lent
+        (objectsWith count (now (objects .entry)) ls) (delete id))) ⌝ }
 {
     if !valid_id(id) {
         return Found::At(7);
     }
-    if !is_present(object_count, objects, id) {
-        return Found::At(8);
+    if is_present(count, objects, id) {
+        return Found::Nothing;
     }
-    if is_linked(link_count, links, id) {
-        return Found::At(12);
-    }
-    Found::Nothing
+    Found::At(8)
 }
 
 // The first refusal that a set meets.
@@ -324,7 +320,7 @@ fn of_short_event(
     if y != 0 {
         return Found::At(7);
     }
-    of_delete(object_count, objects, link_count, links, x)
+    of_delete(object_count, objects, x)
 }
 
 // The first refusal that an event of three fields meets.

@@ -2,13 +2,13 @@
 use register::columns;
 use tables::Found;
 ghost use mathlib.Core.Path.{_≡_};
-ghost use mathlib.Core.Bool.{_&&_, _||_, not};
+ghost use mathlib.Core.Bool.{_&&_, not};
 ghost use mathlib.Core.List.{List};
 ghost use Prim.Native.Nat.{min};
 ghost use lib.Dec.{leb, eqb};
 ghost use Rattle.meaning.specs.Schema.{under, sourceType, targetType};
 ghost use Rattle.meaning.specs.Register.{Object, Link, present, isUnder, hasLink};
-ghost use Rattle.meaning.specs.Events.{linked, needsType, typeNeeded, strictlyAbove, strictlyUnder, hasCell, linkOf};
+ghost use Rattle.meaning.specs.Events.{needsType, typeNeeded, strictlyAbove, strictlyUnder, hasCell, linkOf};
 ghost use Rattle.tables.specs.Columns.{typesOf, relationshipsOf, schemaOf, linkRow};
 ghost use Rattle.register.specs.Tables.{objectsWith, linksWith, ObjectsAscend, LinksAscend};
 
@@ -127,30 +127,6 @@ pub fn has_link(count: u32, links: &[u32], relationship: u32, source: u32, targe
         Found::At(_) => true,
         Found::Nothing => false,
     }
-}
-
-// Whether a link's row has the object at an end.
-fn names(links: &[u32], row: u32, id: u32) -> bool
-    ensures { λ r. ⌜ r ≡ eqb ((linkRow (now (links .entry)) row) .source) id || eqb ((linkRow (now (links .entry)) row) .target) id ⌝ }
-{
-    if columns::source_of(links, row) == id {
-        return true;
-    }
-    columns::target_of(links, row) == id
-}
-
-// 12 of a delete: whether some link has the object at an end.
-pub fn is_linked(count: u32, links: &[u32], id: u32) -> bool
-    ensures { λ r. ⌜ ((os : List Object) → r ≡ linked (linksWith os count (now (links .entry))) id) ⌝ }
-{
-    let mut row: u32 = 0;
-    while row < count {
-        if names(links, row, id) {
-            return true;
-        }
-        row += 1;
-    }
-    false
 }
 
 // Whether a link's end is the object, and t is not under the type of that end.

@@ -10,19 +10,19 @@ use lib.Dec.{T, leb, ltb, eqb}
 use lib.ListN.{length, length-map}
 use mir.Facts.{and-yes, T-not, T-not-not, leb-no, ltb-yes}
 use Rattle.meaning.specs.Limits.{maxObjects, maxLinks, cellCount, validId, fitsWord}
-use Rattle.meaning.specs.Schema.{Schema}
+use Rattle.meaning.specs.Schema.{Schema, knownRelationship}
 use Rattle.meaning.specs.Register.{Link, Register, objectKey, linkKey, present, sameLink, hasLink}
-use Rattle.meaning.specs.Events.{Event, insert, delete, set, join, part, special, general, Lent, linkOf, newObject, withCell, withType, withHigherType, apply, Check, _when_, firstMet, knownEvent, checks, eventRefusal}
-use Rattle.meaning.proofs.Lists.{length-keep}
+use Rattle.meaning.specs.Events.{Event, insert, delete, set, join, part, special, general, Lent, linkOf, newObject, withCell, withType, withHigherType, endsAt, apply, Check, _when_, firstMet, knownEvent, checks, eventRefusal}
+use Rattle.meaning.proofs.Lists.{element-in, length-keep}
 use Rattle.meaning.proofs.Order.{length-put}
-use Rattle.meaning.proofs.Registers.{RegisterFits}
+use Rattle.meaning.proofs.Registers.{RegisterFits, link-parts}
 use Rattle.meaning.proofs.Effects.{apply-fits}
 use Rattle.rows.specs.Rows.{readRows}
 use Rattle.tables.specs.Columns.{objectRow, linkRow, registerOf, noEvent}
-use Rattle.schema.proofs.Rows.{length-rows}
+use Rattle.schema.proofs.Rows.{length-rows, row-there}
 use Rattle.register.specs.Tables.{objectPlace, linkPlace}
 use Rattle.register.proofs.Rows.{place-there}
-use Rattle.event_effects.specs.Effects.{CanInsert, CanChange, CanJoin, CanPart, Can, Applied}
+use Rattle.event_effects.specs.Effects.{CanInsert, CanChange, CanJoin, CanPart, RelationshipsLow, Can, Applied}
 use Rattle.events.specs.Steps.{Ready}
 use Rattle.event_refusals.proofs.Fields.{no-event-refused}
 use Rattle.event_tests.proofs.Tests.{test-found, link-present, link-absent}
@@ -72,13 +72,24 @@ module _ (S : Schema) (lent : Lent) (n : ℕ) (objects : List ℕ) (m : ℕ) (li
         lent = omega (arith, ready .objects-used, ready .objects-lent);
       }
 
+  -- a link that is there is one of a relationship of the schema
+  relationships-low : RelationshipsLow m links
+  unfolding knownRelationship
+  relationships-low i h =
+      let l = linkRow links i in
+      let there = element-in (readRows (linkRow links) m) i (row-there (linkRow links) m i h) in
+      let known : l .relationship < length (S .relationships) = ltb-yes (link-parts S g l (ready .fits .links-fit l there) .0) in
+      omega (arith, ready .relationships-few)
+
   pub can : (e : Event) → eventRefusal S lent g e ≡ none → Can (S .types) n objects m links e
   unfolding Can eventRefusal checks knownEvent
   can (insert id t) ok =
       let u = unmet (checks S lent g (insert id t)) ok in
       let left = room-left maxObjects (lent .objects) (length (readRows (objectRow objects) n)) n (length-rows (objectRow objects) n) (u .1 .1 .0) in
       record { ascend = ready .fits .objects-ascend; absent = missing id (u .1 .0); few = left .0; room = omega (arith, left .1, ready .objects-lent) }
-  can (delete id) ok = let u = unmet (checks S lent g (delete id)) ok in change id (u .1 .0)
+  can (delete id) ok =
+      let u = unmet (checks S lent g (delete id)) ok in
+      record { object = change id (u .1 .0); lent = omega (arith, ready .links-used, ready .links-lent); low = relationships-low }
   can (set id k v) ok =
       let u = unmet (checks S lent g (set id k v)) ok in
       let known = and-yes (validId id && ltb k cellCount) (fitsWord v) (T-not-not (validId id && ltb k cellCount && fitsWord v) (u .0)) .0 in
@@ -126,7 +137,7 @@ module _ (S : Schema) (lent : Lent) (n : ℕ) (objects : List ℕ) (m : ℕ) (li
   links-within : (e : Event) → eventRefusal S lent g e ≡ none → length ((apply S e g) .links) ≤ lent .links
   unfolding apply eventRefusal checks
   links-within (insert id t) ok = links-before
-  links-within (delete id) ok = links-before
+  links-within (delete id) ok = le-trans (length-keep (λ l. not (endsAt id l)) (readRows (linkRow links) m)) links-before
   links-within (set id k v) ok = links-before
   links-within (join r a b) ok =
       let u = unmet (checks S lent g (join r a b)) ok in
@@ -143,6 +154,7 @@ module _ (S : Schema) (lent : Lent) (n : ℕ) (objects : List ℕ) (m : ℕ) (li
       let links-now : m′ ≡ length ((apply S e g) .links) = sym (length-rows (linkRow links′) m′) ∙ ap (λ h. length (h .links)) (a .effect) in
       record {
         types-fit = ready .types-fit;
+        relationships-few = ready .relationships-few;
         fits = subst (RegisterFits S) (sym (a .effect)) (apply-fits S (ready .types-fit) lent g (ready .fits) e ok);
         objects-lent = omega (arith, a .objects-length, ready .objects-lent);
         links-lent = omega (arith, a .links-length, ready .links-lent);

@@ -113,7 +113,7 @@ length-steps S g [] = refl
 length-steps S g (e ∷ es) = ap suc (length-steps S (apply S e g) es)
 
 -- the type that stands at an event's number is the one that its step met
-pub met-at : {S : Schema} {lent : Lent} {g : Register} {es : List Event} {n : ℕ} {objects : List ℕ} {m : ℕ} {links met : List ℕ} → RunLeft S lent g es n objects m links met
+pub met-at : {S : Schema} {lent : Lent} {g : Register} {es : List Event} {n : ℕ} {objects : List ℕ} {m : ℕ} {links met : List ℕ} {k : ℕ} {losses : List ℕ} → RunLeft S lent g es n objects m links met k losses
     → (i : ℕ) → i < length es → (d : Step) → getD met i 0 ≡ metBy (getD (stepsOf S g es) i d)
 met-at {S} {g = g} {es = es} {met = met} left i h d =
     let steps = stepsOf S g es in

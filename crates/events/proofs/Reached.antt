@@ -29,6 +29,7 @@ use Rattle.tables.specs.Met.{metType, metBy}
 use Rattle.events.specs.Runs.{lentBy, Fit, CanRun, RunLeft, RunDone}
 use Rattle.event_effects.proofs.Applied.{object-by-words, link-by-words}
 use Rattle.events.proofs.Allowed.{ready-after}
+use Rattle.events.proofs.Lost.{Lost, lost-end}
 
 -- ---- copied rows
 
@@ -60,6 +61,7 @@ fit-words f w =
       ready =
           record {
             types-fit = r .types-fit;
+            relationships-few = r .relationships-few;
             fits = r .fits;
             objects-lent = r .objects-lent;
             links-lent = r .links-lent;
@@ -93,6 +95,7 @@ module _ (S : Schema) (lent : Lent) (n : ℕ) (objects : List ℕ) (m : ℕ) (li
       let r = f .ready in
       record {
         types-fit = r .types-fit;
+        relationships-few = r .relationships-few;
         fits = r .fits;
         objects-lent = omega (arith, r .objects-lent);
         links-lent = omega (arith, r .links-lent);
@@ -172,14 +175,19 @@ module _ (S : Schema) (lent : Lent) (start : Register) (read : ℕ → Event) (c
         rest = map metBy (stepsOf S (registerOf n′ objects′ m′ links′) (eventsFrom (suc row)))
 
     -- past the last event
-    pub reached-end : count ≤ row → (batchRefusal S lent start (readRows read count) ≡ none) × RunLeft S lent start (readRows read count) n objects m links met
+    pub reached-end : count ≤ row → {k : ℕ} {losses : List ℕ} → Lost S start read count row n objects m links k losses
+        → (batchRefusal S lent start (readRows read count) ≡ none) × RunLeft S lent start (readRows read count) n objects m links met k losses
     unfolding refusalFrom after stepsOf
-    reached-end h = (
+    reached-end h l = (
       r .refusal-left ∙ ap (refusalFrom S lent row here) none-left,
       record {
         end = sym (r .end-left ∙ ap (after S here) none-left);
         fit = r .fit;
         met-types = ap (λ k. take k met) all ∙ sym (r .met-left ∙ ap (λ es. take row met ++ map metBy (stepsOf S here es)) none-left ∙ append-nil (take row met));
+        losses-few = omega (arith, l .room, r .within, r .few);
+        losses-low = l .low;
+        lost = lost-end S start read count l h;
+        losses-long = l .long;
       },
     )
       where
@@ -256,6 +264,7 @@ module _
           ready =
               record {
                 types-fit = r .types-fit;
+                relationships-few = r .relationships-few;
                 fits = subst (RegisterFits S) (sym same-register) (r .fits);
                 objects-lent = omega (arith, r .objects-lent, can .objects-scratch, copies .objects-length, copies .objects-lent);
                 links-lent = omega (arith, r .links-lent, can .links-scratch, copies .links-length, copies .links-lent);

@@ -1,15 +1,18 @@
--- Document 01, "After a batch": a batch's events one after the other on a copy of the register, and the type that each event's object had when it came.
+-- Document 01, "After a batch": a batch's events one after the other on a copy of the register, the type that each event's object had when it came, and
+-- the links that its deletes took along.
 use Prim.Native.Nat.{ℕ, _≤_}
 use mathlib.Core.Path.{_≡_}
 use mathlib.Core.List.{List, map}
 use lib.ListN.{length, take}
+use Rattle.meaning.specs.Lists.{any}
 use Rattle.meaning.specs.Limits.{maxObjects, maxLinks, maxEvents}
 use Rattle.meaning.specs.Schema.{Schema}
 use Rattle.meaning.specs.Register.{Register}
 use Rattle.meaning.specs.Events.{Event, Lent, after, batchRefusal}
-use Rattle.meaning.specs.Reach.{stepsOf}
+use Rattle.meaning.specs.Reach.{stepsOf, taken}
 use Rattle.rows.specs.Rows.{rowsLent}
 use Rattle.tables.specs.Columns.{registerOf}
+use Rattle.tables.specs.Losses.{lostIn, LossesLow}
 use Rattle.tables.specs.Met.{metBy}
 use Rattle.tables.specs.Refusals.{verdictOf}
 use Rattle.tables.specs.declared.Verdict.the-variants.{Clear}
@@ -35,14 +38,19 @@ pub record CanRun (S : Schema) (n : ℕ) (objects : List ℕ) (m : ℕ) (links s
   pub links-scratch : length links ≤ length scratchLinks
   pub events-few : count ≤ maxEvents
 
--- What a batch leaves that is not refused: the register after it, and for each event the type that it met.
-pub record RunLeft (S : Schema) (lent : Lent) (g : Register) (es : List Event) (n : ℕ) (objects : List ℕ) (m : ℕ) (links met : List ℕ) : Type 0 where
+-- What a batch leaves that is not refused: the register after it, for each event the type that it met, and of the links that deletes took along a table of
+-- losses. A link that was there or joined is lost at most once: 4,096 and 256.
+pub record RunLeft (S : Schema) (lent : Lent) (g : Register) (es : List Event) (n : ℕ) (objects : List ℕ) (m : ℕ) (links met : List ℕ) (k : ℕ) (losses : List ℕ) : Type 0 where
   pub end : registerOf n objects m links ≡ after S g es
   pub fit : Fit S lent n objects m links
   pub met-types : take (length es) met ≡ map metBy (stepsOf S g es)
+  pub losses-few : k ≤ 4352
+  pub losses-low : LossesLow losses k
+  pub lost : (r u : ℕ) → lostIn losses k r u ≡ any (taken r u) (stepsOf S g es)
+  pub losses-long : length losses ≡ 8704
 
 -- A run of the events es from register g: the first refusal, "its refusals are met there"; where none is met, what the batch leaves. Where one is met, the
--- tables worked on are the scratch, "whose contents after a call are never stated", and the counts and met types say nothing.
+-- tables worked on are the scratch, "whose contents after a call are never stated", and the counts, met types and losses say nothing.
 pub record RunDone (S : Schema) (lent : Lent) (g : Register) (es : List Event) (ran : Ran) (objects links : List ℕ) : Type 0 where
   pub verdict-is : ran .verdict ≡ verdictOf (batchRefusal S lent g es)
-  pub left : ran .verdict ≡ Clear → RunLeft S lent g es (ran .held .objects) objects (ran .held .links) links (ran .met)
+  pub left : ran .verdict ≡ Clear → RunLeft S lent g es (ran .held .objects) objects (ran .held .links) links (ran .met) (ran .held .losses) (ran .losses)

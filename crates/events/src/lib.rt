@@ -9,6 +9,7 @@ use tables::Found;
 use tables::Verdict;
 ghost use Prim.Native.Nat.{ℕ};
 ghost use Rattle.tables.specs.Columns.{schemaOf, eventRow};
+ghost use Rattle.event_effects.specs.Effects.{LossRoom};
 ghost use Rattle.events.specs.Steps.{Ready, StepDone};
 
 // The refusal that an event met, if it met one, and the used rows after it.
@@ -17,12 +18,13 @@ pub struct Stepped {
     pub held: Held,
 }
 
-// The refusal that a batch met with its event's number, if it met one; else the used rows after it, and for each event the type that its object had when
-// the event came, 32 for none.
+// The refusal that a batch met with its event's number, if it met one; else the used rows after it, for each event the type that its object had when the
+// event came, 32 for none, and the losses of the links that went with deleted objects.
 pub struct Ran {
     pub verdict: Verdict,
     pub held: Held,
     pub met: [u32; 256],
+    pub losses: [u32; 8704],
 }
 
 // One event on the register's tables: its refusal, or its effect.
@@ -36,17 +38,18 @@ pub fn step(
     held: Held,
     objects: &mut [u32],
     links: &mut [u32],
+    losses: &mut [u32; 8704],
     events: &[u32],
     row: u32,
 ) -> Stepped
-    requires { ⌜ Ready (schemaOf «type_count» (now types) «relationship_count» (now relationships))
+    requires { ⌜ (Ready (schemaOf «type_count» (now types) «relationship_count» (now relationships))
         (record { objects = «objects_lent»; links = «links_lent»; words = 0 })
-        (held .objects) (now objects) (held .links) (now links) ⌝ }
+        (held .objects) (now objects) (held .links) (now links)) × (LossRoom (held .links) (held .losses) (now losses)) ⌝ }
     ensures { λ r. ⌜ ((w : ℕ) →
         StepDone (schemaOf «type_count» (now (types .entry)) «relationship_count» (now (relationships .entry)))
         (record { objects = «objects_lent»; links = «links_lent»; words = w }) (eventRow (now (events .entry)) row)
-        (held .objects) (now (objects .entry)) (held .links) (now (links .entry))
-        (r .refused) (r .held .objects) (now (objects .exit)) (r .held .links) (now (links .exit))) ⌝ }
+        (held .objects) (now (objects .entry)) (held .links) (now (links .entry)) (held .losses) (now (losses .entry))
+        (r .refused) (r .held .objects) (now (objects .exit)) (r .held .links) (now (links .exit)) (r .held .losses) (now (losses .exit))) ⌝ }
 {
     let object_count = held.objects;
     let link_count = held.links;
@@ -75,6 +78,7 @@ pub fn step(
                 held,
                 &mut *objects,
                 &mut *links,
+                &mut *losses,
                 events,
                 row,
             );

@@ -65,7 +65,7 @@ fn run_on(
 ) -> Ran
     requires { ⌜ (Fit (schemaOf «type_count» (now types) «relationship_count» (now relationships))
         (record { objects = «objects_lent»; links = «links_lent»; words = 0 })
-        (from .objects) (now objects) (from .links) (now links)) × («event_count» ≤ maxEvents) ⌝ }
+        (from .objects) (now objects) (from .links) (now links)) × («event_count» ≤ maxEvents) × (from .losses ≡ 0) ⌝ }
     ensures { λ r. ⌜ ((w : ℕ) →
         RunDone (schemaOf «type_count» (now (types .entry)) «relationship_count» (now (relationships .entry)))
         (record { objects = «objects_lent»; links = «links_lent»; words = w })
@@ -74,6 +74,7 @@ fn run_on(
 {
     let mut used = from;
     let mut met = [0u32; 256];
+    let mut losses = [0u32; 8704];
     let mut row: u32 = 0;
     while row < event_count {
         let seen = met_type(used.objects, &*objects, events, row);
@@ -87,6 +88,7 @@ fn run_on(
             used,
             &mut *objects,
             &mut *links,
+            &mut losses,
             events,
             row,
         );
@@ -96,10 +98,10 @@ fn run_on(
                 verdict: Verdict::Refused(number, row),
                 held: from,
                 met,
+                losses,
             };
         }
-        let at = row as usize;
-        met[at] = seen;
+        met[row as usize] = seen;
         used = stepped.held;
         row += 1;
     }
@@ -107,6 +109,7 @@ fn run_on(
         verdict: Verdict::Clear,
         held: used,
         met,
+        losses,
     }
 }
 
@@ -138,6 +141,7 @@ pub fn run(
     let from = Held {
         objects: object_count,
         links: link_count,
+        losses: 0,
     };
     run_on(
         type_count,

@@ -70,7 +70,7 @@ pub fn mark_form(
     let x = field(bodies, at.rule, row, 1);
     if shape(code, SECOND) == NONE {
         let y = field(bodies, at.rule, row, 2);
-        type_marks::put_leaf(at.types, types, env, at.depth, code, x, y, set, marks);
+        type_marks::put_leaf(types, relationships, env, at, code, x, y, set, marks);
         return;
     }
     let mut second = at;

@@ -13,10 +13,11 @@ use Rattle.meaning.specs.Answers.{refusal}
 use Rattle.meaning.proofs.Lists.{first-of-none}
 use Rattle.meaning.proofs.Agreement.{Checked, checked}
 use Rattle.tables.specs.Layouts.{Sheet, layouts}
-use Rattle.tables.specs.Columns.{bookOf, registerIn, batchIn}
+use Rattle.tables.specs.Columns.{relationshipRow, bookOf, registerIn, batchIn}
 use Rattle.tables.specs.Refusals.{verdictOf, anyOverfull, anyLong, notWhole, tableRefusal, refusalOf}
 use Rattle.tables.specs.declared.Counts.{Counts}
 use Rattle.tables.specs.declared.Verdict.the-variants.{Clear, Refused}
+use Rattle.schema.proofs.Rows.{length-rows}
 use Rattle.checks.specs.Given.{Given, EventsLent}
 use Rattle.checks.proofs.Given.{given-all}
 use Rattle.events.specs.declared.Ran.{Ran}
@@ -81,6 +82,7 @@ module _ (n : Counts) (s : Sheet) (scratchObjects scratchLinks : List ℕ) where
                 ready =
                     record {
                       types-fit = fit .types;
+                      relationships-few = omega (arith, length-rows (relationshipRow (s .relationships)) (n .relationships), given .0 .few-relationships);
                       fits = fit .register;
                       objects-lent = omega arith;
                       links-lent = omega arith;

@@ -32,8 +32,8 @@ unfoldable pub runRefusal : Counts → Sheet → List ℕ → List ℕ → Optio
 runRefusal n s scratchObjects scratchLinks =
     firstOf (refusalOf layouts n s (scratchShort (s .objects) (s .links) scratchObjects scratchLinks)) (eventsMeet n s)
 
--- A lent batch that was run: the first refusal, or what it leaves in the scratch. Where a refusal is met, the scratch, the counts and the met types are free.
+-- A lent batch that was run: the first refusal, or what it leaves in the scratch. Where a refusal is met, the scratch, the counts, the met types and the losses are free.
 pub record LentRun (n : Counts) (s : Sheet) (scratchObjects scratchLinks : List ℕ) (ran : Ran) (objects links : List ℕ) : Type 0 where
   pub verdict-is : ran .verdict ≡ verdictOf (runRefusal n s scratchObjects scratchLinks)
   pub left : ran .verdict ≡ Clear
-      → RunLeft ((bookOf n s) .schema) (lentBy (s .objects) (s .links) 0) (registerIn n s) (batchIn n s) (ran .held .objects) objects (ran .held .links) links (ran .met)
+      → RunLeft ((bookOf n s) .schema) (lentBy (s .objects) (s .links) 0) (registerIn n s) (batchIn n s) (ran .held .objects) objects (ran .held .links) links (ran .met) (ran .held .losses) (ran .losses)

@@ -15,12 +15,15 @@ fn refused(number: u32, place: u32) -> Ran
     let held = Held {
         objects: 0,
         links: 0,
+        losses: 0,
     };
     let met = [0u32; 256];
+    let losses = [0u32; 8704];
     Ran {
         verdict: Verdict::Refused(number, place),
         held,
         met,
+        losses,
     }
 }
 

@@ -6,47 +6,32 @@ use mathlib.Core.List.{List}
 use native.Mathlib.Nat.{eq-or-lt-of-le}
 use native.Mathlib.Numerals.{add-one}
 use native.Mathlib.Omega.{arith}
-use lib.ListN.{length, getD, set, length-set}
-use lib.Seq.{getD-set-same, getD-set-other}
+use lib.ListN.{length, getD}
 use Rattle.tables.specs.Columns.{linkRow}
 use Rattle.register.specs.Tables.{rowAt}
 use Rattle.link_index.specs.Slots.{placeKey, placeFar, slotAt, nextWord, headWord, laid, laidLink, Indexable, Slotted}
 use Rattle.chains.proofs.Chains.{chained-none, Pushed, chained-more}
+use Rattle.chains.proofs.Pushes.{pushed-room, pushed-other, pushed-row, pushed-next, pushed-head}
 use Rattle.link_index.proofs.Ends.{near-same, far-same, key-within}
 
 -- ---- the words of the table with one slot more
 
 module _ (index : List ℕ) (slot key far : ℕ) where
-  abbrev one : List ℕ
-  one = set index slot far
-
-  abbrev two : List ℕ
-  two = set one (8192 + slot) (headWord index key)
-
-  abbrev three : List ℕ
-  three = set two (16384 + key) (suc slot)
-
   pub laid-room : length index ≡ 81920 → length (laid index slot key far) ≡ 81920
-  laid-room room = simp length-set room
+  laid-room = pushed-room index slot far 8192 (16384 + key)
 
-  laid-other : (k : ℕ) → (k ≡ slot → ⊥) → (k ≡ 8192 + slot → ⊥) → (k ≡ 16384 + key → ⊥) → getD three k 0 ≡ getD index k 0
-  laid-other k a b c =
-      getD-set-other two (16384 + key) k (suc slot) 0 c ∙ getD-set-other one (8192 + slot) k (headWord index key) 0 b ∙ getD-set-other index slot k far 0 a
+  laid-other : (k : ℕ) → (k ≡ slot → ⊥) → (k ≡ 8192 + slot → ⊥) → (k ≡ 16384 + key → ⊥) → getD (laid index slot key far) k 0 ≡ getD index k 0
+  laid-other = pushed-other index slot far 8192 (16384 + key)
 
   module _ (room : length index ≡ 81920) (s : slot < 8192) (k : key < 65536) where
-    laid-far : getD three slot 0 ≡ far
-    laid-far =
-        getD-set-other two (16384 + key) slot (suc slot) 0 (λ e. omega arith)
-        ∙ getD-set-other one (8192 + slot) slot (headWord index key) 0 (λ e. omega arith)
-        ∙ getD-set-same index slot far 0 (omega arith)
+    laid-far : getD (laid index slot key far) slot 0 ≡ far
+    laid-far = pushed-row index slot far 8192 (16384 + key) (omega arith) (omega arith) (omega arith)
 
-    laid-next : nextWord three slot ≡ headWord index key
-    laid-next =
-        getD-set-other two (16384 + key) (8192 + slot) (suc slot) 0 (λ e. omega arith)
-        ∙ getD-set-same one (8192 + slot) (headWord index key) 0 (simp length-set (omega arith))
+    laid-next : nextWord (laid index slot key far) slot ≡ headWord index key
+    laid-next = pushed-next index slot far 8192 (16384 + key) (omega arith) (omega arith) (omega arith)
 
-    laid-head : headWord three key ≡ suc slot
-    laid-head = getD-set-same two (16384 + key) (suc slot) 0 (simp length-set (omega arith))
+    laid-head : headWord (laid index slot key far) key ≡ suc slot
+    laid-head = pushed-head index slot far 8192 (16384 + key) (omega arith) (omega arith) (omega arith)
 
 -- ---- one place more
 

@@ -63,11 +63,17 @@ module _ (S : Schema) (types-fit : TypesFit (S .types)) (lent : Lent) (g : Regis
       held (λ g′. T (hasLink g′ l)) _ (λ g′ f e o. link-was S types-fit lent g′ f e o r x (hasLink (after S g es)) l s h)
       (no-step S (joined r x (hasLink (after S g es))) g es n) h
 
-  -- with no loss, a link that was there is there all the while
-  no-loss : (r x : ℕ) → T (not (roleMoves c r x down)) → (l : Link) → T (startsAt r x l) → T (hasLink g l) → Linked l
+  -- each step, with the object under its type before and after it
+  kept-sides : (x t : ℕ) → Kept x t → EachStep (λ g′ e. T (isUnder types g′ x t) × T (isUnder types (apply S e g′) x t)) S g es
+  kept-sides x t h = each-side S (λ g′. T (isUnder types g′ x t)) g es h
+
+  -- with no loss, a link that was there is there all the while, as its near end is
+  no-loss : (r x t : ℕ) → Kept x t → T (not (roleMoves c r x down)) → (l : Link) → T (startsAt r x l) → T (hasLink g l) → Linked l
   unfolding roleMoves
-  no-loss r x n l s h =
-      persists (λ g′. T (hasLink g′ l)) _ (λ g′ f e o. link-stays S types-fit lent g′ f e o r x l s) (no-step S (parted r x) g es n) h
+  no-loss r x t k n l s h =
+      persists (λ g′. T (hasLink g′ l)) _
+      (λ g′ f e o q. link-stays S types-fit lent g′ f e o r x l (under-present types (apply S e g′) x t (q .0 .1)) s (q .1))
+      (each-both S _ _ g es (kept-sides x t k) (no-step S (parted r x) g es n)) h
 
   role-end : (r x y : ℕ) → T (not (roleMoves c r x up)) → y ∈ farEnds (after S g es) r x → y ∈ farEnds g r x × Kept y (farType relationships r)
   role-end r x y n m =
@@ -77,17 +83,17 @@ module _ (S : Schema) (types-fit : TypesFit (S .types)) (lent : Lent) (g : Regis
         subst (λ z. Kept z (farType relationships r)) (sym (f .3)) (link-kept r x (f .0) (f .2) h),
       )
 
-  role-start : (r x y : ℕ) → T (not (roleMoves c r x down)) → y ∈ farEnds g r x → y ∈ farEnds (after S g es) r x × Kept y (farType relationships r)
-  role-start r x y n m =
+  role-start : (r x t y : ℕ) → Kept x t → T (not (roleMoves c r x down)) → y ∈ farEnds g r x → y ∈ farEnds (after S g es) r x × Kept y (farType relationships r)
+  role-start r x t y k n m =
       let f = far-from g r x y m in
-      let h = no-loss r x n (f .0) (f .2) (f .1) in (
+      let h = no-loss r x t k n (f .0) (f .2) (f .1) in (
         subst (λ z. z ∈ farEnds (after S g es) r x) (sym (f .3)) (far-in (after S g es) r x (f .0) (at-end S _ g es h) (f .2)),
         subst (λ z. Kept z (farType relationships r)) (sym (f .3)) (link-kept r x (f .0) (f .2) h),
       )
 
-  role-leaf : (d : Direction) (r x : ℕ) → T (not (roleMoves c r x d)) → UnmovedKept Kept (farType relationships r) d (farEnds g r x) (farEnds (after S g es) r x)
-  role-leaf up r x n = (λ y m. role-end r x y n m .0, λ y m m′. role-end r x y n m′ .1)
-  role-leaf down r x n = (λ y m. role-start r x y n m .0, λ y m m′. role-start r x y n m .1)
+  role-leaf : (d : Direction) (r x t : ℕ) → Kept x t → T (not (roleMoves c r x d)) → UnmovedKept Kept (farType relationships r) d (farEnds g r x) (farEnds (after S g es) r x)
+  role-leaf up r x t k n = (λ y m. role-end r x y n m .0, λ y m m′. role-end r x y n m′ .1)
+  role-leaf down r x t k n = (λ y m. role-start r x t y k n m .0, λ y m m′. role-start r x t y k n m .1)
 
   -- ---- types
 
@@ -138,10 +144,6 @@ module _ (S : Schema) (types-fit : TypesFit (S .types)) (lent : Lent) (g : Regis
       stays : (x : ℕ) → x ∈ instances types g t → Kept x t
       stays x m = all-start t x n (instance-from types g (fits .objects-ascend) x t m)
 
-  -- each step, with the object under its type before and after it
-  kept-sides : (x t : ℕ) → Kept x t → EachStep (λ g′ e. T (isUnder types g′ x t) × T (isUnder types (apply S e g′) x t)) S g es
-  kept-sides x t h = each-side S (λ g′. T (isUnder types g′ x t)) g es h
-
   -- ---- cells
 
   cell-leaf : (x t k : ℕ) → Kept x t → k < cellsOf types t → T (not (cellMoves c x k)) → cellAt g x k ≡ cellAt (after S g es) x k
@@ -180,7 +182,7 @@ module _ (S : Schema) (types-fit : TypesFit (S .types)) (lent : Lent) (g : Regis
       record {
         first-fits = fits;
         end-fits = end-register;
-        role-unmoved = λ d x t r h s n. role-leaf d r x n;
+        role-unmoved = λ d x t r h s n. role-leaf d r x t h n;
         all-unmoved = all-leaf;
         cell-unmoved = cell-leaf;
         kind-unmoved = kind-leaf;

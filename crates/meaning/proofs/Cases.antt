@@ -5,7 +5,7 @@ use Rattle.meaning.specs.Schema.{knownType, knownRelationship, typeAt, p
 use Rattle.meaning.specs.Register.{objectAt, present, isUnder, cellAt, instances, hasLink, farEnds, cellsFit, objectFits, faultyObject, linkFits, faultyLink, objectFault, linkFault}
 use Rattle.meaning.specs.Forms.{formCount, memberType, wellTyped, faultyRule, ruleFault}
 use Rattle.meaning.specs.Meaning.{compared, connected, quantified, combined, total, meaning, broken}
-use Rattle.meaning.specs.Events.{apply, after, firstMet, linked, needsType, typeNeeded, strictlyAbove, strictlyUnder, hasCell, checks, eventRefusal, refusalFrom, batchRefusal, knownEvent}
+use Rattle.meaning.specs.Events.{apply, after, firstMet, needsType, typeNeeded, strictlyAbove, strictlyUnder, hasCell, checks, eventRefusal, refusalFrom, batchRefusal, knownEvent}
 use Rattle.meaning.specs.Reach.{stepsOf, someStep, leftOf, rightOf, firstTruth, secondTruth, sourceOf, secondTerm, roleMoves, allMoves, cellMoves, kindMoves, moves, roleOfSelf, quietQuantifier}
 use Rattle.meaning.specs.Reach.{quietConnective, quietly, quiet, inserted, specialised, broughtIn, selected, pairsFrom, contextPairs, ofRule, selectedPairs}
 use Rattle.meaning.specs.EventList.{eventTypeWords, whereParent, roleLists, allLists, kindLists, lists, contextLists, eventList}
@@ -17,7 +17,7 @@ pub cases-hold : CasesHold
 unfolding table resultOf everything validId fitsWord knownType knownRelationship typeAt parentOf cellsOf hasParent climbs under knownRole relationshipAt
     sourceType targetType nearType farType parentFits faultyType faultyRelationship typeFault relationshipFault objectAt present isUnder cellAt
     instances hasLink farEnds cellsFit objectFits faultyObject linkFits faultyLink objectFault linkFault formCount memberType wellTyped faultyRule
-    ruleFault compared connected quantified combined total meaning broken apply after firstMet linked needsType typeNeeded strictlyAbove strictlyUnder
+    ruleFault compared connected quantified combined total meaning broken apply after firstMet needsType typeNeeded strictlyAbove strictlyUnder
     hasCell knownEvent checks eventRefusal refusalFrom batchRefusal stepsOf someStep leftOf rightOf firstTruth secondTruth sourceOf secondTerm roleMoves
     allMoves cellMoves kindMoves moves roleOfSelf quietQuantifier quietConnective quietly quiet inserted specialised broughtIn selected pairsFrom
     contextPairs ofRule selectedPairs eventTypeWords whereParent roleLists allLists kindLists lists contextLists eventList refusalAt bookRefusal

@@ -2,7 +2,7 @@
 -- change only as the reach rules' tests of a step say.
 use Prim.Native.Nat.{ℕ, _<_, _≤_, _-_, min}
 use mathlib.Core.Path.{_≡_, refl, sym, ap, subst, _∙_}
-use mathlib.Core.Logic.{⊎-elim}
+use mathlib.Core.Logic.{_⊎_, inl, inr, ⊎-elim}
 use mathlib.Core.Bool.{Bool, true, false, _&&_, _||_, not, cond}
 use mathlib.Core.List.{List, [], _∷_, Memᴰ·cast}
 use mathlib.Core.Option.{Option, none, some, Option·map, Option·none-ne-some, Option·some-ne-none, Option·some-injective}
@@ -12,14 +12,14 @@ use lib.Dec.{T, ltb, eqb, eqb-refl}
 use lib.ListN.{length, getD, take, drop, replicate, length-append, length-replicate, length-set, length-map, List·getD-append}
 use lib.Seq.{length-take-le, drop-set-lt, drop-at, drop-drop, getD-take, getD-set-other}
 use lib.IntN.{ℤ, pos}
-use mir.Facts.{and-yes, yes-and, or-no, T-not, not-T, T-not-not, eqb-yes, yes-eqb, eqb-no, ltb-yes, leb-no}
+use mir.Facts.{and-yes, yes-and, or-yes, or-no, T-not, not-T, T-not-not, eqb-yes, yes-eqb, eqb-no, ltb-yes, leb-no}
 use Rattle.meaning.specs.Lists.{every, keep, putInOrder, _∈_, Ascending, Before}
 use Rattle.meaning.specs.Limits.{cellCount, maxObjects, validId, fitsWord}
-use Rattle.meaning.specs.Schema.{ObjectType, Relationship, Schema, knownType, knownRelationship, cellsOf, under, sourceType, targetType}
-use Rattle.meaning.specs.Register.{Object, Link, Register, objectKey, linkKey, objectAt, present, isUnder, cellAt, sameLink, hasLink, startsAt, isZero, objectFits, linkFits}
-use Rattle.meaning.specs.Events.{Event, insert, delete, set, join, part, special, general, Lent, linkOf, newObject, clearedFrom, withCell, withType, withHigherType, amended, apply, Check}
-use Rattle.meaning.specs.Events.{_when_, firstMet, linked, needsType, typeNeeded, strictlyAbove, strictlyUnder, hasCell, checks, eventRefusal, knownEvent}
-use Rattle.meaning.specs.Reach.{stepAt, joined, parted, setsCell, insertsInto, specialisesInto, deletesFrom, generalisesFrom}
+use Rattle.meaning.specs.Schema.{ObjectType, Relationship, Schema, knownType, knownRelationship, cellsOf, under, relationshipOf, forward, sourceType, targetType}
+use Rattle.meaning.specs.Register.{Object, Link, Register, objectKey, linkKey, objectAt, present, isUnder, cellAt, sameLink, hasLink, nearEnd, farEnd, startsAt, isZero, objectFits, linkFits}
+use Rattle.meaning.specs.Events.{Event, insert, delete, set, join, part, special, general, Lent, linkOf, newObject, clearedFrom, withCell, withType, withHigherType, amended, endsAt, apply, Check}
+use Rattle.meaning.specs.Events.{_when_, firstMet, needsType, typeNeeded, strictlyAbove, strictlyUnder, hasCell, checks, eventRefusal, knownEvent}
+use Rattle.meaning.specs.Reach.{stepAt, joined, partNamed, leadsTo, taken, parted, setsCell, insertsInto, specialisesInto, deletesFrom, generalisesFrom}
 use Rattle.meaning.proofs.Lists.{not-and-left, not-sub, decide, first-absent, first-keep, first-map, every-drop, every-take, every-append, every-replicate, every-set, holds-some, cond-yes, cond-no, any-none, keep-in, keep-from, length-keep, ascending-keep, ascending-map}
 use Rattle.meaning.proofs.Order.{first-put, length-put, put-from, put-other, put-has, put-ascending}
 use Rattle.meaning.proofs.Schemas.{TypesFit, under-trans, under-cells}
@@ -325,18 +325,28 @@ module _ (S : Schema) (types-fit : TypesFit (S .types)) (lent : Lent) (g : Regis
   abbrev Leaves : Event → ℕ → ℕ → Type 0
   Leaves e x t = T (not (deletesFrom types t (eqb x) (stepAt g e))) × T (not (generalisesFrom types t (eqb x) (stepAt g e)))
 
-  -- a link holds its ends in their types: refusal 12
-  link-holds : (e : Event) → eventRefusal S lent g e ≡ none → (l : Link) → l ∈ g .links → Leaves e (l .source) (sourceType relationships (l .relationship)) × Leaves e (l .target) (targetType relationships (l .relationship))
-  unfolding checks knownEvent linked needsType typeNeeded
-  link-holds (insert id t) ok l m = ((tt, tt), (tt, tt))
-  link-holds (delete id) ok l m =
-      let n = or-no (eqb (l .source) id) (eqb (l .target) id) (any-none (λ l. eqb (l .source) id || eqb (l .target) id) (clear S lent g (delete id) ok .1 .1 .0) m) in
-      ((not-and-left (eqb (l .source) id) _ (n .0), tt), (not-and-left (eqb (l .target) id) _ (n .1), tt))
-  link-holds (set id k v) ok l m = ((tt, tt), (tt, tt))
-  link-holds (join r a b) ok l m = ((tt, tt), (tt, tt))
-  link-holds (part r a b) ok l m = ((tt, tt), (tt, tt))
-  link-holds (special id t) ok l m = ((tt, tt), (tt, tt))
-  link-holds (general id t) ok l m =
+  -- a delete takes the link along
+  abbrev goesWith : Event → Link → Bool
+  goesWith (insert id t) l = false
+  goesWith (delete id) l = endsAt id l
+  goesWith (set id k v) l = false
+  goesWith (join r a b) l = false
+  goesWith (part r a b) l = false
+  goesWith (special id t) l = false
+  goesWith (general id t) l = false
+
+  -- a link that does not go with its object holds its ends in their types: refusal 12
+  link-holds : (e : Event) → eventRefusal S lent g e ≡ none → (l : Link) → l ∈ g .links → T (not (goesWith e l)) → Leaves e (l .source) (sourceType relationships (l .relationship)) × Leaves e (l .target) (targetType relationships (l .relationship))
+  unfolding checks knownEvent needsType typeNeeded
+  link-holds (insert id t) ok l m n = ((tt, tt), (tt, tt))
+  link-holds (delete id) ok l m n =
+      let apart = or-no (eqb (l .source) id) (eqb (l .target) id) n in
+      ((not-and-left (eqb (l .source) id) _ (apart .0), tt), (not-and-left (eqb (l .target) id) _ (apart .1), tt))
+  link-holds (set id k v) ok l m n = ((tt, tt), (tt, tt))
+  link-holds (join r a b) ok l m n = ((tt, tt), (tt, tt))
+  link-holds (part r a b) ok l m n = ((tt, tt), (tt, tt))
+  link-holds (special id t) ok l m n = ((tt, tt), (tt, tt))
+  link-holds (general id t) ok l m stays =
       let n = or-no (needs (l .source) (sourceType relationships (l .relationship))) (needs (l .target) (targetType relationships (l .relationship))) (any-none (needsType S id t) (clear S lent g (general id t) ok .1 .1 .1 .0) m) in
       ((tt, not-out (l .source) (sourceType relationships (l .relationship)) (n .0)), (tt, not-out (l .target) (targetType relationships (l .relationship)) (n .1)))
     where
@@ -351,10 +361,10 @@ module _ (S : Schema) (types-fit : TypesFit (S .types)) (lent : Lent) (g : Regis
           yes-and (eqb x id) (not (under types t s)) (p .0) (and-yes (isUnder types g id s) (not (under types t s)) (p .1) .1))
           n
 
-  old-link-fits : (e : Event) → eventRefusal S lent g e ≡ none → (l : Link) → l ∈ g .links → T (linkFits S (apply S e g) l)
-  old-link-fits e ok l m =
+  old-link-fits : (e : Event) → eventRefusal S lent g e ≡ none → (l : Link) → l ∈ g .links → T (not (goesWith e l)) → T (linkFits S (apply S e g) l)
+  old-link-fits e ok l m n =
       let p = link-parts S g l (fits .links-fit l m) in
-      let h = link-holds e ok l m in
+      let h = link-holds e ok l m n in
       link-whole S (apply S e g) l (p .0) (
         under-stays e ok (l .source) (sourceType relationships (l .relationship)) (h .0 .0) (h .0 .1) (p .1 .0),
         under-stays e ok (l .target) (targetType relationships (l .relationship)) (h .1 .0) (h .1 .1) (p .1 .1),
@@ -363,7 +373,7 @@ module _ (S : Schema) (types-fit : TypesFit (S .types)) (lent : Lent) (g : Regis
   links-ascend-after : (e : Event) → Ascending (Before linkKey) ((apply S e g) .links)
   unfolding apply
   links-ascend-after (insert id t) = fits .links-ascend
-  links-ascend-after (delete id) = fits .links-ascend
+  links-ascend-after (delete id) = ascending-keep (Before linkKey) (λ l. not (endsAt id l)) (g .links) (fits .links-ascend)
   links-ascend-after (set id k v) = fits .links-ascend
   links-ascend-after (join r a b) = put-ascending linkKey 3 (λ l. refl) (linkOf r a b) (g .links) (fits .links-ascend)
   links-ascend-after (part r a b) = ascending-keep (Before linkKey) (λ l. not (sameLink (linkOf r a b) l)) (g .links) (fits .links-ascend)
@@ -380,17 +390,17 @@ module _ (S : Schema) (types-fit : TypesFit (S .types)) (lent : Lent) (g : Regis
 
   links-fit-after : (e : Event) → eventRefusal S lent g e ≡ none → (l : Link) → l ∈ (apply S e g) .links → T (linkFits S (apply S e g) l)
   unfolding apply
-  links-fit-after (insert id t) ok l m = old-link-fits (insert id t) ok l m
-  links-fit-after (delete id) ok l m = old-link-fits (delete id) ok l m
-  links-fit-after (set id k v) ok l m = old-link-fits (set id k v) ok l m
+  links-fit-after (insert id t) ok l m = old-link-fits (insert id t) ok l m tt
+  links-fit-after (delete id) ok l m = let k = keep-from (λ l. not (endsAt id l)) (g .links) m in old-link-fits (delete id) ok l (k .0) (k .1)
+  links-fit-after (set id k v) ok l m = old-link-fits (set id k v) ok l m tt
   links-fit-after (join r a b) ok l m =
       ⊎-elim
       (λ (q : l ≡ linkOf r a b). subst (λ k. T (linkFits S (apply S (join r a b) g) k)) (sym q) (new-link-fits r a b ok))
-      (λ (n : l ∈ g .links). old-link-fits (join r a b) ok l n)
+      (λ (n : l ∈ g .links). old-link-fits (join r a b) ok l n tt)
       (put-from linkKey (linkOf r a b) (g .links) m)
-  links-fit-after (part r a b) ok l m = old-link-fits (part r a b) ok l (keep-from (λ l. not (sameLink (linkOf r a b) l)) (g .links) m .0)
-  links-fit-after (special id t) ok l m = old-link-fits (special id t) ok l m
-  links-fit-after (general id t) ok l m = old-link-fits (general id t) ok l m
+  links-fit-after (part r a b) ok l m = old-link-fits (part r a b) ok l (keep-from (λ l. not (sameLink (linkOf r a b) l)) (g .links) m .0) tt
+  links-fit-after (special id t) ok l m = old-link-fits (special id t) ok l m tt
+  links-fit-after (general id t) ok l m = old-link-fits (general id t) ok l m tt
 
   pub apply-fits : (e : Event) → eventRefusal S lent g e ≡ none → RegisterFits S (apply S e g)
   apply-fits e ok =
@@ -403,25 +413,46 @@ module _ (S : Schema) (types-fit : TypesFit (S .types)) (lent : Lent) (g : Regis
 
   -- ---- links
 
-  -- a link of the role from x that the event does not part
-  pub link-stays : (e : Event) → eventRefusal S lent g e ≡ none → (r x : ℕ) (l : Link) → T (startsAt r x l) → T (not (parted r x (stepAt g e))) → T (hasLink g l) → T (hasLink (apply S e g) l)
+  -- an object that is there after a delete is not the deleted one
+  not-deleted : (id x : ℕ) → T (present (apply S (delete id) g) x) → T (not (eqb x id))
+  unfolding present
+  not-deleted id x p = not-T (eqb x id) (λ e. rw (deleted-at g id S) at (subst (λ y. T (present (apply S (delete id) g) y)) (eqb-yes e) p))
+
+  -- a link of the role from x is not at an end of a deleted object that is not x, and to which none of the role leads
+  stays-apart : (r x id : ℕ) (l : Link) → T (startsAt r x l) → T (not (eqb x id)) → T (not (leadsTo r x id l)) → T (not (endsAt id l))
+  stays-apart r x id l s n far = not-T (endsAt id l) (λ t. apart (ends (forward r) t))
+    where
+      ends : (b : Bool) → T (endsAt id l) → T (eqb (cond b (l .source) (l .target)) id) ⊎ T (eqb (cond b (l .target) (l .source)) id)
+      ends true t = or-yes (eqb (l .source) id) (eqb (l .target) id) t
+      ends false t = ⊎-elim inr inl (or-yes (eqb (l .source) id) (eqb (l .target) id) t)
+
+      apart : T (eqb (nearEnd r l) id) ⊎ T (eqb (farEnd r l) id) → ⊥
+      apart (inl t) = T-not (eqb x id) (subst (λ y. T (eqb y id)) (eqb-yes (and-yes (eqb (l .relationship) (relationshipOf r)) (eqb (nearEnd r l) x) s .1)) t) n
+      apart (inr t) = T-not (leadsTo r x id l) (yes-and (not (eqb x id)) _ n (yes-and (startsAt r x l) (eqb (farEnd r l) id) s t)) far
+
+  -- a link of the role from x, an object that is there after the event, which the event does not part
+  pub link-stays : (e : Event) → eventRefusal S lent g e ≡ none → (r x : ℕ) (l : Link) → T (present (apply S e g) x) → T (startsAt r x l) → T (not (parted r x (stepAt g e))) → T (hasLink g l) → T (hasLink (apply S e g) l)
   unfolding apply hasLink
-  link-stays (insert id t) ok r x l s n h = h
-  link-stays (delete id) ok r x l s n h = h
-  link-stays (set id k v) ok r x l s n h = h
-  link-stays (join q a b) ok r x l s n h = link-has (apply S (join q a b) g) l (put-other linkKey (linkOf q a b) (g .links) (link-in g l h))
-  link-stays (part q a b) ok r x l s n h =
+  link-stays (insert id t) ok r x l p s n h = h
+  link-stays (delete id) ok r x l p s n h =
+      let m = link-in g l h in
+      link-has (apply S (delete id) g) l
+      (keep-in (λ l. not (endsAt id l)) m (stays-apart r x id l s (not-deleted id x p) (any-none (leadsTo r x id) n m)))
+  link-stays (set id k v) ok r x l p s n h = h
+  link-stays (join q a b) ok r x l p s n h = link-has (apply S (join q a b) g) l (put-other linkKey (linkOf q a b) (g .links) (link-in g l h))
+  link-stays (part q a b) ok r x l p s n h =
       link-has (apply S (part q a b) g) l
       (keep-in (λ l. not (sameLink (linkOf q a b) l)) (link-in g l h)
-      (not-sub (sameLink (linkOf q a b) l) (startsAt r x (linkOf q a b)) (λ t. subst (λ k. T (startsAt r x k)) (sym (same-link (linkOf q a b) l t)) s) n))
-  link-stays (special id t) ok r x l s n h = h
-  link-stays (general id t) ok r x l s n h = h
+      (not-sub (sameLink (linkOf q a b) l) (startsAt r x (linkOf q a b)) (λ t. subst (λ k. T (startsAt r x k)) (sym (same-link (linkOf q a b) l t)) s) (or-no (startsAt r x (linkOf q a b)) false n .0)))
+  link-stays (special id t) ok r x l p s n h = h
+  link-stays (general id t) ok r x l p s n h = h
 
   -- a link of the role from x, of which the test holds, and that the event does not join
   pub link-was : (e : Event) → eventRefusal S lent g e ≡ none → (r x : ℕ) (test : Link → Bool) (l : Link) → T (startsAt r x l) → T (test l) → T (not (joined r x test (stepAt g e))) → T (hasLink (apply S e g) l) → T (hasLink g l)
   unfolding apply hasLink
   link-was (insert id t) ok r x test l s u n h = h
-  link-was (delete id) ok r x test l s u n h = h
+  link-was (delete id) ok r x test l s u n h =
+      link-has g l (keep-from (λ l. not (endsAt id l)) (g .links) (link-in (apply S (delete id) g) l h) .0)
   link-was (set id k v) ok r x test l s u n h = h
   link-was (join q a b) ok r x test l s u n h =
       ⊎-elim

@@ -60,7 +60,7 @@ EachStep Q S g [] = Unit {0}
 EachStep Q S g (e ∷ es) = Q g e × EachStep Q S (apply S e g) es
 
 abbrev pub StepFits : Schema → Step → Type 0
-StepFits S s = EventFits S (s .met) (s .event)
+StepFits S s = EventFits S (s .met) (s .event) × RegisterFits S (s .met)
 
 abbrev pub StepsFit : Change → Type 0
 StepsFit c = (s : Step) → s ∈ c .steps → StepFits (c .schema) s
@@ -172,10 +172,10 @@ module _ (S : Schema) where
     limit-kept g (e ∷ es) f u h =
         limit-kept (apply S e g) es (apply-fits S types-fit lent g f e (u .0)) (u .1) (objects-limit S types-fit lent g f e (u .0) h)
 
-  -- what refusal 11 leaves of each step
-  pub steps-fit : (lent : Lent) (g : Register) (es : List Event) → Unrefused S lent g es → StepsFit (changeBy S g es)
-  unfolding stepsOf
-  steps-fit lent g [] u s m = absurd (List·Memᴰ·not-nil m)
-  steps-fit lent g (e ∷ es) u s m =
-      ⊎-elim (λ (q : s ≡ stepAt g e). subst (StepFits S) (sym q) (event-fits S lent g e (u .0)))
-      (λ n. steps-fit lent (apply S e g) es (u .1) s n) (List·Memᴰ·cases-cons m)
+    -- what no refusal leaves of each step: what refusal 11 does of its event, and what refusal 5 does of the register that it met
+    pub steps-fit : (g : Register) (es : List Event) → RegisterFits S g → Unrefused S lent g es → StepsFit (changeBy S g es)
+    unfolding stepsOf
+    steps-fit g [] f u s m = absurd (List·Memᴰ·not-nil m)
+    steps-fit g (e ∷ es) f u s m =
+        ⊎-elim (λ (q : s ≡ stepAt g e). subst (StepFits S) (sym q) (event-fits S lent g e (u .0), f))
+        (λ n. steps-fit (apply S e g) es (apply-fits S types-fit lent g f e (u .0)) (u .1) s n) (List·Memᴰ·cases-cons m)

@@ -86,7 +86,7 @@ batch-agreement k lent g es e h = let o = outcome-is k lent g es e in rw (o .1) 
 pub untouched : Untouched
 untouched k lent g es ok n r e =
     let kn = known k lent g es ok in
-    Touched.untouched (changeOf k g es) (kn .types) (end-register k lent g es ok) (steps-fit (k .schema) lent g es (events-fit k lent g es ok)) r (kn .typed n r e)
+    Touched.untouched (changeOf k g es) (kn .types) (end-register k lent g es ok) (steps-fit (k .schema) (kn .types) lent g es (kn .register) (events-fit k lent g es ok)) r (kn .typed n r e)
 
 pub event-list-ascending : EventListAscends
 event-list-ascending k r = event-list-ascends (k .schema) r

@@ -6,14 +6,14 @@ use mathlib.Core.Bool.{Bool, false, _&&_, _||_, not, cond}
 use mathlib.Core.List.{List, [], _∷_, _++_, foldr, List·Memᴰ·head, List·Memᴰ·tail, Memᴰ·cast, Memᴰ·append-left, Memᴰ·append-right}
 use lib.Dec.{T, ltb, eqb}
 use lib.ListN.{length, getD}
-use mir.Facts.{and-yes, or-yes, T-not, not-T, ltb-yes}
+use mir.Facts.{and-yes, or-yes, T-not, not-T, eqb-yes, ltb-yes}
 use Rattle.meaning.specs.Lists.{any, putInOrder, _∈_, Ascending, Before}
-use Rattle.meaning.specs.Schema.{ObjectType, Relationship, Schema, cellsOf, hasParent, under, relationshipOf}
-use Rattle.meaning.specs.Register.{Link, Register, objectAt, isUnder, nearEnd, startsAt, hasLink}
+use Rattle.meaning.specs.Schema.{ObjectType, Relationship, Schema, cellsOf, hasParent, under, relationshipOf, farType}
+use Rattle.meaning.specs.Register.{Link, Register, objectAt, isUnder, nearEnd, farEnd, startsAt, hasLink}
 use Rattle.meaning.specs.Forms.{Sort, truth, collection, Form, compare, negate, connect, quantify, kind, num, cell, size, sum, combine, role, all, select, bind, variable, memberType, wellTyped, Rule}
 use Rattle.meaning.specs.Meaning.{meaning}
 use Rattle.meaning.specs.Events.{Event, insert, delete, set, join, part, special, general, linkOf, strictlyAbove, strictlyUnder}
-use Rattle.meaning.specs.Reach.{Step, stepAt, Change, someStep, Kind, inserts, sets, joins, parts, specials, generals, among, setsCell, insertsInto, specialisesInto, deletesFrom, generalisesFrom, anyone, Direction, up, down, opposite, Passing, same}
+use Rattle.meaning.specs.Reach.{Step, stepAt, Change, someStep, Kind, inserts, sets, joins, parts, specials, generals, among, partNamed, leadsTo, taken, setsCell, insertsInto, specialisesInto, deletesFrom, generalisesFrom, anyone, Direction, up, down, opposite, Passing, same}
 use Rattle.meaning.specs.Reach.{reversed, either, through, leftOf, rightOf, firstTruth, secondTruth, sourceOf, secondTerm, roleMoves, allMoves, cellMoves, kindMoves, moves, quiet, inserted, specialised, broughtIn, selected}
 use Rattle.meaning.specs.EventList.{EventType, insertOf, deleteOf, setOf, joinOf, partOf, specialOf, generalOf, eventTypeWords, whereParent, roleLists, allLists, kindLists, lists, contextLists, eventList, occurs, touched}
 use Rattle.meaning.proofs.Lists.{holds-some, or-left, or-right, decide, cond-yes, cond-no, any-of, any-cases, keep-from}
@@ -22,7 +22,7 @@ use Rattle.meaning.proofs.Schemas.{TypesFit, under-refl, under-linear, 
 use Rattle.meaning.proofs.Variables.{Each, each-at, each-bind}
 use Rattle.meaning.proofs.Effects.{EventFits}
 use Rattle.meaning.proofs.Steps.{among-map, among-whom, holds-at, some-map, StepsFit}
-use Rattle.meaning.proofs.Registers.{RegisterFits, instance-from, far-from, far-under}
+use Rattle.meaning.proofs.Registers.{RegisterFits, instance-from, link-has, far-from, far-under}
 
 -- ---- a special or a general does not enter or leave a type without a parent
 
@@ -164,6 +164,10 @@ module _ (c : Change) where
   unfolding someStep
   step-of did = any-cases did (c .steps)
 
+  some-step : (did : Step → Bool) {s : Step} → s ∈ c .steps → T (did s) → T (someStep c did)
+  unfolding someStep
+  some-step did m h = any-of did m h
+
   some-either : (a b : Step → Bool) → T (someStep c (λ s. a s || b s)) → T (someStep c a || someStep c b)
   unfolding someStep
   some-either a b t =
@@ -175,16 +179,7 @@ module _ (c : Change) where
   some-anyone : (which : Kind) (did : Step → ℕ → ℕ → ℕ → Bool) (whom : ℕ → Bool) → T (someStep c (λ s. among which (λ x y z. whom x && did s x y z) (s .event))) → T (someStep c (λ s. among which (did s) (s .event)))
   some-anyone which did whom = some-map c _ _ (λ s. among-map which _ _ (λ x y z t. and-yes (whom x) (did s x y z) t .1) (s .event))
 
-  -- ---- what moves a role or a cell is listed
-
-  role-listed : (r u : ℕ) (d : Direction) → T (roleMoves c r u d) → T (occur (roleLists r d))
-  unfolding roleMoves roleLists occurs
-  role-listed r u up h =
-      any-of (occurs c) {l = roleLists r up} (List·Memᴰ·head refl)
-      (some-map c _ _
-      (λ s. among-map joins _ _ (λ n a b t. starts-relationship r u (linkOf n a b) (and-yes (startsAt r u (linkOf n a b)) (hasLink (c .end) (linkOf n a b)) t .0)) (s .event)) h)
-  role-listed r u down h =
-      any-of (occurs c) {l = roleLists r down} (List·Memᴰ·head refl) (some-map c _ _ (λ s. among-map parts _ _ (λ n a b. starts-relationship r u (linkOf n a b)) (s .event)) h)
+  -- ---- what moves a cell is listed
 
   cell-listed : (u t k : ℕ) → T (isUnder types (c .end) u t) → T (cellMoves c u k) → T (occurs c (setOf t k))
   unfolding cellMoves occurs
@@ -227,13 +222,42 @@ module _ (c : Change) where
     unfolding occurs
     special-listed t h =
         let s = step-of (specialisesInto types t anyone) h in
-        where-parent t (specialOf t) (special-parent S types-fit t (s .0 .met) (s .0 .event) (steps-fit (s .0) (s .1)) (s .2)) h
+        where-parent t (specialOf t) (special-parent S types-fit t (s .0 .met) (s .0 .event) (steps-fit (s .0) (s .1) .0) (s .2)) h
 
     general-listed : (t : ℕ) → T (occurs c (generalOf t)) → T (occur (whereParent S t (generalOf t)))
     unfolding occurs
     general-listed t h =
         let s = step-of (generalisesFrom types t anyone) h in
-        where-parent t (generalOf t) (general-parent S types-fit t (s .0 .met) (s .0 .event) (steps-fit (s .0) (s .1)) (s .2)) h
+        where-parent t (generalOf t) (general-parent S types-fit t (s .0 .met) (s .0 .event) (steps-fit (s .0) (s .1) .0) (s .2)) h
+
+    -- a delete that takes a link of a role takes an object out of the role's far type
+    taken-out : (r u : ℕ) (s : Step) → RegisterFits S (s .met) → (e : Event) → T (taken r u (stepAt (s .met) e)) → T (deletesFrom types (farType relationships r) anyone (stepAt (s .met) e))
+    unfolding hasLink
+    taken-out r u s f (insert id t) h = absurd h
+    taken-out r u s f (delete id) h =
+        let l = any-cases (leadsTo r u id) (s .met .links) h in
+        let leads = and-yes (not (eqb u id)) _ (l .2) .1 in
+        let at = and-yes (startsAt r u (l .0)) (eqb (farEnd r (l .0)) id) leads in
+        subst (λ x. T (isUnder types (s .met) x (farType relationships r))) (eqb-yes (at .1)) (far-under S (s .met) f r u (l .0) (link-has (s .met) (l .0) (l .1)) (at .0))
+    taken-out r u s f (set id k v) h = absurd h
+    taken-out r u s f (join q a b) h = absurd h
+    taken-out r u s f (part q a b) h = absurd h
+    taken-out r u s f (special id t) h = absurd h
+    taken-out r u s f (general id t) h = absurd h
+
+    role-listed : (r u : ℕ) (d : Direction) → T (roleMoves c r u d) → T (occur (roleLists S r d))
+    unfolding roleMoves roleLists occurs
+    role-listed r u up h =
+        one-listed (joinOf (relationshipOf r))
+        (some-map c _ _
+        (λ s. among-map joins _ _ (λ n a b t. starts-relationship r u (linkOf n a b) (and-yes (startsAt r u (linkOf n a b)) (hasLink (c .end) (linkOf n a b)) t .0)) (s .event)) h)
+    role-listed r u down h =
+        occur-either (someStep c (partNamed r u)) (someStep c (taken r u)) (partOf (relationshipOf r) ∷ []) (deleteOf (farType relationships r) ∷ [])
+        (λ p. one-listed (partOf (relationshipOf r)) (some-map c _ _ (λ s. among-map parts _ _ (λ n a b. starts-relationship r u (linkOf n a b)) (s .event)) p))
+        (λ p.
+        let s = step-of (taken r u) p in
+        one-listed (deleteOf (farType relationships r)) (some-step (deletesFrom types (farType relationships r) anyone) (s .1) (taken-out r u (s .0) (steps-fit (s .0) (s .1) .1) (s .0 .event) (s .2))))
+        (some-either (partNamed r u) (taken r u) h)
 
     all-listed : (t : ℕ) (d : Direction) → T (allMoves c t d) → T (occur (allLists S t d))
     unfolding allMoves allLists occurs

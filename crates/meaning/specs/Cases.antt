@@ -9,10 +9,10 @@ use lib.IntN.{ℤ, pos}
 use Rattle.meaning.specs.Limits.{cellCount}
 use Rattle.meaning.specs.Schema.{ObjectType, Relationship, Schema}
 use Rattle.meaning.specs.Register.{Object, Link, Register}
-use Rattle.meaning.specs.Forms.{truth, le, ge, gt, and, or, forall, add, Form, compare, connect, quantify, kind, num, cell, size, sum, combine, role, all, select, Rule, Book}
+use Rattle.meaning.specs.Forms.{truth, le, ge, gt, and, or, forall, exists, add, Form, compare, connect, quantify, kind, num, cell, size, sum, combine, role, all, select, Rule, Book}
 use Rattle.meaning.specs.Events.{Event, insert, delete, set, join, part, special, general, Lent, linkOf, Refusal}
 use Rattle.meaning.specs.Reach.{Pair, pairOf}
-use Rattle.meaning.specs.EventList.{EventType, insertOf, setOf, joinOf, partOf, specialOf, eventList}
+use Rattle.meaning.specs.EventList.{EventType, insertOf, deleteOf, setOf, joinOf, partOf, specialOf, eventList}
 use Rattle.meaning.specs.Answers.{Answer, accepted, brokenAt, refused, bookRefusal, Outcome, batchCheck}
 
 -- ---- what a case gives and what it must show
@@ -85,6 +85,10 @@ registerA = parkA [] (pos 25) linkA
 -- the register after `insert 12 0`
 abbrev withTwelve : Register
 withTwelve = parkA (object 12 0 [] ∷ []) (pos 25) linkA
+
+-- the register after `delete 20`, which takes the link along
+abbrev withoutTwenty : Register
+withoutTwenty = record { objects = object 10 0 (pos 30 ∷ []) ∷ object 11 0 (pos 30 ∷ []) ∷ []; links = [] }
 
 -- a batch for a book of one rule, and its answer, its pairs and the register that it leaves
 abbrev caseBy : Schema → Rule → Register → List Event → Answer → List Pair → Register → Case
@@ -166,6 +170,23 @@ quietBelow = record { context = 1; body = quantify forall (role 0 0) (compare le
 abbrev registerS : Register
 registerS = record { objects = object 10 0 [] ∷ object 11 1 (pos 7 ∷ []) ∷ []; links = linkOf 0 10 11 ∷ [] }
 
+-- ---- deletes that take links along (Req 01)
+
+-- quiet, and yet a loss may turn it false: what is listed of it after an insert is listed for a loss
+abbrev someOrNone : Rule
+someOrNone = record { context = 0; body = connect or (quantify forall (role 0 0) (kind 0 0)) (quantify exists (role 0 0) (kind 0 0)) }
+
+-- two types, and a relationship between them, or of the first with itself
+abbrev schemaD : ℕ → Schema
+schemaD target = record { types = top 1 ∷ top 1 ∷ []; relationships = from-to 0 target ∷ [] }
+
+abbrev registerD : List Object → List Link → Register
+registerD more links = record { objects = object 1 0 [] ∷ more; links = links }
+
+-- a rule that a loss alone turns false
+abbrev someRule : Rule
+someRule = record { context = 0; body = compare ge (size (role 0 0)) (num (pos 1)) }
+
 unfoldable pub table : List Case
 table =
     -- (a) to (f)
@@ -177,18 +198,23 @@ table =
     ∷ caseA (insert 12 0 ∷ []) accepted (pairOf 0 12 ∷ []) withTwelve
     -- (g) to (i)
     ∷ caseBy schemaA eachRule registerA (insert 12 0 ∷ []) accepted [] withTwelve
-    ∷ caseA (delete 20 ∷ []) (refused 12 0) [] registerA
+    ∷ caseA (delete 20 ∷ []) accepted (pairOf 0 10 ∷ []) withoutTwenty
     ∷ caseA (join 0 10 20 ∷ []) (refused 9 0) [] registerA
     -- (j) to (m), and NotTooPendingSales
     ∷ caseOf validShipDate (setOf 0 1 ∷ setOf 1 0 ∷ joinOf 0 ∷ [])
     ∷ caseOf correctProduct (insertOf 2 ∷ setOf 2 0 ∷ setOf 2 1 ∷ [])
-    ∷ caseOf atLeastThreeCustomers (insertOf 4 ∷ partOf 1 ∷ [])
+    ∷ caseOf atLeastThreeCustomers (insertOf 4 ∷ deleteOf 5 ∷ partOf 1 ∷ [])
     ∷ caseOf numberOfRestrictedProducts (insertOf 3 ∷ specialOf 3 ∷ [])
-    ∷ caseOf notTooPendingSales (setOf 0 0 ∷ setOf 0 1 ∷ setOf 4 0 ∷ joinOf 1 ∷ joinOf 2 ∷ partOf 2 ∷ [])
+    ∷ caseOf notTooPendingSales (deleteOf 0 ∷ setOf 0 0 ∷ setOf 0 1 ∷ setOf 4 0 ∷ joinOf 1 ∷ joinOf 2 ∷ partOf 2 ∷ [])
     -- beyond (m)
     ∷ caseBy schemaA selectRule registerA (insert 12 0 ∷ []) accepted (pairOf 0 12 ∷ []) withTwelve
     ∷ caseBy schemaK kindRule registerK (general 10 0 ∷ special 10 1 ∷ []) accepted (pairOf 0 10 ∷ []) registerK
     ∷ caseBy schemaK quietOrCell registerK (set 10 0 (pos 3) ∷ delete 10 ∷ insert 10 1 ∷ []) accepted (pairOf 0 10 ∷ []) registerK
     ∷ caseBy schemaK quietOrCell registerK (delete 10 ∷ insert 10 1 ∷ []) accepted [] registerK
     ∷ caseBy schemaK quietBelow registerS (special 10 1 ∷ []) (brokenAt 0 10) (pairOf 0 10 ∷ []) registerS
+    -- deletes: the deleted id inserted again; a link of an object to itself; the far object deleted, inserted and joined again
+    ∷ caseBy (schemaD 1) someOrNone (registerD (object 2 1 [] ∷ []) (linkOf 0 1 2 ∷ [])) (delete 1 ∷ insert 1 0 ∷ []) accepted []
+    (registerD (object 2 1 [] ∷ []) [])
+    ∷ caseBy (schemaD 0) someOrNone (registerD [] (linkOf 0 1 1 ∷ [])) (delete 1 ∷ insert 1 0 ∷ []) accepted [] (registerD [] [])
+    ∷ caseBy schemaA someRule registerA (delete 20 ∷ insert 20 1 ∷ join 0 10 20 ∷ []) accepted (pairOf 0 10 ∷ []) (parkA [] (pos 0) linkA)
     ∷ []

@@ -4,7 +4,7 @@ use mathlib.Core.Bool.{Bool, cond}
 use mathlib.Core.List.{List, [], _∷_, _++_, foldr}
 use lib.Dec.{eqb}
 use Rattle.meaning.specs.Lists.{any, putInOrder}
-use Rattle.meaning.specs.Schema.{Schema, hasParent, relationshipOf}
+use Rattle.meaning.specs.Schema.{Schema, hasParent, relationshipOf, farType}
 use Rattle.meaning.specs.Register.{isUnder}
 use Rattle.meaning.specs.Forms.{Sort, Form, compare, negate, connect, quantify, kind, num, cell, size, sum, combine, role, all, select, bind, variable, memberType, Rule}
 use Rattle.meaning.specs.Reach.{Change, someStep, inserts, deletes, sets, joins, parts, specials, generals, kindPlace, among, setsCell, insertsInto, specialisesInto, deletesFrom, generalisesFrom}
@@ -31,10 +31,10 @@ eventTypeWords (generalOf t) = kindPlace generals ∷ t ∷ 0 ∷ []
 unfoldable pub whereParent : Schema → ℕ → EventType → List EventType
 whereParent S t e = cond (hasParent (S .types) t) (e ∷ []) []
 
--- "role gain lists join, loss part"
-unfoldable pub roleLists : ℕ → Direction → List EventType
-roleLists r up = joinOf (relationshipOf r) ∷ []
-roleLists r down = partOf (relationshipOf r) ∷ []
+-- "role gain lists join, loss part"; by Req 01 "delete of the type at the role's far end is listed too" where a loss is
+unfoldable pub roleLists : Schema → ℕ → Direction → List EventType
+roleLists S r up = joinOf (relationshipOf r) ∷ []
+roleLists S r down = partOf (relationshipOf r) ∷ deleteOf (farType (S .relationships) r) ∷ []
 
 -- "`all t` gain lists insert t and special t, loss delete t and general t"
 unfoldable pub allLists : Schema → ℕ → Direction → List EventType
@@ -57,7 +57,7 @@ lists S (cell v k) ts d = setOf (variable ts v) k ∷ []
 lists S (size c) ts d = through _++_ same (lists S c ts) d
 lists S (sum c k) ts d = through _++_ either (lists S c ts) d ++ setOf (memberType (S .relationships) c) k ∷ []
 lists S (combine o a b) ts d = through _++_ same (lists S a ts) d ++ through _++_ (secondTerm o) (lists S b ts) d
-lists S (role v r) ts d = roleLists r d
+lists S (role v r) ts d = roleLists S r d
 lists S (all t) ts d = allLists S t d
 lists S (select c b) ts d = through _++_ same (lists S c ts) d ++ lists S b (bind ts (memberType (S .relationships) c)) d
 

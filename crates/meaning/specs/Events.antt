@@ -54,11 +54,16 @@ abbrev pub amended : ℕ → (Object → Object) → Register → Register
 amended id change g =
     record { objects = map (λ o. cond (eqb (o .id) id) (change o) o) (g .objects); links = g .links }
 
+-- the object is at an end of the link, or at both
+abbrev pub endsAt : ℕ → Link → Bool
+endsAt id l = eqb (l .source) id || eqb (l .target) id
+
 -- "Insert adds the object, delete takes it out, set puts v in cell k, join adds the link, part takes it out, special and
--- general put type t, cells as above; nothing else changes."
+-- general put type t, cells as above; nothing else changes." Of a delete Req 01 says besides: "`delete` removes the object's links itself."
 unfoldable pub apply : Schema → Event → Register → Register
 apply S (insert id t) g = record { objects = putInOrder objectKey (newObject id t) (g .objects); links = g .links }
-apply S (delete id) g = record { objects = keep (λ o. not (eqb (o .id) id)) (g .objects); links = g .links }
+apply S (delete id) g =
+    record { objects = keep (λ o. not (eqb (o .id) id)) (g .objects); links = keep (λ l. not (endsAt id l)) (g .links) }
 apply S (set id k v) g = amended id (withCell k v) g
 apply S (join r a b) g = record { objects = g .objects; links = putInOrder linkKey (linkOf r a b) (g .links) }
 apply S (part r a b) g = record { objects = g .objects; links = keep (λ l. not (sameLink (linkOf r a b) l)) (g .links) }
@@ -83,11 +88,7 @@ unfoldable pub firstMet : List Check → Option ℕ
 firstMet [] = none
 firstMet ((n when met) ∷ checks) = cond met (some n) (firstMet checks)
 
--- 12: "delete of a linked object"
-unfoldable pub linked : Register → ℕ → Bool
-linked g id = any (λ l. eqb (l .source) id || eqb (l .target) id) (g .links)
-
--- 12: "general out of a type a link needs"; a link of an object to itself counts at both ends
+-- 12: "general out of a type a link needs"; by Req 01 it "remains for `general` alone". A link of an object to itself counts at both ends
 unfoldable pub needsType : Schema → ℕ → ℕ → Link → Bool
 needsType S id t l =
     (eqb (l .source) id && not (under (S .types) t (sourceType (S .relationships) (l .relationship))))
@@ -127,7 +128,6 @@ checks S lent g (insert id t) =
 checks S lent g (delete id) =
     (7 when not (knownEvent S (delete id)))
     ∷ (8 when not (present g id))
-    ∷ (12 when linked g id)
     ∷ []
 checks S lent g (set id k v) =
     (7 when not (knownEvent S (set id k v)))

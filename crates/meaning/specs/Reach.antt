@@ -6,7 +6,7 @@ use lib.Dec.{eqb}
 use lib.ListN.{getElem?}
 use Rattle.meaning.specs.Lists.{any, keep, holds}
 use Rattle.meaning.specs.Schema.{ObjectType, Schema, under}
-use Rattle.meaning.specs.Register.{Link, Register, isUnder, instances, hasLink, startsAt}
+use Rattle.meaning.specs.Register.{Link, Register, isUnder, instances, hasLink, farEnd, startsAt}
 use Rattle.meaning.specs.Forms.{Sort, truth, collection, Comparison, le, lt, eq, ne, ge, gt, Connective, and, or, xor, implies, Quantifier, forall, exists, Arithmetic, add, sub, Form}
 use Rattle.meaning.specs.Forms.{compare, negate, connect, quantify, kind, num, cell, size, sum, combine, role, all, select, bind, variable, Rule, Book}
 use Rattle.meaning.specs.Meaning.{meaning}
@@ -75,8 +75,21 @@ abbrev pub joined : ℕ → ℕ → (Link → Bool) → Step → Bool
 joined r u test s = among joins (λ n a b. startsAt r u (linkOf n a b) && test (linkOf n a b)) (s .event)
 
 -- "a part named one" of the role from object u
+abbrev pub partNamed : ℕ → ℕ → Step → Bool
+partNamed r u s = among parts (λ n a b. startsAt r u (linkOf n a b)) (s .event)
+
+-- the link is one of the role from object u to another object, id
+abbrev pub leadsTo : ℕ → ℕ → ℕ → Link → Bool
+leadsTo r u id l = not (eqb u id) && (startsAt r u l && eqb (farEnd r l) id)
+
+-- A delete took a link of the role from object u to the deleted object. "Each counts as parted for the object at the other end, not for
+-- the deleted id, even if that id is inserted again" (Req 01).
+abbrev pub taken : ℕ → ℕ → Step → Bool
+taken r u s = among deletes (λ id m n. any (leadsTo r u id) (s .met .links)) (s .event)
+
+-- a link of the role from object u was parted, in one way or the other
 abbrev pub parted : ℕ → ℕ → Step → Bool
-parted r u s = among parts (λ n a b. startsAt r u (linkOf n a b)) (s .event)
+parted r u s = partNamed r u s || taken r u s
 
 -- "a set named that object and cell", of an object of which `whose` holds
 abbrev pub setsCell : (ℕ → Bool) → ℕ → Step → Bool
@@ -174,7 +187,7 @@ secondTerm sub = reversed
 -- ---- the leaves
 
 -- "A role from object u has a *gain* if a join named such a link and it is there at the end. It has a *loss* if a part named
--- one, back again or not."
+-- one, back again or not", or a delete of the object at its far end took one (Req 01).
 unfoldable pub roleMoves : Change → ℕ → ℕ → Direction → Bool
 roleMoves c r u up = someStep c (joined r u (hasLink (c .end)))
 roleMoves c r u down = someStep c (parted r u)

@@ -5,10 +5,10 @@ ghost use mathlib.Core.Path.{_≡_};
 ghost use mathlib.Core.Bool.{Bool, _&&_, not};
 ghost use Prim.Native.Nat.{ℕ, _/_, _%_, _≤_, _<_};
 ghost use lib.Dec.{eqb};
-ghost use Rattle.meaning.specs.Reach.{Change};
+ghost use Rattle.meaning.specs.Reach.{Change, someStep, taken};
 ghost use Rattle.tables.specs.Columns.{typesOf, eventOf, eventRow};
 ghost use Rattle.walks.specs.Site.{idIn};
-ghost use Rattle.trace_places.specs.Questions.{asked, questionOf, answersAt};
+ghost use Rattle.trace_places.specs.Questions.{named, asked, questionOf, answersAt};
 ghost use Rattle.trace_places.specs.Traces.{thereWord, metWord, Traced, Traces};
 
 // The questions, by what they are about: a cell; a role; a type.
@@ -110,7 +110,7 @@ pub fn answered(
     type_count: u32,
     types: &[u32],
     events: &[u32],
-    trace: &[u16; 2593],
+    trace: &[u16; 16675],
     place: u32,
     question: u32,
     x: u32,
@@ -140,23 +140,23 @@ pub fn answered(
     type_answers(type_count, types, kind, b, z, met, question, x)
 }
 
-// Whether some event of the batch answers a question about the object in a row.
-pub fn ask(
+// Whether some event of the batch that names the object in a row answers a question about it.
+fn named(
     n: Counts,
     types: &[u32],
     objects: &[u32],
     links: &[u32],
     events: &[u32],
-    trace: &[u16; 2593],
+    trace: &[u16; 16675],
     row: u32,
     question: u32,
     x: u32,
 ) -> bool
     requires { ⌜ (Traces n (now types) (now objects) (now links) (now events) (now trace)) × (row < n .objects) × (question < 6) ⌝ }
     ensures { λ r. ⌜ ((c : Change) → Traced c n (now (types .entry)) (now (objects .entry)) (now (links .entry)) (now (events .entry)) (now (trace .entry))
-        → r ≡ asked c (questionOf question x) (idIn (now (objects .entry)) row)) ⌝ }
+        → r ≡ named c (questionOf question x) (idIn (now (objects .entry)) row)) ⌝ }
 {
-    let head = (1568 + row) as usize;
+    let head = (14625 + 2 * row) as usize;
     let mut word = rows::wide(trace[head]);
     while word != 0 {
         let place = word - 1;
@@ -169,6 +169,60 @@ pub fn ask(
     false
 }
 
+// Whether a delete took a link of a role from the object in a row.
+fn lost(
+    n: Counts,
+    types: &[u32],
+    objects: &[u32],
+    links: &[u32],
+    events: &[u32],
+    trace: &[u16; 16675],
+    row: u32,
+    role: u32,
+) -> bool
+    requires { ⌜ (Traces n (now types) (now objects) (now links) (now events) (now trace)) × (row < n .objects) ⌝ }
+    ensures { λ r. ⌜ ((c : Change) → Traced c n (now (types .entry)) (now (objects .entry)) (now (links .entry)) (now (events .entry)) (now (trace .entry))
+        → r ≡ someStep c (taken role (idIn (now (objects .entry)) row))) ⌝ }
+{
+    let head = (14626 + 2 * row) as usize;
+    let mut word = rows::wide(trace[head]);
+    while word != 0 {
+        let slot = word - 1;
+        let at = (8704 + slot) as usize;
+        if rows::wide(trace[at]) == role {
+            return true;
+        }
+        let next = (4352 + slot) as usize;
+        word = rows::wide(trace[next]);
+    }
+    false
+}
+
+// Whether some event of the batch answers a question about the object in a row.
+pub fn ask(
+    n: Counts,
+    types: &[u32],
+    objects: &[u32],
+    links: &[u32],
+    events: &[u32],
+    trace: &[u16; 16675],
+    row: u32,
+    question: u32,
+    x: u32,
+) -> bool
+    requires { ⌜ (Traces n (now types) (now objects) (now links) (now events) (now trace)) × (row < n .objects) × (question < 6) ⌝ }
+    ensures { λ r. ⌜ ((c : Change) → Traced c n (now (types .entry)) (now (objects .entry)) (now (links .entry)) (now (events .entry)) (now (trace .entry))
+        → r ≡ asked c (questionOf question x) (idIn (now (objects .entry)) row)) ⌝ }
+{
+    if named(n, types, objects, links, events, trace, row, question, x) {
+        return true;
+    }
+    if question != PARTED {
+        return false;
+    }
+    lost(n, types, objects, links, events, trace, row, x)
+}
+
 // The same, asked only where both conditions hold.
 pub fn ask_if(
     first: bool,
@@ -178,7 +232,7 @@ pub fn ask_if(
     objects: &[u32],
     links: &[u32],
     events: &[u32],
-    trace: &[u16; 2593],
+    trace: &[u16; 16675],
     row: u32,
     question: u32,
     x: u32,

@@ -8,14 +8,14 @@ ghost use Prim.Native.Nat.{ℕ, _+_, _*_, _≤_, _<_};
 ghost use lib.ListN.{length, getD};
 ghost use Rattle.meaning.specs.Lists.{_∈_};
 ghost use Rattle.meaning.specs.Register.{farEnds};
-ghost use Rattle.meaning.specs.Reach.{Change, up, down};
+ghost use Rattle.meaning.specs.Reach.{Change, someStep, taken, up, down};
 ghost use Rattle.tables.specs.Columns.{typesOf, registerOf};
 ghost use Rattle.directions.specs.Sets.{has};
 ghost use Rattle.link_index.specs.Slots.{Indexed};
 ghost use Rattle.ocl.specs.Ready.{Steady};
 ghost use Rattle.walks.specs.Site.{idIn};
-ghost use Rattle.trace_places.specs.Questions.{asked, questionOf};
-ghost use Rattle.trace_places.specs.Traces.{placeAnswers, Traced, Traces};
+ghost use Rattle.trace_places.specs.Questions.{named, asked, questionOf};
+ghost use Rattle.trace_places.specs.Traces.{placeAnswers, rowLost, lossRole, Traced, Traces};
 ghost use Rattle.row_sets.specs.Sets.{Grown, Cleared};
 
 // Puts an object's row into a variable's set. What is past the objects is no row of one.
@@ -35,7 +35,7 @@ fn put_answer(
     n: Counts,
     types: &[u32],
     events: &[u32],
-    trace: &[u16; 2593],
+    trace: &[u16; 16675],
     place: u32,
     question: u32,
     x: u32,
@@ -59,6 +59,73 @@ fn put_answer(
     sets[mark] = true;
 }
 
+// Puts the rows of the objects for which some event that names them answers a question into a variable's set.
+fn put_named(
+    n: Counts,
+    types: &[u32],
+    objects: &[u32],
+    links: &[u32],
+    events: &[u32],
+    trace: &[u16; 16675],
+    question: u32,
+    x: u32,
+    v: u32,
+    sets: &mut [bool],
+)
+    requires { ⌜ (Traces n (now types) (now objects) (now links) (now events) (now trace)) × (question < 6) × (v < 64) × (length (now sets) ≡ 65536) ⌝ }
+    ensures { λ _. ⌜ (Grown (now (sets .entry)) (now (sets .exit)))
+        × ((c : Change) → Traced c n (now (types .entry)) (now (objects .entry)) (now (links .entry)) (now (events .entry)) (now (trace .entry))
+        → (row : ℕ) → row < n .objects → named c (questionOf question x) (idIn (now (objects .entry)) row) ≡ true
+        → getD (now (sets .exit)) (v * 1024 + row) false ≡ true) ⌝ }
+{
+    let mut place: u32 = 0;
+    while place < 2 * n.events {
+        put_answer(n, types, events, trace, place, question, x, v, sets);
+        place += 1;
+    }
+}
+
+// Puts the row of a loss into a variable's set, if it is one of the role.
+fn put_loss(n: Counts, trace: &[u16; 16675], j: u32, role: u32, v: u32, sets: &mut [bool])
+    requires { ⌜ (j < 4352) × (v < 64) × (n .objects ≤ 1024) × (length (now sets) ≡ 65536) ⌝ }
+    ensures { λ _. ⌜ (Grown (now (sets .entry)) (now (sets .exit)))
+        × (rowLost (now (trace .entry)) j < n .objects → lossRole (now (trace .entry)) j ≡ role
+        → getD (now (sets .exit)) (v * 1024 + rowLost (now (trace .entry)) j) false ≡ true) ⌝ }
+{
+    let at = (10272 + j) as usize;
+    if rows::wide(trace[at]) != role {
+        return;
+    }
+    let slot = (1568 + j) as usize;
+    mark(n, v, rows::wide(trace[slot]), sets);
+}
+
+// Puts the rows of the objects from which a role lost a link, taken along by a delete, into a variable's set.
+fn put_lost(
+    n: Counts,
+    types: &[u32],
+    objects: &[u32],
+    links: &[u32],
+    events: &[u32],
+    trace: &[u16; 16675],
+    role: u32,
+    v: u32,
+    sets: &mut [bool],
+)
+    requires { ⌜ (Traces n (now types) (now objects) (now links) (now events) (now trace)) × (v < 64) × (length (now sets) ≡ 65536) ⌝ }
+    ensures { λ _. ⌜ (Grown (now (sets .entry)) (now (sets .exit)))
+        × ((c : Change) → Traced c n (now (types .entry)) (now (objects .entry)) (now (links .entry)) (now (events .entry)) (now (trace .entry))
+        → (row : ℕ) → row < n .objects → someStep c (taken role (idIn (now (objects .entry)) row)) ≡ true
+        → getD (now (sets .exit)) (v * 1024 + row) false ≡ true) ⌝ }
+{
+    let count = rows::wide(trace[14624]);
+    let mut j: u32 = 0;
+    while j < count {
+        put_loss(n, trace, j, role, v, sets);
+        j += 1;
+    }
+}
+
 // Puts the rows of the objects for which some event answers a question into a variable's set.
 pub fn put_answers(
     n: Counts,
@@ -66,7 +133,7 @@ pub fn put_answers(
     objects: &[u32],
     links: &[u32],
     events: &[u32],
-    trace: &[u16; 2593],
+    trace: &[u16; 16675],
     question: u32,
     x: u32,
     v: u32,
@@ -78,10 +145,20 @@ pub fn put_answers(
         → (row : ℕ) → row < n .objects → asked c (questionOf question x) (idIn (now (objects .entry)) row) ≡ true
         → getD (now (sets .exit)) (v * 1024 + row) false ≡ true) ⌝ }
 {
-    let mut place: u32 = 0;
-    while place < 2 * n.events {
-        put_answer(n, types, events, trace, place, question, x, v, sets);
-        place += 1;
+    put_named(
+        n,
+        types,
+        objects,
+        links,
+        events,
+        trace,
+        question,
+        x,
+        v,
+        &mut *sets,
+    );
+    if question == questions::PARTED {
+        put_lost(n, types, objects, links, events, trace, x, v, &mut *sets);
     }
 }
 
@@ -173,7 +250,7 @@ fn put_if(
     objects: &[u32],
     links: &[u32],
     events: &[u32],
-    trace: &[u16; 2593],
+    trace: &[u16; 16675],
     question: u32,
     x: u32,
     v: u32,
@@ -209,7 +286,7 @@ pub fn put_moved(
     objects: &[u32],
     links: &[u32],
     events: &[u32],
-    trace: &[u16; 2593],
+    trace: &[u16; 16675],
     gain: u32,
     loss: u32,
     x: u32,

@@ -30,7 +30,7 @@ pub fn select(
     links: &[u32],
     index: &[u16; 81920],
     events: &[u32],
-    trace: &[u16; 2593],
+    trace: &[u16; 16675],
     touched: u32,
     chosen: &mut [u16],
 ) -> u32

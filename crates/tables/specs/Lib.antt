@@ -7,6 +7,7 @@
 --   Refusals   refusals 2 and 6, and every refusal of a book and a register in order
 --   Answers    the answers of the checks
 --   Met        the type that an event met
+--   Losses     the links that deletes took along
 pub mod Layouts
 pub mod Codes
 pub mod Bodies
@@ -15,3 +16,4 @@ pub mod Words
 pub mod Refusals
 pub mod Answers
 pub mod Met
+pub mod Losses

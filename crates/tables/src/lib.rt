@@ -18,6 +18,9 @@ pub const EVENT_WIDTH: u32 = 4;
 // Words of a pair in a list: rule, id.
 pub const PAIR_WIDTH: u32 = 2;
 
+// Words of a loss (specs/Losses): role, id.
+pub const LOSS_WIDTH: u32 = 2;
+
 // How many rows of each lent table are used.
 pub struct Counts {
     pub types: u32,

@@ -10,7 +10,8 @@ use Rattle.meaning.specs.Limits.{maxTypes, maxEvents}
 use Rattle.meaning.specs.Schema.{Schema}
 use Rattle.meaning.specs.Register.{Register}
 use Rattle.meaning.specs.Events.{Event, Lent, Refusal, apply, batchRefusal}
-use Rattle.meaning.specs.Reach.{Step, stepsOf, changeBy}
+use Rattle.meaning.specs.Reach
+use Rattle.meaning.specs.Reach.{Step, stepsOf, changeBy, someStep}
 use Rattle.meaning.proofs.Lists.{element-in}
 use Rattle.meaning.proofs.Registers.{RegisterFits}
 use Rattle.meaning.proofs.Steps.{unrefused}
@@ -20,6 +21,7 @@ use Rattle.tables.specs.declared.Counts.{Counts}
 use Rattle.tables.specs.declared.Verdict.the-variants.{Clear}
 use Rattle.schema.proofs.Rows.{length-rows}
 use Rattle.tables.specs.Met.{objectOf, metBy}
+use Rattle.tables.specs.Losses.{lostIn}
 use Rattle.events.specs.Runs.{RunLeft}
 use Rattle.events.proofs.MetTypes.{met-named, met-unnamed, type-low, met-at, step-fits, step-under}
 use Rattle.trace_places.specs.Questions.{metUnder}
@@ -42,8 +44,8 @@ unfolding stepsOf
 events-of S g [] = refl
 events-of S g (e ∷ es) = ap (λ l. e ∷ l) (events-of S (apply S e g) es)
 
-module _ {S : Schema} {lent : Lent} {g : Register} {es : List Event} (n : Counts) (types objects links events met : List ℕ)
-    (left : RunLeft S lent g es (n .objects) objects (n .links) links met) (fits : RegisterFits S g) (taken : batchRefusal S lent g es ≡ none)
+module _ {S : Schema} {lent : Lent} {g : Register} {es : List Event} (n : Counts) (types objects links events met : List ℕ) (count : ℕ) (losses : List ℕ)
+    (left : RunLeft S lent g es (n .objects) objects (n .links) links met count losses) (fits : RegisterFits S g) (taken : batchRefusal S lent g es ≡ none)
     (few-types : length (S .types) ≤ maxTypes) (types-are : S .types ≡ typesOf (n .types) types) (events-are : es ≡ eventsOf (n .events) events) (few : n .events ≤ maxEvents) where
   rows-are : map (λ (s : Step). s .event) (stepsOf S g es) ≡ eventsOf (n .events) events
   rows-are = events-of S g es ∙ events-are
@@ -82,7 +84,7 @@ module _ {S : Schema} {lent : Lent} {g : Register} {es : List Event} (n : Counts
       subst (λ t. t ≤ maxTypes) (sym (met-is i s (r .1))) (low s f (objectOf (s .event)) refl)
 
   -- so a trace can be made in a table of zeros
-  pub can-trace : {trace : List ℕ} → ((k : ℕ) → getD trace k 0 ≡ 0) → CanTrace n objects links met trace
+  pub can-trace : {trace : List ℕ} → ((k : ℕ) → getD trace k 0 ≡ 0) → CanTrace n objects links met count losses trace
   can-trace empty =
       record {
         objects-ascend = left .fit .ready .fits .objects-ascend;
@@ -90,5 +92,12 @@ module _ {S : Schema} {lent : Lent} {g : Register} {es : List Event} (n : Counts
         objects-few = left .fit .objects-few;
         events-few = few;
         met-low = met-low;
+        losses-few = left .losses-few;
+        losses-low = left .losses-low;
         empty = empty;
       }
+
+  -- and its losses are those of the batch's steps
+  pub lost-by : (r u : ℕ) → lostIn losses count r u ≡ someStep (changeBy S g es) (Reach.taken r u)
+  unfolding someStep
+  lost-by = left .lost

@@ -61,7 +61,7 @@ module _ (m : ℕ) (links events met before : List ℕ) where
   pub kept-none : (trace : List ℕ) → Kept m links events met trace trace 0
   kept-none trace = record { there-is = λ j h. absurd (omega arith); met-is = λ j h. absurd (omega arith); below = λ k h. refl; above = λ k h. refl }
 
-  module _ (trace : List ℕ) (room : length trace ≡ 2593) (i there word : ℕ) (few : i < 256) where
+  module _ (trace : List ℕ) (room : length trace ≡ 16675) (i there word : ℕ) (few : i < 256) where
     abbrev one : List ℕ
     one = set trace (1024 + i) there
 

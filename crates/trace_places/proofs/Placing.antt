@@ -7,12 +7,12 @@ use mathlib.Core.Option.{Option, none, some}
 use native.Mathlib.Nat.{eq-or-lt-of-le}
 use native.Mathlib.Numerals.{add-one}
 use native.Mathlib.Omega.{arith}
-use lib.ListN.{length, getD, set, length-set}
-use lib.Seq.{getD-set-same, getD-set-other}
+use lib.ListN.{length, getD}
 use Rattle.meaning.specs.Limits.{maxObjects}
 use Rattle.tables.specs.Columns.{eventRow}
 use Rattle.register.specs.Tables.{objectPlace}
 use Rattle.chains.proofs.Chains.{chained-none, Pushed, chained-more}
+use Rattle.chains.proofs.Pushes.{pushed-room, pushed-other, pushed-row, pushed-next, pushed-head}
 use Rattle.register.proofs.Rows.{place-row}
 use Rattle.trace_places.specs.Traces.{namedAt, orPast, rowNamed, placeRow, nextPlace, firstPlace, itself}
 use Rattle.trace_places.specs.Making.{placed, placedEvent, Placed}
@@ -20,36 +20,21 @@ use Rattle.trace_places.specs.Making.{placed, placedEvent, Placed}
 -- ---- the words of the table with one place more
 
 module _ (trace : List ℕ) (p row : ℕ) where
-  abbrev one : List ℕ
-  one = set trace p row
+  pub placed-room : length trace ≡ 16675 → length (placed trace p row) ≡ 16675
+  placed-room = pushed-room trace p row 512 (14625 + 2 * row)
 
-  abbrev two : List ℕ
-  two = set one (512 + p) (firstPlace trace row)
+  placed-other : (k : ℕ) → (k ≡ p → ⊥) → (k ≡ 512 + p → ⊥) → (k ≡ 14625 + 2 * row → ⊥) → getD (placed trace p row) k 0 ≡ getD trace k 0
+  placed-other = pushed-other trace p row 512 (14625 + 2 * row)
 
-  abbrev three : List ℕ
-  three = set two (1568 + row) (suc p)
+  module _ (room : length trace ≡ 16675) (h : p < 512) (l : row ≤ 1024) where
+    placed-row : getD (placed trace p row) p 0 ≡ row
+    placed-row = pushed-row trace p row 512 (14625 + 2 * row) (omega arith) (omega arith) (omega arith)
 
-  pub placed-room : length trace ≡ 2593 → length (placed trace p row) ≡ 2593
-  placed-room room = simp length-set room
+    placed-next : nextPlace (placed trace p row) p ≡ firstPlace trace row
+    placed-next = pushed-next trace p row 512 (14625 + 2 * row) (omega arith) (omega arith) (omega arith)
 
-  placed-other : (k : ℕ) → (k ≡ p → ⊥) → (k ≡ 512 + p → ⊥) → (k ≡ 1568 + row → ⊥) → getD three k 0 ≡ getD trace k 0
-  placed-other k a b c =
-      getD-set-other two (1568 + row) k (suc p) 0 c ∙ getD-set-other one (512 + p) k (firstPlace trace row) 0 b ∙ getD-set-other trace p k row 0 a
-
-  module _ (room : length trace ≡ 2593) (h : p < 512) (l : row ≤ 1024) where
-    placed-row : getD three p 0 ≡ row
-    placed-row =
-        getD-set-other two (1568 + row) p (suc p) 0 (λ e. omega arith)
-        ∙ getD-set-other one (512 + p) p (firstPlace trace row) 0 (λ e. omega arith)
-        ∙ getD-set-same trace p row 0 (omega arith)
-
-    placed-next : nextPlace three p ≡ firstPlace trace row
-    placed-next =
-        getD-set-other two (1568 + row) (512 + p) (suc p) 0 (λ e. omega arith)
-        ∙ getD-set-same one (512 + p) (firstPlace trace row) 0 (simp length-set (omega arith))
-
-    placed-first : firstPlace three row ≡ suc p
-    placed-first = getD-set-same two (1568 + row) (suc p) 0 (simp length-set (omega arith))
+    placed-first : firstPlace (placed trace p row) row ≡ suc p
+    placed-first = pushed-head trace p row 512 (14625 + 2 * row) (omega arith) (omega arith) (omega arith)
 
 -- ---- one place more
 
@@ -71,11 +56,12 @@ module _ (m : ℕ) (objects events : List ℕ) (few : m ≤ maxObjects) where
     placed-none trace z =
         record {
           row-is = λ p h l. absurd (omega arith);
-          chained = chained-none itself key places (nextPlace trace) (firstPlace trace) (λ k. z (1568 + k));
+          chained = chained-none itself key places (nextPlace trace) (firstPlace trace) (λ k. z (14625 + 2 * k));
           kept = λ k h l. refl;
+          no-loss = λ row. refl;
         }
 
-    module _ (trace : List ℕ) (room : length trace ≡ 2593) (i : ℕ) (h : i < places) (fits : places ≤ 512) where
+    module _ (trace : List ℕ) (room : length trace ≡ 16675) (i : ℕ) (h : i < places) (fits : places ≤ 512) where
       abbrev more : List ℕ
       more = placed trace i (key i)
 
@@ -85,7 +71,7 @@ module _ (m : ℕ) (objects events : List ℕ) (few : m ≤ maxObjects) where
       keyed : key i ≤ 1024
       keyed = or-past (namedAt (eventRow events (i / 2)) (i % 2))
 
-      other : (k : ℕ) → (k ≡ i → ⊥) → (k ≡ 512 + i → ⊥) → (k ≡ 1568 + key i → ⊥) → getD more k 0 ≡ getD trace k 0
+      other : (k : ℕ) → (k ≡ i → ⊥) → (k ≡ 512 + i → ⊥) → (k ≡ 14625 + 2 * key i → ⊥) → getD more k 0 ≡ getD trace k 0
       other = placed-other trace i (key i)
 
       pub placed-more : Placed m objects events places before trace (suc i) → Placed m objects events places before more i
@@ -94,6 +80,7 @@ module _ (m : ℕ) (objects events : List ℕ) (few : m ≤ maxObjects) where
             row-is = row;
             chained = chained-more itself key places i (b .chained) h pushed;
             kept = λ k l u. other k (λ e. omega (arith, within)) (λ e. omega (arith, within)) (λ e. omega arith) ∙ b .kept k l u;
+            no-loss = λ k. other (14626 + 2 * k) (λ e. omega (arith, within)) (λ e. omega (arith, within)) (λ e. omega arith) ∙ b .no-loss k;
           }
         where
           row : (p : ℕ) → i ≤ p → p < places → getD more p 0 ≡ key p
@@ -109,11 +96,11 @@ module _ (m : ℕ) (objects events : List ℕ) (few : m ≤ maxObjects) where
                 next-own = placed-next trace i (key i) room within keyed;
                 next-other = λ p l u. other (512 + p) (λ e. omega (arith, within)) (λ e. omega arith) (λ e. omega arith);
                 head-own = placed-first trace i (key i) room within keyed;
-                head-other = λ k d. other (1568 + k) (λ e. omega (arith, within)) (λ e. omega (arith, within)) (λ e. d (omega arith));
+                head-other = λ k d. other (14625 + 2 * k) (λ e. omega (arith, within)) (λ e. omega (arith, within)) (λ e. d (omega arith));
               }
 
     -- both places of an event, as the code goes
-    pub placed-event : (trace : List ℕ) → length trace ≡ 2593 → (i : ℕ) → 2 * i + 2 ≤ places → places ≤ 512 → Placed m objects events places before trace (2 * suc i) → Placed m objects events places before (placedEvent m objects events i trace) (2 * i)
+    pub placed-event : (trace : List ℕ) → length trace ≡ 16675 → (i : ℕ) → 2 * i + 2 ≤ places → places ≤ 512 → Placed m objects events places before trace (2 * suc i) → Placed m objects events places before (placedEvent m objects events i trace) (2 * i)
     placed-event trace room i h fits b =
         let up : 2 * suc i ≡ suc (2 * i + 1) = omega arith in
         let second = placed-more trace room (2 * i + 1) (omega arith) fits (subst (Placed m objects events places before trace) up b) in

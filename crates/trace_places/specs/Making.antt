@@ -10,17 +10,19 @@ use Rattle.meaning.specs.Register.{Object, Register, isUnder, hasLink}
 use Rattle.meaning.specs.Schema.{ObjectType, under}
 use Rattle.meaning.specs.Events.{Event, join, linkOf}
 use Rattle.meaning.specs.Reach.{inserts, deletes, specials, generals, among, Direction, up, down}
+use Rattle.rows.specs.Rows.{wordAt}
 use Rattle.tables.specs.Columns.{eventRow}
+use Rattle.tables.specs.Losses.{LossesLow}
 use Rattle.tables.specs.declared.Counts.{Counts}
 use Rattle.register.specs.Tables.{ObjectsAscend, LinksAscend, linksWith}
 use Rattle.chains.specs.Chains.{Chained, pushed}
 use Rattle.directions.specs.Sets.{has}
 use Rattle.trace_places.specs.Questions.{metUnder}
-use Rattle.trace_places.specs.Traces.{placeRow, nextPlace, firstPlace, thereWord, metWord, allSet, itself}
+use Rattle.trace_places.specs.Traces.{placeRow, nextPlace, firstPlace, thereWord, metWord, allSet, nextLoss, lossRole, firstLoss, lossSlot, rowLost, lossRow, itself}
 
 -- the table with a place, that names the row, at the head of the row's chain; what was the head is next
 abbrev pub placed : List ℕ → ℕ → ℕ → List ℕ
-placed trace p row = pushed trace p row 512 (1568 + row)
+placed trace p row = pushed trace p row 512 (14625 + 2 * row)
 
 -- both places of event i, the second before the first
 abbrev pub placedEvent : ℕ → List ℕ → List ℕ → ℕ → List ℕ → List ℕ
@@ -32,6 +34,7 @@ pub record Placed (m : ℕ) (objects events : List ℕ) (places : ℕ) (before t
   pub row-is : (p : ℕ) → i ≤ p → p < places → getD trace p 0 ≡ placeRow m objects events p
   pub chained : Chained itself (placeRow m objects events) places (nextPlace trace) (firstPlace trace) i
   pub kept : (k : ℕ) → 1024 ≤ k → k < 1568 → getD trace k 0 ≡ getD before k 0
+  pub no-loss : (row : ℕ) → firstLoss trace row ≡ firstLoss before row
 
 -- ---- what is kept of each event
 
@@ -45,6 +48,20 @@ pub record Kept (m : ℕ) (links events met : List ℕ) (before trace : List ℕ
   pub met-is : (j : ℕ) → j < i → metWord trace j ≡ getD met j 0
   pub below : (k : ℕ) → k < 1024 → getD trace k 0 ≡ getD before k 0
   pub above : (k : ℕ) → 1536 ≤ k → getD trace k 0 ≡ getD before k 0
+
+-- ---- the losses
+
+-- the table with a loss, of an object's row and a role, at the head of the row's chain
+abbrev pub lossPut : List ℕ → ℕ → ℕ → ℕ → List ℕ
+lossPut trace j row role = set (pushed trace (lossSlot j) row 4352 (14626 + 2 * row)) (10272 + j) role
+
+-- The losses of a batch from i on have their rows, roles and chains; the columns of the events are those of another table.
+pub record LossesPut (m : ℕ) (objects losses : List ℕ) (count : ℕ) (before trace : List ℕ) (i : ℕ) : Type 0 where
+  pub row-is : (j : ℕ) → i ≤ j → j < count → rowLost trace j ≡ lossRow m objects losses j
+  pub role-is : (j : ℕ) → i ≤ j → j < count → lossRole trace j ≡ wordAt losses 2 j 0
+  pub chained : Chained lossSlot (lossRow m objects losses) count (nextLoss trace) (firstLoss trace) i
+  pub below : (k : ℕ) → k < 1568 → getD trace k 0 ≡ getD before k 0
+  pub first-kept : (row : ℕ) → firstPlace trace row ≡ firstPlace before row
 
 -- ---- the types that objects come into or go out of
 
@@ -110,11 +127,14 @@ pub record SetsWith (before after : List ℕ) (moved : ℕ → Direction → Boo
 
 -- ---- the whole trace
 
--- What it asks: the register at the end in order and within its limits, of each event a type that it met or none, and a table of zeros.
-pub record CanTrace (n : Counts) (objects links met trace : List ℕ) : Type 0 where
+-- What it asks: the register at the end in order and within its limits, of each event a type that it met or none, losses as deletes write them, and a table
+-- of zeros.
+pub record CanTrace (n : Counts) (objects links met : List ℕ) (count : ℕ) (losses trace : List ℕ) : Type 0 where
   pub objects-ascend : ObjectsAscend (n .objects) objects
   pub links-ascend : LinksAscend (n .links) links
   pub objects-few : n .objects ≤ maxObjects
   pub events-few : n .events ≤ maxEvents
   pub met-low : (i : ℕ) → i < n .events → getD met i 0 ≤ maxTypes
+  pub losses-few : count ≤ 4352
+  pub losses-low : LossesLow losses count
   pub empty : (k : ℕ) → getD trace k 0 ≡ 0

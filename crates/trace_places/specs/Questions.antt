@@ -1,13 +1,13 @@
--- Document 01, "Reach rules": what the leaves ask of the events that name an object. Each is one question about an event, and whether some event of the
--- batch answers it.
+-- Document 01, "Reach rules": what the leaves ask of the events about an object. Each is one question about an event, and whether some event of the
+-- batch answers it: one that names the object, or, as Req 01 has it, a delete that took a link of the object along.
 use Prim.Native.Nat.{ℕ, zero, suc, _%_}
-use mathlib.Core.Bool.{Bool, _&&_, not}
+use mathlib.Core.Bool.{Bool, false, _&&_, _||_, not}
 use mathlib.Core.List.{List}
 use lib.Dec.{ltb, eqb}
 use Rattle.meaning.specs.Schema.{ObjectType, under, relationshipOf}
 use Rattle.meaning.specs.Register.{hasLink}
 use Rattle.meaning.specs.Events.{Event}
-use Rattle.meaning.specs.Reach.{Step, Change, someStep, inserts, sets, joins, parts, specials, generals, among, joined, parted, setsCell, insertsInto, specialisesInto, generalisesFrom}
+use Rattle.meaning.specs.Reach.{Step, Change, someStep, inserts, sets, joins, parts, specials, generals, among, joined, partNamed, taken, setsCell, insertsInto, specialisesInto, generalisesFrom}
 use Rattle.tables.specs.Met.{noType}
 
 pub data Question : Type 0 where
@@ -15,18 +15,31 @@ pub data Question : Type 0 where
   joinedBy partedBy : (role : ℕ) → Question
   insertedInto specialisedInto generalisedFrom : (type : ℕ) → Question
 
--- an event answers the question about object u
+-- an event that names object u answers the question about it
 unfoldable pub answers : Change → Question → ℕ → Step → Bool
 answers c (cellSet k) u s = setsCell (eqb u) k s
 answers c (joinedBy r) u s = joined r u (hasLink (c .end)) s
-answers c (partedBy r) u s = parted r u s
+answers c (partedBy r) u s = partNamed r u s
 answers c (insertedInto t) u s = insertsInto (c .schema .types) t (eqb u) s
 answers c (specialisedInto t) u s = specialisesInto (c .schema .types) t (eqb u) s
 answers c (generalisedFrom t) u s = generalisesFrom (c .schema .types) t (eqb u) s
 
+-- some event of the batch that names it does
+unfoldable pub named : Change → Question → ℕ → Bool
+named c q u = someStep c (answers c q u)
+
+-- a delete of another object does
+abbrev pub takenFrom : Change → Question → ℕ → Bool
+takenFrom c (cellSet k) u = false
+takenFrom c (joinedBy r) u = false
+takenFrom c (partedBy r) u = someStep c (taken r u)
+takenFrom c (insertedInto t) u = false
+takenFrom c (specialisedInto t) u = false
+takenFrom c (generalisedFrom t) u = false
+
 -- some event of the batch does
 unfoldable pub asked : Change → Question → ℕ → Bool
-asked c q u = someStep c (answers c q u)
+asked c q u = named c q u || takenFrom c q u
 
 -- questions by their codes and what they are about
 abbrev pub questionOf : ℕ → ℕ → Question

@@ -1,11 +1,15 @@
--- What is kept of a batch that was run, for the reach rules: one table of 2,593 half words, by the rows of the register at the end. An event has two
+-- What is kept of a batch that was run, for the reach rules: one table of 16,675 half words, by the rows of the register at the end. An event has two
 -- places, 2 i and 2 i + 1: an event of an object names it at the first, a join or part names its source at the first and its target at the second.
 --   0 to 511        the row of the object that each place names; 1024 where it names none, or one that is not there at the end
 --   512 to 1023     1 + the next place of the same row; 0 at the end
 --   1024 to 1279    1 where the link that an event joins is there at the end
 --   1280 to 1535    the type that an event met; 32 for none
 --   1536 to 1567    for each type t, the set of directions in which `all t` moves
---   1568 to 2592    for each row, and 1024 for none, 1 + its first place; 0 where it has none
+--   1568 to 5919    the row of the object of each loss (`tables/specs/Losses`); 1024 where it is not there at the end
+--   5920 to 10271   1 + the slot, 1568 + its number, of the next loss of the same row; 0 at the end
+--   10272 to 14623  the role of each loss
+--   14624           how many losses there are
+--   14625 to 16674  for each row, and 1024 for none: 1 + its first place, 0 where it has none; 1 + the slot of its first loss, 0 where it has none
 use Prim.Native.Nat.{ℕ, zero, suc, _+_, _*_, _/_, _%_, _≤_, _<_}
 use mathlib.Core.Path.{_≡_}
 use mathlib.Core.Bool.{Bool}
@@ -17,12 +21,14 @@ use Rattle.meaning.specs.Limits.{maxTypes, maxObjects, maxEvents}
 use Rattle.meaning.specs.Schema.{ObjectType}
 use Rattle.meaning.specs.Register.{isUnder, hasLink}
 use Rattle.meaning.specs.Events.{Event, insert, delete, set, join, part, special, general, linkOf}
-use Rattle.meaning.specs.Reach.{Step, Change, Direction, allMoves}
+use Rattle.meaning.specs.Reach.{Step, Change, someStep, taken, Direction, allMoves}
 use Rattle.tables.specs.Columns.{typesOf, registerOf, eventRow, eventsOf}
 use Rattle.tables.specs.declared.Counts.{Counts}
 use Rattle.register.specs.Tables.{ObjectsAscend, objectPlace}
 use Rattle.chains.specs.Chains.{Chained}
+use Rattle.rows.specs.Rows.{wordAt}
 use Rattle.tables.specs.Met.{objectOf}
+use Rattle.tables.specs.Losses.{lostIn}
 use Rattle.directions.specs.Sets.{has}
 use Rattle.trace_places.specs.Questions.{Question, metUnder, answersAt}
 
@@ -79,7 +85,39 @@ abbrev pub allSet : List ℕ → ℕ → ℕ
 allSet trace t = getD trace (1536 + t) 0
 
 abbrev pub firstPlace : List ℕ → ℕ → ℕ
-firstPlace trace row = getD trace (1568 + row) 0
+firstPlace trace row = getD trace (14625 + 2 * row) 0
+
+abbrev pub nextLoss : List ℕ → ℕ → ℕ
+nextLoss trace slot = getD trace (4352 + slot) 0
+
+abbrev pub lossRole : List ℕ → ℕ → ℕ
+lossRole trace j = getD trace (10272 + j) 0
+
+abbrev pub lossCount : List ℕ → ℕ
+lossCount trace = getD trace 14624 0
+
+abbrev pub firstLoss : List ℕ → ℕ → ℕ
+firstLoss trace row = getD trace (14626 + 2 * row) 0
+
+-- the slot of a loss
+abbrev pub lossSlot : ℕ → ℕ
+lossSlot j = 1568 + j
+
+-- the row that stands there
+abbrev pub rowLost : List ℕ → ℕ → ℕ
+rowLost trace j = getD trace (lossSlot j) 0
+
+-- the row of the object of a loss, by the table that the deletes wrote
+abbrev pub lossRow : ℕ → List ℕ → List ℕ → ℕ → ℕ
+lossRow n objects losses j = rowNamed n objects (some (wordAt losses 2 j 1))
+
+-- The table has the losses of the batch, which are those that its deletes wrote.
+pub record LossesTraced (c : Change) (n : ℕ) (objects losses trace : List ℕ) : Type 0 where
+  pub few : lossCount trace ≤ 4352
+  pub row-is : (j : ℕ) → j < lossCount trace → rowLost trace j ≡ lossRow n objects losses j
+  pub role-is : (j : ℕ) → j < lossCount trace → lossRole trace j ≡ wordAt losses 2 j 0
+  pub chained : Chained lossSlot (rowLost trace) (lossCount trace) (nextLoss trace) (firstLoss trace) 0
+  pub lost-is : (r u : ℕ) → lostIn losses (lossCount trace) r u ≡ someStep c (taken r u)
 
 -- the event of a place answers a question about the object that the place names, by what is kept
 abbrev pub placeAnswers : List ObjectType → Question → List ℕ → List ℕ → ℕ → Bool
@@ -99,6 +137,8 @@ pub record Traced (c : Change) (n : Counts) (types objects links events trace : 
   pub there-is : (i : ℕ) → i < n .events → (r a b : ℕ) → eventRow events i ≡ join r a b → eqb (thereWord trace i) 1 ≡ hasLink (c .end) (linkOf r a b)
   pub all-is : (t : ℕ) → t < maxTypes → (d : Direction) → has (allSet trace t) d ≡ allMoves c t d
   pub all-small : (t : ℕ) → t < maxTypes → allSet trace t < 4
+  pub losses : List ℕ
+  pub lost : LossesTraced c (n .objects) objects losses trace
 
 -- it is that of some batch
 abbrev pub Traces : Counts → List ℕ → List ℕ → List ℕ → List ℕ → List ℕ → Type 0

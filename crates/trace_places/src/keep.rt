@@ -46,7 +46,7 @@ pub fn bit(holds: bool) -> u32
 
 // Keeps both of an event.
 fn write(i: u32, there: u32, met: u32, trace: &mut [u16])
-    requires { ⌜ (length (now trace) ≡ 2593) × (i < maxEvents) × (there < 65536) × (met < 65536) ⌝ }
+    requires { ⌜ (length (now trace) ≡ 16675) × (i < maxEvents) × (there < 65536) × (met < 65536) ⌝ }
     ensures { λ _. ⌜ now (trace .exit) ≡ keptEvent (now (trace .entry)) i there met ⌝ }
 {
     let first = (1024 + i) as usize;
@@ -62,7 +62,7 @@ pub fn keep(
     event_count: u32,
     events: &[u32],
     met: &[u32; 256],
-    trace: &mut [u16; 2593],
+    trace: &mut [u16; 16675],
 )
     requires { ⌜ (LinksAscend «link_count» (now links)) × («event_count» ≤ maxEvents) × ((i : ℕ) → i < «event_count» → getD (now met) i 0 ≤ maxTypes) ⌝ }
     ensures { λ _. ⌜ Kept «link_count» (now (links .entry)) (now (events .entry)) (now (met .entry)) (now (trace .entry)) (now (trace .exit)) «event_count» ⌝ }

@@ -23,7 +23,7 @@ const PART: u32 = 4;
 const GENERAL: u32 = 6;
 
 // The row of the object of an id; one past the last where there is none.
-fn end_row(object_count: u32, objects: &[u32], id: u32) -> u32
+pub fn end_row(object_count: u32, objects: &[u32], id: u32) -> u32
     requires { ⌜ ObjectsAscend «object_count» (now objects) ⌝ }
     ensures { λ r. ⌜ r ≡ orPast (objectPlace «object_count» (now (objects .entry)) id) ⌝ }
 {
@@ -92,15 +92,15 @@ fn second_row(object_count: u32, objects: &[u32], events: &[u32], i: u32) -> u32
 
 // A place at the head of its row's chain; what was the head is next.
 fn put(place: u32, row: u32, trace: &mut [u16])
-    requires { ⌜ (length (now trace) ≡ 2593) × (place < 512) × (row ≤ maxObjects) ⌝ }
+    requires { ⌜ (length (now trace) ≡ 16675) × (place < 512) × (row ≤ maxObjects) ⌝ }
     ensures { λ _. ⌜ now (trace .exit) ≡ placed (now (trace .entry)) place row ⌝ }
 {
-    push(place, row, 512, 1568 + row, trace);
+    push(place, row, 512, 14625 + 2 * row, trace);
 }
 
 // Both places of an event.
 fn put_event(object_count: u32, objects: &[u32], events: &[u32], i: u32, trace: &mut [u16])
-    requires { ⌜ (ObjectsAscend «object_count» (now objects)) × («object_count» ≤ maxObjects) × (i < maxEvents) × (length (now trace) ≡ 2593) ⌝ }
+    requires { ⌜ (ObjectsAscend «object_count» (now objects)) × («object_count» ≤ maxObjects) × (i < maxEvents) × (length (now trace) ≡ 16675) ⌝ }
     ensures { λ _. ⌜ now (trace .exit) ≡ placedEvent «object_count» (now (objects .entry)) (now (events .entry)) i (now (trace .entry)) ⌝ }
 {
     let second = second_row(object_count, objects, events, i);
@@ -116,7 +116,7 @@ pub fn place(
     objects: &[u32],
     event_count: u32,
     events: &[u32],
-    trace: &mut [u16; 2593],
+    trace: &mut [u16; 16675],
 )
     requires { ⌜ (ObjectsAscend «object_count» (now objects))
         × («object_count» ≤ maxObjects)

@@ -43,7 +43,7 @@ words-with set x y gain loss h l a b down = set-words x y h l down ∙ b
 
 -- ---- the set of a type
 
-pub set-put : (trace : List ℕ) → length trace ≡ 2593 → (t : ℕ) → t < maxTypes → {word : ℕ} {moved : Direction → Bool} → word < 4
+pub set-put : (trace : List ℕ) → length trace ≡ 16675 → (t : ℕ) → t < maxTypes → {word : ℕ} {moved : Direction → Bool} → word < 4
     → ((d : Direction) → has word d ≡ (has (allSet trace t) d || moved d)) → SetWith trace (set trace (1536 + t) word) t moved
 set-put trace room t h {word} low is =
     let own : allSet (set trace (1536 + t) word) t ≡ word = getD-set-same trace (1536 + t) word 0 (omega arith) in

@@ -109,7 +109,7 @@ fn with(set: u32, gain: bool, loss: bool) -> u32
 
 // The same in the set of a type.
 fn put(t: u32, gain: bool, loss: bool, trace: &mut [u16])
-    requires { ⌜ (length (now trace) ≡ 2593) × (t < maxTypes) ⌝ }
+    requires { ⌜ (length (now trace) ≡ 16675) × (t < maxTypes) ⌝ }
     ensures { λ _. ⌜ SetWith (now (trace .entry)) (now (trace .exit)) t (eitherWay gain loss) ⌝ }
 {
     let at = (1536 + t) as usize;
@@ -125,7 +125,7 @@ fn put_all(
     into: &[bool; 32],
     had: &[bool; 32],
     there: &[bool; 32],
-    trace: &mut [u16; 2593],
+    trace: &mut [u16; 16675],
 )
     ensures { λ _. ⌜ SetsWith (now (trace .entry)) (now (trace .exit)) (λ t. eitherWay
         (comesBy kind z (getD (now (into .entry)) t false) (getD (now (had .entry)) t false) && getD (now (there .entry)) t false)
@@ -150,7 +150,7 @@ fn put_event(
     events: &[u32],
     i: u32,
     met: u32,
-    trace: &mut [u16; 2593],
+    trace: &mut [u16; 16675],
 )
     requires { ⌜ ObjectsAscend «object_count» (now objects) ⌝ }
     ensures { λ _. ⌜ ((ls : List Link) → SetsWith (now (trace .entry)) (now (trace .exit))
@@ -180,7 +180,7 @@ pub fn fill(
     event_count: u32,
     events: &[u32],
     met: &[u32; 256],
-    trace: &mut [u16; 2593],
+    trace: &mut [u16; 16675],
 )
     requires { ⌜ (ObjectsAscend «object_count» (now objects)) × («event_count» ≤ maxEvents) ⌝ }
     ensures { λ _. ⌜ ((ls : List Link) → SetsWith (now (trace .entry)) (now (trace .exit))

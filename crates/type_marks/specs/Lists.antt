@@ -33,7 +33,7 @@ unfoldable pub leafLists : Schema → List ℕ → ℕ → ℕ → ℕ → Direc
 leafLists S ts code x y d =
     cond (eqb code 13) (typeLists S false y d)
     (cond (eqb code 21) (typeLists S true x d)
-    (cond (eqb code 20) (roleLists y d)
+    (cond (eqb code 20) (roleLists S y d)
     (cond (eqb code 15) (setOf (variable ts x) y ∷ []) [])))
 
 -- a sum lists the sets of its members' cell besides; what is no sum lists nothing besides

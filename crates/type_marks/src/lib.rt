@@ -2,16 +2,17 @@
 use directions::DOWN;
 use directions::UP;
 use quietness::quiet::both;
+use typing::Place;
 ghost use mathlib.Core.Path.{_≡_};
 ghost use mathlib.Core.Bool.{_&&_, _||_};
 ghost use mathlib.Core.List.{List, [], _∷_};
 ghost use Prim.Native.Nat.{_≤_, _<_};
 ghost use lib.ListN.{length, take};
 ghost use Rattle.meaning.specs.Lists.{sameList};
-ghost use Rattle.meaning.specs.Schema.{Relationship};
+ghost use Rattle.meaning.specs.Schema.{ObjectType, Relationship};
 ghost use Rattle.meaning.specs.Forms.{variable};
 ghost use Rattle.meaning.specs.EventList.{setOf, roleLists};
-ghost use Rattle.tables.specs.Columns.{typesOf};
+ghost use Rattle.tables.specs.Columns.{typesOf, relationshipsOf, schemaOf};
 ghost use Rattle.type_marks.specs.Marks.{places, wordsAt, Added};
 ghost use Rattle.type_marks.specs.Lists.{markedBy, typeLists, leafLists};
 
@@ -115,13 +116,18 @@ pub fn put_members(
     );
 }
 
-// Marks what moves a role.
-fn put_role(role: u32, set: u32, marks: &mut [bool])
+// Marks what moves a role. A link is lost by a part, or with the object to which it leads.
+fn put_role(relationship_count: u32, relationships: &[u32], role: u32, set: u32, marks: &mut [bool])
     requires { ⌜ length (now marks) ≡ places ⌝ }
-    ensures { λ _. ⌜ Added (now (marks .entry)) (now (marks .exit)) (markedBy set (roleLists role)) ⌝ }
+    ensures { λ _. ⌜ ((ts : List ObjectType) → Added (now (marks .entry)) (now (marks .exit))
+        (markedBy set (roleLists (record { types = ts; relationships = relationshipsOf «relationship_count» (now (relationships .entry)) }) role))) ⌝ }
 {
-    put(directions::contains(set, UP), JOIN, role / 2, 0, marks);
-    put(directions::contains(set, DOWN), PART, role / 2, 0, marks);
+    let gained = directions::contains(set, UP);
+    let lost = directions::contains(set, DOWN);
+    let far = schema::far_type(relationship_count, relationships, role);
+    put(gained, JOIN, role / 2, 0, marks);
+    put(lost, PART, role / 2, 0, marks);
+    put(lost, DELETE, far, 0, marks);
 }
 
 // Marks what moves a cell of a type, whichever way.
@@ -146,34 +152,34 @@ fn variable_type(env: &[u32; 64], depth: u32, v: u32) -> u32
 
 // Marks what moves a form without parts, by its code and its first two fields.
 pub fn put_leaf(
-    type_count: u32,
     types: &[u32],
+    relationships: &[u32],
     env: &[u32; 64],
-    depth: u32,
+    at: Place,
     code: u32,
     x: u32,
     y: u32,
     set: u32,
     marks: &mut [bool],
 )
-    requires { ⌜ (length (now marks) ≡ places) × (length (now env) ≡ 64) × (depth ≤ 64) × (set < 4) ⌝ }
-    ensures { λ _. ⌜ ((rs : List Relationship) → Added (now (marks .entry)) (now (marks .exit))
-        (markedBy set (leafLists (record { types = typesOf «type_count» (now (types .entry)); relationships = rs })
-        (take depth (now (env .entry))) code x y))) ⌝ }
+    requires { ⌜ (length (now marks) ≡ places) × (length (now env) ≡ 64) × (at .depth ≤ 64) × (set < 4) ⌝ }
+    ensures { λ _. ⌜ Added (now (marks .entry)) (now (marks .exit)) (markedBy set (leafLists
+        (schemaOf (at .types) (now (types .entry)) (at .relationships) (now (relationships .entry)))
+        (take (at .depth) (now (env .entry))) code x y)) ⌝ }
 {
     if code == KIND {
-        put_members(type_count, types, false, y, set, marks);
+        put_members(at.types, types, false, y, set, marks);
         return;
     }
     if code == ALL {
-        put_members(type_count, types, true, x, set, marks);
+        put_members(at.types, types, true, x, set, marks);
         return;
     }
     if code == ROLE {
-        put_role(y, set, marks);
+        put_role(at.relationships, relationships, y, set, marks);
         return;
     }
     if code == CELL {
-        put_cell(variable_type(env, depth, x), y, set, marks);
+        put_cell(variable_type(env, at.depth, x), y, set, marks);
     }
 }

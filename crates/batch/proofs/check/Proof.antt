@@ -41,7 +41,7 @@ enum-told c = search needs
 
 judge-requires : tie.Need-judge-requires
 judge-requires c κs =
-    let told = c .before .before .before .before .before .before in
+    let told = c .before .before .before .before .before .before .before .before in
     let run = told .before .before .before .before .before .before in
     let s = entry run in
     let is = told .enum-told .given .1 in
@@ -76,11 +76,19 @@ same-length-5 c = search needs
 same-length-6 : tie.Need-same-length-6
 same-length-6 c = search needs
 
+-- the run, after all is settled
+abbrev ran-before : tie.After-slice-known10 → tie.After-run
+ran-before c =
+    let settled = c .before .before .before .before in
+    let judged = settled .before .before .before .before .before .before .before in
+    let told = judged .before .before .before .before .before .before .before .before .before in
+    told .before .before .before .before .before .before
+
 same-length-7 : tie.Need-same-length-7
-same-length-7 c = search needs
+same-length-7 c = ran-before c .run .kept .1 .1 .1 .1 .1 .1 .1 .1 .0
 
 same-length-8 : tie.Need-same-length-8
-same-length-8 c = search needs
+same-length-8 c = ran-before c .run .kept .1 .1 .1 .1 .1 .1 .1 .1 .1 .0
 
 same-length-9 : tie.Need-same-length-9
 same-length-9 c = search needs
@@ -89,7 +97,7 @@ returns-2 : tie.Need-returns-2
 returns-2 c =
     let settled = c .before .before .before .before in
     let judged = settled .before .before .before .before .before .before .before in
-    let told = judged .before .before .before .before .before .before .before in
+    let told = judged .before .before .before .before .before .before .before .before .before in
     let known = told .before .before .before .before in
     let run = known .before .before in
     let s = entry run in

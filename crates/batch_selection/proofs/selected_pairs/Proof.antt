@@ -34,7 +34,9 @@ make-requires c κs =
       objects-few = s .pre .0 .given .few-objects;
       events-few = ended .seen .few;
       met-low = ended .met-low;
-      empty = zeros 2593;
+      losses-few = ended .losses-few;
+      losses-low = ended .losses-low;
+      empty = zeros 16675;
     }
 
 touched-rules-requires : tie.Need-touched-rules-requires
@@ -47,7 +49,7 @@ select-requires c κs =
     let rules = c .before .before in
     let s = entry (rules .before .before) in
     let (k, ended) = s .pre .1 in
-    (s .pre .0, (k, rules .before .make .ensures k (ended .seen)), (_, rules .touched-rules .ensures k _ (ended .seen) (ended .schema-is)), s .pre .2)
+    (s .pre .0, (k, rules .before .make .ensures k (ended .seen) (ended .lost)), (_, rules .touched-rules .ensures k _ (ended .seen) (ended .schema-is)), s .pre .2)
 
 same-length : tie.Need-same-length
 same-length c = c .before .before .select .ensures .0
@@ -64,11 +66,11 @@ returns c =
     let codes = chose .select .ensures in (
       codes .0,
       held k (a .n) (now (a .rules)) (now (a .bodies)) (now (a .objects)) _ _ (s .pre .0 .given .few-objects) (s .pre .0 .given .few-rules) (codes .0 ∙ s .pre .2) (codes .1)
-          (codes .2 k (traced k (ended .seen)) (ended .schema-is)
+          (codes .2 k (traced k (ended .seen) (ended .lost)) (ended .schema-is)
           ∙ ap (flatMap (ruleCodes k (now (a .rules)) (now (a .bodies)) (now (a .objects)) (a .n .objects))) (bits k _ (ended .seen) (ended .schema-is))),
       λ m e.
           pairs-are e (s .pre .0 .indexed .objects-ascend) (s .pre .0 .given .few-objects) (chose .select .result) (left chose)
-          (codes .2 m (traced m (e .seen)) (e .schema-is) ∙ ap (flatMap (ruleCodes m (now (a .rules)) (now (a .bodies)) (now (a .objects)) (a .n .objects))) (bits m _ (e .seen) (e .schema-is))),
+          (codes .2 m (traced m (e .seen) (e .lost)) (e .schema-is) ∙ ap (flatMap (ruleCodes m (now (a .rules)) (now (a .bodies)) (now (a .objects)) (a .n .objects))) (bits m _ (e .seen) (e .schema-is))),
     )
 
 pub selected-pairs-spec : {M : Type 1} → statement M

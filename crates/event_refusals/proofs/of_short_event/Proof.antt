@@ -107,7 +107,7 @@ returns-7 c =
     let at1 = at2 .before in
     let start = at1 .before .before .before .before .before in
     let a = start .args in
-    λ m w. as-event (S start) (lent start m w) (g start) (kind-delete (a .x) (a .y) (a .z) (at5 .if5 .left) (at6 .if6 .left) (at1 .if1 .left)) (c .of-delete .ensures (S start) (lent start m w))
+    λ m w. as-event (S start) (lent start m w) (g start) (kind-delete (a .x) (a .y) (a .z) (at5 .if5 .left) (at6 .if6 .left) (at1 .if1 .left)) (c .of-delete .ensures (S start) (lent start m w) (ls start))
 
 pub of-short-event-spec : {M : Type 1} → statement M
 of-short-event-spec =

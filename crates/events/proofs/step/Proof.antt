@@ -56,9 +56,10 @@ enum-told c = search needs
 
 row-effect-requires : tie.Need-row-effect-requires
 row-effect-requires c κs =
-    let told = c .before .before in (
-      can (S told) (lent told 0) _ _ _ _ (start told .pre) (event told) (unrefused told 0),
-      some-event (S told) (lent told 0) _ _ _ _ (start told .pre) (event told) (unrefused told 0),
+    let told = c .before .before .before in (
+      can (S told) (lent told 0) _ _ _ _ (start told .pre .0) (event told) (unrefused told 0),
+      some-event (S told) (lent told 0) _ _ _ _ (start told .pre .0) (event told) (unrefused told 0),
+      start told .pre .1,
     )
 
 same-length : tie.Need-same-length
@@ -75,7 +76,9 @@ returns c =
     record {
       refused-is = sym (matched .number .given .1) ∙ asked .refusal .ensures w;
       taken = λ e. absurd (number-found e);
+      lost = λ e. absurd (number-found e);
       kept = λ d. refl;
+      losses-kept = λ d. (refl, refl);
     }
 
 same-length-3 : tie.Need-same-length-3
@@ -87,13 +90,15 @@ same-length-4 c = search needs
 returns-2 : tie.Need-returns-2
 returns-2 c =
     let done = c .before .before .before .before in
-    let told = done .before .before .before in
+    let told = done .before .before .before .before in
     let x = start told .args in
     λ w.
     record {
       refused-is = sym (ap foundOf (unrefused told w));
-      taken = λ e. done .row-effect .ensures (relationshipsOf (x .relationship-count) (now (x .relationships)));
+      taken = λ e. done .row-effect .ensures .0 (relationshipsOf (x .relationship-count) (now (x .relationships)));
+      lost = λ e. done .row-effect .ensures .1;
       kept = λ d. absurd (d refl);
+      losses-kept = λ d. absurd (d refl);
     }
 
 pub step-spec : {M : Type 1} → statement M

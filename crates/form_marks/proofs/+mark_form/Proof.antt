@@ -290,7 +290,7 @@ module _ (t : ℕ) where
       let code = shape .before .before .field .ensures in
       let x = shape .before .field2 .ensures in
       let y = leaf .before .before .field3 .ensures in
-      added-as (leaf .put-leaf .ensures (schema s .relationships))
+      added-as (leaf .put-leaf .ensures)
       (at-end s _
       (λ place.
       (λ j. markedBy (s .args .set) (leafLists (schema s) (scope s) (code j) (x j) (y j)) place)

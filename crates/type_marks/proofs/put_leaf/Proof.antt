@@ -6,21 +6,28 @@ use native.Mathlib.Omega.{arith}
 use lib.ListN.{take}
 use denote.Ref.{now}
 use borrow.Author.Tests.{eq-eqb, ne-eqb}
-use Rattle.meaning.specs.Schema.{Relationship, Schema}
+use Rattle.meaning.specs.Schema.{Schema}
 use Rattle.meaning.specs.Reach.{Direction}
 use Rattle.meaning.specs.EventList.{EventType, setOf, roleLists}
-use Rattle.tables.specs.Columns.{typesOf}
+use Rattle.tables.specs.Columns.{schemaOf}
 use Rattle.type_marks.specs.Lists.{typeLists, leafLists}
 use Rattle.type_marks.proofs.Marks.{none-listed, added-none, added-as, added-lists}
 use borrow.Author.Needs.{needs}
 use Rattle.type_marks.proofs.put_leaf.Statement.{statement}
 use Rattle.type_marks.proofs.put_leaf.Tie as tie
 
-abbrev schemaHere : tie.Start → List Relationship → Schema
-schemaHere s rs = record { types = typesOf (s .args .type-count) (now (s .args .types)); relationships = rs }
+-- ---- places of the code
 
-abbrev leafHere : tie.Start → List Relationship → Direction → List EventType
-leafHere s rs = leafLists (schemaHere s rs) (take (s .args .depth) (now (s .args .env))) (s .args .code) (s .args .x) (s .args .y)
+abbrev start : tie.After-slice-known → tie.Start
+start c = c .before .before .before
+
+abbrev schema : tie.Start → Schema
+schema s = schemaOf (s .args .at .types) (now (s .args .types)) (s .args .at .relationships) (now (s .args .relationships))
+
+abbrev leaf : tie.Start → Direction → List EventType
+leaf s = leafLists (schema s) (take (s .args .at .depth) (now (s .args .env))) (s .args .code) (s .args .x) (s .args .y)
+
+-- ---- the needs, in the order of the code
 
 put-members-requires : tie.Need-put-members-requires
 put-members-requires c κs = search needs
@@ -31,9 +38,10 @@ same-length c = search needs
 returns : tie.Need-returns
 unfolding leafLists
 returns c =
-    let start = c .before .before .before .before .before .before .before in
-    let a = start .args in
-    λ rs. added-lists (a .set) (typeLists (schemaHere start rs) false (a .y)) (leafHere start rs) (c .before .before .put-members .ensures rs) (λ d. rw (eq-eqb (a .code) 13 (omega arith)))
+    let kind = c .before .before in
+    let s = start (kind .before .before .before) in
+    let a = s .args in
+    added-lists (a .set) (typeLists (schema s) false (a .y)) (leaf s) (kind .put-members .ensures (schema s .relationships)) (λ d. rw (eq-eqb (a .code) 13 (omega arith)))
 
 put-members-requires-2 : tie.Need-put-members-requires-2
 put-members-requires-2 c κs = search needs
@@ -44,9 +52,10 @@ same-length-2 c = search needs
 returns-2 : tie.Need-returns-2
 unfolding leafLists
 returns-2 c =
-    let start = c .before .before .before .before .before .before .before .before in
-    let a = start .args in
-    λ rs. added-lists (a .set) (typeLists (schemaHere start rs) true (a .x)) (leafHere start rs) (c .before .before .put-members2 .ensures rs) (λ d. rw (ne-eqb (a .code) 13 (omega arith), eq-eqb (a .code) 21 (omega arith)))
+    let all = c .before .before in
+    let s = start (all .before .before .before .before) in
+    let a = s .args in
+    added-lists (a .set) (typeLists (schema s) true (a .x)) (leaf s) (all .put-members2 .ensures (schema s .relationships)) (λ d. rw (ne-eqb (a .code) 13 (omega arith), eq-eqb (a .code) 21 (omega arith)))
 
 put-role-requires : tie.Need-put-role-requires
 put-role-requires c κs = search needs
@@ -57,9 +66,10 @@ same-length-3 c = search needs
 returns-3 : tie.Need-returns-3
 unfolding leafLists
 returns-3 c =
-    let start = c .before .before .before .before .before .before .before .before .before in
-    let a = start .args in
-    λ rs. added-lists (a .set) (roleLists (a .y)) (leafHere start rs) (c .before .before .put-role .ensures) (λ d. rw (ne-eqb (a .code) 13 (omega arith), ne-eqb (a .code) 21 (omega arith), eq-eqb (a .code) 20 (omega arith)))
+    let role = c .before .before in
+    let s = start (role .before .before .before .before .before) in
+    let a = s .args in
+    added-lists (a .set) (roleLists (schema s) (a .y)) (leaf s) (role .put-role .ensures (schema s .types)) (λ d. rw (ne-eqb (a .code) 13 (omega arith), ne-eqb (a .code) 21 (omega arith), eq-eqb (a .code) 20 (omega arith)))
 
 variable-type-requires : tie.Need-variable-type-requires
 variable-type-requires c κs = search needs
@@ -73,19 +83,19 @@ same-length-4 c = search needs
 returns-4 : tie.Need-returns-4
 unfolding leafLists
 returns-4 c =
-    let bound = c .before .before .before .before .variable-type in
-    let start = c .before .before .before .before .before .before .before .before .before .before .before in
-    let a = start .args in
-    λ rs.
-    added-lists (a .set) (λ d. setOf (bound .result) (a .y) ∷ []) (leafHere start rs) (c .before .before .put-cell .ensures)
-    (λ d. rw (ne-eqb (a .code) 13 (omega arith), ne-eqb (a .code) 21 (omega arith), ne-eqb (a .code) 20 (omega arith), eq-eqb (a .code) 15 (omega arith)) (ap (λ t. setOf t (a .y) ∷ []) (bound .ensures)))
+    let cell = c .before .before in
+    let bound = cell .before .before in
+    let s = start (bound .before .before .before .before .before) in
+    let a = s .args in
+    added-lists (a .set) (λ d. setOf (bound .variable-type .result) (a .y) ∷ []) (leaf s) (cell .put-cell .ensures)
+    (λ d. rw (ne-eqb (a .code) 13 (omega arith), ne-eqb (a .code) 21 (omega arith), ne-eqb (a .code) 20 (omega arith), eq-eqb (a .code) 15 (omega arith)) (ap (λ t. setOf t (a .y) ∷ []) (bound .variable-type .ensures)))
 
 returns-5 : tie.Need-returns-5
 unfolding leafLists
 returns-5 c =
-    let start = c .before .before .before .before .before .before in
-    let a = start .args in
-    λ rs. added-lists (a .set) (λ d. []) (leafHere start rs) (added-as (added-none _) (λ place h. none-listed (a .set))) (λ d. rw (ne-eqb (a .code) 13 (omega arith), ne-eqb (a .code) 21 (omega arith), ne-eqb (a .code) 20 (omega arith), ne-eqb (a .code) 15 (omega arith)))
+    let s = start (c .before .before .before .before) in
+    let a = s .args in
+    added-lists (a .set) (λ d. []) (leaf s) (added-as (added-none _) (λ place h. none-listed (a .set))) (λ d. rw (ne-eqb (a .code) 13 (omega arith), ne-eqb (a .code) 21 (omega arith), ne-eqb (a .code) 20 (omega arith), ne-eqb (a .code) 15 (omega arith)))
 
 pub put-leaf-spec : {M : Type 1} → statement M
 put-leaf-spec =

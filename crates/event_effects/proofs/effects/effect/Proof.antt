@@ -1,13 +1,18 @@
 -- `event_effects::effects::effect` meets its contract: each kind has its own effect, and a row that is no event is refused.
-use Prim.Native.Nat.{ℕ}
-use mathlib.Core.Path.{_≡_, subst}
-use mathlib.Core.List.{List}
+use Prim.Native.Nat.{ℕ, _+_, _≤_}
+use mathlib.Core.Path.{_≡_, refl, subst}
+use mathlib.Core.Bool.{false}
+use mathlib.Core.List.{List, []}
+use native.Mathlib.Omega.{arith}
 use denote.Ref.{now}
 use Rattle.meaning.specs.Schema.{Schema, Relationship}
-use Rattle.meaning.specs.Events.{Event}
-use Rattle.tables.specs.Columns.{typesOf, eventOf}
-use Rattle.event_effects.specs.Effects.{Can, Applied, ObjectsApplied, LinksApplied}
-use Rattle.event_effects.proofs.Applied.{objects-applied, links-applied, as-applied}
+use Rattle.meaning.specs.Register.{Register}
+use Rattle.meaning.specs.Events.{Event, apply}
+use Rattle.meaning.specs.Reach.{stepAt, taken}
+use Rattle.tables.specs.Columns.{typesOf, registerOf, eventOf}
+use Rattle.event_effects.specs.declared.Held.{Held}
+use Rattle.event_effects.specs.Effects.{Can, Applied, ObjectsApplied, LinksApplied, LossesKept}
+use Rattle.event_effects.proofs.Applied.{objects-applied, links-applied, joined-few, parted-few, losses-stay, as-applied, as-kept}
 use Rattle.event_refusals.proofs.Fields.{kind-unknown, kind-set, kind-join, kind-part, is-insert, is-delete, is-special, is-general}
 use borrow.Author.Needs.{needs}
 use Rattle.event_effects.proofs.effects.effect.Statement.{statement}
@@ -19,38 +24,57 @@ module _ (c : tie.After-slice-known2) where
   abbrev start : tie.Start
   start = c .before .before .before
 
+  abbrev held : Held
+  held = start .args .held
+
+  abbrev objects : List ℕ
+  objects = now (start .args .objects)
+
+  abbrev links : List ℕ
+  links = now (start .args .links)
+
+  abbrev losses : List ℕ
+  losses = now (start .args .losses)
+
   abbrev S : List Relationship → Schema
   S rs = record { types = typesOf (start .args .type-count) (now (start .args .types)); relationships = rs }
+
+  abbrev g : Register
+  g = registerOf (held .objects) objects (held .links) links
 
   abbrev event : Event
   event = eventOf (start .args .kind) (start .args .x) (start .args .y) (start .args .z)
 
   abbrev can : Event → Type 0
-  can =
-      Can (typesOf (start .args .type-count) (now (start .args .types))) (start .args .object-count) (now (start .args .objects)) (start .args .link-count)
-      (now (start .args .links))
+  can = Can (typesOf (start .args .type-count) (now (start .args .types))) (held .objects) objects (held .links) links
 
   -- what the event is allowed, once it is known which it is
   allowed : {e : Event} → event ≡ e → can e
   allowed q = subst can q (start .pre .0)
 
-  -- what it has done to one table, and so to both
-  abbrev Done : ℕ → List ℕ → ℕ → List ℕ → Type 0
-  Done n objects m links =
-      (rs : List Relationship)
-      → Applied (S rs) event (start .args .object-count) (now (start .args .objects)) (start .args .link-count) (now (start .args .links)) n objects m links
+  -- what it has done to both tables, and to the losses
+  abbrev Done : Held → List ℕ → List ℕ → List ℕ → Type 0
+  Done h objects′ links′ losses′ =
+      ((rs : List Relationship) → Applied (S rs) event (held .objects) objects (held .links) links (h .objects) objects′ (h .links) links′)
+      × LossesKept g event (held .links) (held .losses) losses (h .links) (h .losses) losses′
 
-  on-objects : {e : Event} → event ≡ e → {n : ℕ} {objects : List ℕ} → ((rs : List Relationship) → ObjectsApplied (S rs) e (start .args .object-count) (now (start .args .objects)) n objects)
-      → Done n objects (start .args .link-count) (now (start .args .links))
-  on-objects {e} q done rs =
-      as-applied q
-      (objects-applied (S rs) e (start .args .object-count) (now (start .args .objects)) (start .args .link-count) (now (start .args .links)) (done rs))
+  -- one that changes a table of the two, and takes no link along
+  abbrev Alone : Event → Type 0
+  Alone e = (r u : ℕ) → taken r u (stepAt g e) ≡ false
 
-  on-links : {e : Event} → event ≡ e → {m : ℕ} {links : List ℕ} → ((rs : List Relationship) → LinksApplied (S rs) e (start .args .link-count) (now (start .args .links)) m links)
-      → Done (start .args .object-count) (now (start .args .objects)) m links
-  on-links {e} q done rs =
-      as-applied q
-      (links-applied (S rs) e (start .args .object-count) (now (start .args .objects)) (start .args .link-count) (now (start .args .links)) (done rs))
+  on-objects : {e : Event} → event ≡ e → Alone e → ((rs : List Relationship) (h : Register) → (apply (S rs) e h) .links ≡ h .links) → {n : ℕ} {objects′ : List ℕ}
+      → ((rs : List Relationship) → ObjectsApplied (S rs) e (held .objects) objects n objects′) → Done (record { objects = n; links = held .links; losses = held .losses }) objects′ links losses
+  on-objects {e} q alone stay done = (
+    λ rs. as-applied q (objects-applied (S rs) e (held .objects) objects (held .links) links (stay rs) (done rs)),
+    as-kept q (losses-stay g e alone (omega arith)),
+  )
+
+  on-links : {e : Event} → event ≡ e → Alone e → ((rs : List Relationship) (h : Register) → (apply (S rs) e h) .objects ≡ h .objects) → {m : ℕ} {links′ : List ℕ}
+      → ((rs : List Relationship) → LinksApplied (S rs) e (held .links) links m links′) → m ≤ held .links + 1 → Done (record { objects = held .objects; links = m; losses = held .losses }) objects links′ losses
+  on-links {e} q alone stay done few = (
+    λ rs. as-applied q (links-applied (S rs) e (held .objects) objects (held .links) links (stay rs) (done rs)),
+    as-kept q (losses-stay g e alone few),
+  )
 
 -- ---- needs
 
@@ -61,12 +85,12 @@ put-object-requires c κs =
     let a = start (at .before) .args in
     allowed (at .before) (is-insert (a .x) (a .y) (a .z) (start (at .before) .pre .1) (at .match .keys1))
 
-take-object-requires : tie.Need-take-object-requires
+take-out-requires : tie.Need-take-out-requires
 unfolding Can
-take-object-requires c κs =
-    let at = c .before in
+take-out-requires c κs =
+    let at = c .before .before .before in
     let a = start (at .before) .args in
-    allowed (at .before) (is-delete (a .x) (a .y) (a .z) (start (at .before) .pre .1) (at .match .keys2))
+    (allowed (at .before) (is-delete (a .x) (a .y) (a .z) (start (at .before) .pre .1) (at .match .keys2)), start (at .before) .pre .2)
 
 put-cell-requires : tie.Need-put-cell-requires
 unfolding Can
@@ -107,71 +131,83 @@ same-length : tie.Need-same-length
 same-length c = search needs
 
 returns : tie.Need-returns
+unfolding apply
 returns c =
     let done = c .before .before in
     let at = done .before .before in
     let a = start (at .before) .args in
-    on-objects (at .before) (is-insert (a .x) (a .y) (a .z) (start (at .before) .pre .1) (at .match .keys1)) (λ rs. done .put-object .ensures (S (at .before) rs))
+    on-objects (at .before) (is-insert (a .x) (a .y) (a .z) (start (at .before) .pre .1) (at .match .keys1)) (λ r u. refl) (λ rs h. refl) (λ rs. done .put-object .ensures (S (at .before) rs))
 
 same-length-2 : tie.Need-same-length-2
 same-length-2 c = search needs
 
-returns-2 : tie.Need-returns-2
-returns-2 c =
-    let done = c .before .before in
-    let at = done .before .before in
-    let a = start (at .before) .args in
-    on-objects (at .before) (is-delete (a .x) (a .y) (a .z) (start (at .before) .pre .1) (at .match .keys2)) (λ rs. done .take-object .ensures (S (at .before) rs))
-
 same-length-3 : tie.Need-same-length-3
 same-length-3 c = search needs
 
-returns-3 : tie.Need-returns-3
-returns-3 c =
-    let done = c .before .before in
-    let at = done .before .before in
+returns-2 : tie.Need-returns-2
+returns-2 c =
+    let done = c .before .before .before .before in
+    let at = done .before .before .before .before in
     let a = start (at .before) .args in
-    on-objects (at .before) (kind-set (a .x) (a .y) (a .z) (at .match .keys3)) (λ rs. done .put-cell .ensures (S (at .before) rs))
+    let q = is-delete (a .x) (a .y) (a .z) (start (at .before) .pre .1) (at .match .keys2) in
+    (λ rs. as-applied q (done .take-out .ensures .0 (S (at .before) rs)), as-kept q (done .take-out .ensures .1))
 
 same-length-4 : tie.Need-same-length-4
 same-length-4 c = search needs
 
-returns-4 : tie.Need-returns-4
-returns-4 c =
+returns-3 : tie.Need-returns-3
+unfolding apply
+returns-3 c =
     let done = c .before .before in
     let at = done .before .before in
     let a = start (at .before) .args in
-    on-links (at .before) (kind-join (a .x) (a .y) (a .z) (at .match .keys4)) (λ rs. done .put-link .ensures (S (at .before) rs))
+    on-objects (at .before) (kind-set (a .x) (a .y) (a .z) (at .match .keys3)) (λ r u. refl) (λ rs h. refl) (λ rs. done .put-cell .ensures (S (at .before) rs))
 
 same-length-5 : tie.Need-same-length-5
 same-length-5 c = search needs
 
-returns-5 : tie.Need-returns-5
-returns-5 c =
+returns-4 : tie.Need-returns-4
+unfolding apply
+returns-4 c =
     let done = c .before .before in
     let at = done .before .before in
     let a = start (at .before) .args in
-    on-links (at .before) (kind-part (a .x) (a .y) (a .z) (at .match .keys5)) (λ rs. done .take-link .ensures (S (at .before) rs))
+    on-links (at .before) (kind-join (a .x) (a .y) (a .z) (at .match .keys4)) (λ r u. refl) (λ rs h. refl) (λ rs. done .put-link .ensures (S (at .before) rs))
+    (joined-few (done .put-link .ensures (S (at .before) [])))
 
 same-length-6 : tie.Need-same-length-6
 same-length-6 c = search needs
 
-returns-6 : tie.Need-returns-6
-returns-6 c =
+returns-5 : tie.Need-returns-5
+unfolding apply
+returns-5 c =
     let done = c .before .before in
     let at = done .before .before in
     let a = start (at .before) .args in
-    on-objects (at .before) (is-special (a .x) (a .y) (a .z) (start (at .before) .pre .1) (at .match .keys6)) (λ rs. done .put-type .ensures (S (at .before) rs))
+    on-links (at .before) (kind-part (a .x) (a .y) (a .z) (at .match .keys5)) (λ r u. refl) (λ rs h. refl) (λ rs. done .take-link .ensures (S (at .before) rs))
+    (parted-few (done .take-link .ensures (S (at .before) [])))
 
 same-length-7 : tie.Need-same-length-7
 same-length-7 c = search needs
 
+returns-6 : tie.Need-returns-6
+unfolding apply
+returns-6 c =
+    let done = c .before .before in
+    let at = done .before .before in
+    let a = start (at .before) .args in
+    on-objects (at .before) (is-special (a .x) (a .y) (a .z) (start (at .before) .pre .1) (at .match .keys6)) (λ r u. refl) (λ rs h. refl) (λ rs. done .put-type .ensures (S (at .before) rs))
+
+same-length-8 : tie.Need-same-length-8
+same-length-8 c = search needs
+
 returns-7 : tie.Need-returns-7
+unfolding apply
 returns-7 c =
     let done = c .before .before in
     let at = done .before .before in
     let a = start (at .before) .args in
-    on-objects (at .before) (is-general (a .x) (a .y) (a .z) (start (at .before) .pre .1) (at .match .keys7)) (λ rs. done .put-higher-type .ensures rs)
+    on-objects (at .before) (is-general (a .x) (a .y) (a .z) (start (at .before) .pre .1) (at .match .keys7)) (λ r u. refl) (λ rs h. refl) (λ rs. done .put-higher-type .ensures rs)
 
 returns-8 : tie.Need-returns-8
 returns-8 c =
@@ -187,7 +223,7 @@ effect-spec =
     tie.close
     (tie.spec
     put-object-requires
-    take-object-requires
+    take-out-requires
     put-cell-requires
     put-link-requires
     take-link-requires
@@ -196,15 +232,16 @@ effect-spec =
     same-length
     returns
     same-length-2
-    returns-2
     same-length-3
-    returns-3
+    returns-2
     same-length-4
-    returns-4
+    returns-3
     same-length-5
-    returns-5
+    returns-4
     same-length-6
-    returns-6
+    returns-5
     same-length-7
+    returns-6
+    same-length-8
     returns-7
     returns-8)

@@ -4,7 +4,7 @@ use denote.Ref.{now}
 use Rattle.meaning.specs.Events.{Event}
 use Rattle.tables.specs.Columns.{typesOf, eventOf, eventRow}
 use Rattle.event_effects.specs.Effects.{Can}
-use Rattle.event_effects.proofs.Applied.{as-applied}
+use Rattle.event_effects.proofs.Applied.{as-applied, as-kept}
 use borrow.Author.Needs.{needs}
 use Rattle.event_effects.proofs.effects.row_effect.Statement.{statement}
 use Rattle.event_effects.proofs.effects.row_effect.Tie as tie
@@ -41,8 +41,8 @@ word-requires-4 c κs = search needs
 
 effect-requires : tie.Need-effect-requires
 effect-requires c κs =
-    let words = c .before .before in
-    (subst (tables-can words) (sym (row-event words)) (start words .pre .0), λ p. start words .pre .1 (sym (row-event words) ∙ p))
+    let words = c .before .before .before in
+    (subst (tables-can words) (sym (row-event words)) (start words .pre .0), λ p. start words .pre .1 (sym (row-event words) ∙ p), start words .pre .2)
 
 same-length : tie.Need-same-length
 same-length c = search needs
@@ -53,8 +53,8 @@ same-length-2 c = search needs
 returns : tie.Need-returns
 returns c =
     let done = c .before .before .before .before in
-    let words = done .before .before .before in
-    λ rs. as-applied (sym (row-event words)) (done .effect .ensures rs)
+    let words = done .before .before .before .before in
+    (λ rs. as-applied (sym (row-event words)) (done .effect .ensures .0 rs), as-kept (sym (row-event words)) (done .effect .ensures .1))
 
 pub row-effect-spec : {M : Type 1} → statement M
 row-effect-spec =

@@ -1,4 +1,5 @@
 -- `events::runs::run` meets its contract: the copied rows are the register that was lent.
+use mathlib.Core.Path.{refl}
 use denote.Ref.{now}
 use Rattle.events.proofs.Reached.{Copies, copy-fits, copy-done}
 use borrow.Author.Needs.{needs}
@@ -54,7 +55,7 @@ rows-lent-requires-2 c κs = search needs
 run-on-requires : tie.Need-run-on-requires
 run-on-requires c κs =
     let ready = c .before .before in
-    (copy-fits _ _ _ _ _ _ _ _ (start ready .pre) (copies ready), start ready .pre .events-few)
+    (copy-fits _ _ _ _ _ _ _ _ (start ready .pre) (copies ready), start ready .pre .events-few, refl)
 
 same-length : tie.Need-same-length
 same-length c = search needs

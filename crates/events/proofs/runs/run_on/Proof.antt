@@ -1,4 +1,5 @@
--- `events::runs::run_on` meets its contract. The invariant: what is left of the batch before this event (`Reached`), whatever words are lent for a list.
+-- `events::runs::run_on` meets its contract. The invariant: what is left of the batch before this event (`Reached`), whatever words are lent for a list, and
+-- its losses (`Lost`).
 -- The measure is what is left of the events.
 use Prim.Native.Nat.{ℕ, _-_}
 use mathlib.Core.Path.{_≡_, refl, sym, ap, _∙_}
@@ -18,6 +19,7 @@ use Rattle.tables.specs.declared.Verdict.the-variants.{Clear, Refused}
 use Rattle.schema.proofs.Founds.{found-none, found-some}
 use Rattle.tables.specs.Met.{metType}
 use Rattle.events.proofs.Allowed.{some-event}
+use Rattle.events.proofs.Lost.{Lost, lost-none, lost-room, lost-more}
 use Rattle.events.proofs.Reached.{Reached, reached-none, reached-refused, reached-more, reached-end, fit-words}
 use Rattle.events.proofs.runs.run_on.Statement.{statement}
 use Rattle.events.proofs.runs.run_on.Tie as tie
@@ -29,14 +31,16 @@ abbrev lentOf : ℕ → ℕ → ℕ → Lent
 lentOf objects links w = record { objects = objects; links = links; words = w }
 
 abbrev Inv-loop : tie.InvT-loop
-Inv-loop type-count types relationship-count relationships objects-lent links-lent from objects₀ links₀ event-count events used₀ met₀ row₀ objects links used met row =
+Inv-loop type-count types relationship-count relationships objects-lent links-lent from objects₀ links₀ event-count events used₀ met₀ losses₀ row₀ objects links used met losses row =
     ((w : ℕ) →
     Reached (schemaOf type-count types relationship-count relationships) (lentOf objects-lent links-lent w) (registerOf (from .objects) objects₀ (from .links) links₀)
     (eventRow events) event-count row (used .objects) objects (used .links) links met)
     × (length objects ≡ length objects₀) × (length links ≡ length links₀)
+    × Lost (schemaOf type-count types relationship-count relationships) (registerOf (from .objects) objects₀ (from .links) links₀) (eventRow events) event-count row
+    (used .objects) objects (used .links) links (used .losses) losses
 
 abbrev μ-loop : tie.MeasureT-loop
-μ-loop type-count types relationship-count relationships objects-lent links-lent from objects₀ links₀ event-count events used₀ met₀ row₀ objects links used met row =
+μ-loop type-count types relationship-count relationships objects-lent links-lent from objects₀ links₀ event-count events used₀ met₀ losses₀ row₀ objects links used met losses row =
     event-count - row
 
 -- ---- a turn, once its event is looked at
@@ -45,7 +49,7 @@ abbrev Looked : Type 0
 Looked = tie.After-step Inv-loop μ-loop
 
 abbrev turn : Looked → tie.In-loop Inv-loop μ-loop
-turn c = c .before .before .before .before .before
+turn c = c .before .before .before .before .before .before
 
 abbrev at-loop : Looked → tie.At-loop Inv-loop μ-loop
 at-loop c = turn c .before
@@ -74,9 +78,9 @@ module _ (c : Looked) where
   unrefused e w = found-none _ (sym e ∙ c .step .ensures w .refused-is)
 
   -- an event that is not refused meets the type that was asked before it
-  seen : eventRefusal S (lent 0) g event ≡ none → c .before .before .before .met-type .result ≡ metType g event
+  seen : eventRefusal S (lent 0) g event ≡ none → c .before .before .before .before .met-type .result ≡ metType g event
   seen ok =
-      c .before .before .before .met-type .ensures (some-event S (lent 0) _ _ _ _ (at-loop c .loop .inv .0 0 .fit .ready) event ok)
+      c .before .before .before .before .met-type .ensures (some-event S (lent 0) _ _ _ _ (at-loop c .loop .inv .0 0 .fit .ready) event ok)
       (readRows (linkRow (at-loop c .loop .links)) (at-loop c .loop .used .links))
 
 -- ---- needs
@@ -84,13 +88,16 @@ module _ (c : Looked) where
 loop-holds : tie.Need-loop-holds Inv-loop μ-loop
 loop-holds c =
     let first = c .before .before .before .before .before in
-    (λ w. reached-none _ _ _ _ (first .pre .1) (fit-words (first .pre .0) w) _ refl, refl, refl)
+    (λ w. reached-none _ _ _ _ (first .pre .1) (fit-words (first .pre .0) w) _ refl, refl, refl, lost-none _ _ _ (first .pre .0 .links-few) (first .pre .2) _ refl)
 
 met-type-requires : tie.Need-met-type-requires Inv-loop μ-loop
 met-type-requires c κs = c .before .before .loop .inv .0 0 .fit .ready .fits .objects-ascend
 
 step-requires : tie.Need-step-requires Inv-loop μ-loop
-step-requires c κs = c .before .before .before .before .before .loop .inv .0 0 .fit .ready
+step-requires c κs =
+    let turn = c .before .before .before .before .before in
+    let inv = turn .before .loop .inv in
+    (inv .0 0 .fit .ready, lost-room _ _ _ _ (inv .3) (turn .loop-test .taken) (inv .0 0 .few))
 
 enum-known-refused : tie.Need-enum-known-refused Inv-loop μ-loop
 enum-known-refused c = search needs
@@ -115,8 +122,8 @@ returns c =
 enum-told : tie.Need-enum-told Inv-loop μ-loop
 enum-told c = search needs
 
-cast-at : tie.Need-cast-at Inv-loop μ-loop
-cast-at c = search needs
+cast-met : tie.Need-cast-met Inv-loop μ-loop
+cast-met c = search needs
 
 mul-met : tie.Need-mul-met Inv-loop μ-loop
 mul-met c = search needs
@@ -140,6 +147,7 @@ loop-again c =
       λ w. reached-more _ _ _ _ _ (inv .0 w) (turn asked .loop-test .taken) (clear w) applied (seen asked (clear 0)),
       applied .objects-length ∙ inv .1,
       applied .links-length ∙ inv .2,
+      lost-more _ _ _ _ (inv .3) (turn asked .loop-test .taken) applied (asked .step .ensures 0 .lost (told .enum-told .given .1)),
     )
 
 same-length-3 : tie.Need-same-length-3 Inv-loop μ-loop
@@ -151,7 +159,7 @@ same-length-4 c = search needs
 returns-2 : tie.Need-returns-2 Inv-loop μ-loop
 returns-2 c =
     λ w.
-    let r = reached-end _ _ _ _ _ (c .before .loop .inv .0 w) (c .loop-test .left) in
+    let r = reached-end _ _ _ _ _ (c .before .loop .inv .0 w) (c .loop-test .left) (c .before .loop .inv .3) in
     record { verdict-is = sym (ap verdictOf (r .0)); left = λ e. r .1 }
 
 pub run-on-spec : {M : Type 1} → statement M
@@ -168,7 +176,7 @@ run-on-spec =
     same-length-2
     returns
     enum-told
-    cast-at
+    cast-met
     mul-met
     array-write-met
     add-row
