@@ -1,14 +1,14 @@
 -- What is left, by the outcome.
 use Prim.Native.Nat.{ℕ}
 use mathlib.Core.Path.{_≡_, refl, sym, ap, ap₂, _∙_}
-use mathlib.Core.List.{List, [], flatMap}
+use mathlib.Core.List.{List, flatMap}
 use mathlib.Core.Option.{Option, none, some}
 use native.Mathlib.Nat.{div-mul-le-self}
 use native.Mathlib.Omega.{arith}
 use lib.ListN.{length}
 use Rattle.meaning.specs.Register.{Register}
 use Rattle.meaning.specs.Forms.{Book}
-use Rattle.meaning.specs.Events.{Lent, Refusal, after}
+use Rattle.meaning.specs.Events.{Lent, Refusal}
 use Rattle.meaning.specs.Reach.{Change, changeBy, selectedPairs}
 use Rattle.meaning.specs.Answers as Meaning
 use Rattle.meaning.specs.Answers.{accepted, brokenAt, refused, listRefusal, outcomeOf, outcomeUnless, registerLeft}

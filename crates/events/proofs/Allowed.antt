@@ -1,5 +1,5 @@
 -- An event that is not refused can have its effect, and the tables fit their schema after it as before.
-use Prim.Native.Nat.{ℕ, suc, _+_, _*_, _≤_, _<_, min}
+use Prim.Native.Nat.{ℕ, _≤_, _<_, min}
 use mathlib.Core.Path.{_≡_, refl, sym, ap, subst, _∙_}
 use mathlib.Core.Bool.{Bool, true, false, _&&_, not, cond}
 use mathlib.Core.List.{List, [], _∷_}
@@ -22,7 +22,7 @@ use Rattle.tables.specs.Columns.{objectRow, linkRow, registerOf, noEvent}
 use Rattle.schema.proofs.Rows.{length-rows, row-there}
 use Rattle.register.specs.Tables.{objectPlace, linkPlace}
 use Rattle.register.proofs.Rows.{place-there}
-use Rattle.event_effects.specs.Effects.{CanInsert, CanChange, CanJoin, CanPart, RelationshipsLow, Can, Applied}
+use Rattle.event_effects.specs.Effects.{CanChange, RelationshipsLow, Can, Applied}
 use Rattle.events.specs.Steps.{Ready}
 use Rattle.event_refusals.proofs.Fields.{no-event-refused}
 use Rattle.event_tests.proofs.Tests.{test-found, link-present, link-absent}

@@ -3,7 +3,7 @@
 use Prim.Native.Nat.{ℕ, _<_, _≤_, _-_, min}
 use mathlib.Core.Path.{_≡_, refl, sym, ap, subst, _∙_}
 use mathlib.Core.Logic.{_⊎_, inl, inr, ⊎-elim}
-use mathlib.Core.Bool.{Bool, true, false, _&&_, _||_, not, cond}
+use mathlib.Core.Bool.{Bool, true, false, _&&_, not, cond}
 use mathlib.Core.List.{List, [], _∷_, Memᴰ·cast}
 use mathlib.Core.Option.{Option, none, some, Option·map, Option·none-ne-some, Option·some-ne-none, Option·some-injective}
 use native.Mathlib.Nat.{add-sub-of-le, lt-of-lt-of-le, le-trans}
@@ -19,7 +19,7 @@ use Rattle.meaning.specs.Schema.{ObjectType, Relationship, Schema, known
 use Rattle.meaning.specs.Register.{Object, Link, Register, objectKey, linkKey, objectAt, present, isUnder, cellAt, sameLink, hasLink, nearEnd, farEnd, startsAt, isZero, objectFits, linkFits}
 use Rattle.meaning.specs.Events.{Event, insert, delete, set, join, part, special, general, Lent, linkOf, newObject, clearedFrom, withCell, withType, withHigherType, amended, endsAt, apply, Check}
 use Rattle.meaning.specs.Events.{_when_, firstMet, needsType, typeNeeded, strictlyAbove, strictlyUnder, hasCell, checks, eventRefusal, knownEvent}
-use Rattle.meaning.specs.Reach.{stepAt, joined, partNamed, leadsTo, taken, parted, setsCell, insertsInto, specialisesInto, deletesFrom, generalisesFrom}
+use Rattle.meaning.specs.Reach.{stepAt, joined, leadsTo, taken, parted, setsCell, insertsInto, specialisesInto, deletesFrom, generalisesFrom}
 use Rattle.meaning.proofs.Lists.{not-and-left, not-sub, decide, first-absent, first-keep, first-map, every-drop, every-take, every-append, every-replicate, every-set, holds-some, cond-yes, cond-no, any-none, keep-in, keep-from, length-keep, ascending-keep, ascending-map}
 use Rattle.meaning.proofs.Order.{first-put, length-put, put-from, put-other, put-has, put-ascending}
 use Rattle.meaning.proofs.Schemas.{TypesFit, under-trans, under-cells}

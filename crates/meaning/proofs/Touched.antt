@@ -248,16 +248,19 @@ module _ (c : Change) where
     role-listed : (r u : ℕ) (d : Direction) → T (roleMoves c r u d) → T (occur (roleLists S r d))
     unfolding roleMoves roleLists occurs
     role-listed r u up h =
-        one-listed (joinOf (relationshipOf r))
+        any-of (occurs c) {l = roleLists S r up} (List·Memᴰ·head refl)
         (some-map c _ _
         (λ s. among-map joins _ _ (λ n a b t. starts-relationship r u (linkOf n a b) (and-yes (startsAt r u (linkOf n a b)) (hasLink (c .end) (linkOf n a b)) t .0)) (s .event)) h)
     role-listed r u down h =
-        occur-either (someStep c (partNamed r u)) (someStep c (taken r u)) (partOf (relationshipOf r) ∷ []) (deleteOf (farType relationships r) ∷ [])
-        (λ p. one-listed (partOf (relationshipOf r)) (some-map c _ _ (λ s. among-map parts _ _ (λ n a b. starts-relationship r u (linkOf n a b)) (s .event)) p))
+        ⊎-elim
+        (λ p.
+        any-of (occurs c) {l = roleLists S r down} (List·Memᴰ·head refl)
+        (some-map c _ _ (λ s. among-map parts _ _ (λ n a b. starts-relationship r u (linkOf n a b)) (s .event)) p))
         (λ p.
         let s = step-of (taken r u) p in
-        one-listed (deleteOf (farType relationships r)) (some-step (deletesFrom types (farType relationships r) anyone) (s .1) (taken-out r u (s .0) (steps-fit (s .0) (s .1) .1) (s .0 .event) (s .2))))
-        (some-either (partNamed r u) (taken r u) h)
+        any-of (occurs c) {l = roleLists S r down} (List·Memᴰ·tail (List·Memᴰ·head refl))
+        (some-step (deletesFrom types (farType relationships r) anyone) (s .1) (taken-out r u (s .0) (steps-fit (s .0) (s .1) .1) (s .0 .event) (s .2))))
+        (or-yes (someStep c (partNamed r u)) (someStep c (taken r u)) (some-either (partNamed r u) (taken r u) h))
 
     all-listed : (t : ℕ) (d : Direction) → T (allMoves c t d) → T (occur (allLists S t d))
     unfolding allMoves allLists occurs

@@ -21,7 +21,7 @@ use Rattle.register.proofs.Hits.{hit-some}
 use Rattle.register.proofs.Rows.{guessed-place}
 use Rattle.walks.specs.Site.{idIn}
 use Rattle.trace_places.specs.Questions.{Question, answers, named, answersAt}
-use Rattle.trace_places.specs.Traces.{itself, placeAnswers, namedAt, orPast, rowNamed, placeRow, thereWord, metWord, Traced}
+use Rattle.trace_places.specs.Traces.{placeAnswers, namedAt, orPast, rowNamed, placeRow, thereWord, metWord, Traced}
 use Rattle.trace_places.proofs.Questions.{names, step-places}
 use Rattle.trace_places.proofs.Steps.{any-none-at, any-some-at, step-at, step-within, step-event}
 

@@ -7,7 +7,7 @@ use Rattle.meaning.specs.Lists.{any}
 use Rattle.meaning.specs.Schema.{under}
 use Rattle.meaning.specs.Register.{isUnder}
 use Rattle.meaning.specs.Forms.{variable}
-use Rattle.meaning.specs.Reach.{Step, Change, someStep, partNamed, taken, Direction, up, down, roleMoves, allMoves, cellMoves, inserted, specialised, kindMoves}
+use Rattle.meaning.specs.Reach.{Change, someStep, partNamed, taken, Direction, up, down, roleMoves, allMoves, cellMoves, inserted, specialised, kindMoves}
 use Rattle.tables.specs.Columns.{objectRow, typesOf}
 use Rattle.tables.specs.declared.Counts.{Counts}
 use Rattle.directions.specs.Sets.{has, someOf}

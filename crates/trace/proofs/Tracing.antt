@@ -1,5 +1,5 @@
 -- The whole trace, from its places, what is kept of each event, and the sets of directions of each type.
-use Prim.Native.Nat.{ℕ, _+_, _*_, _≤_, _<_}
+use Prim.Native.Nat.{ℕ, _+_, _*_, _<_}
 use mathlib.Core.Path.{_≡_, sym, ap, subst, _∙_}
 use mathlib.Core.Bool.{Bool, _||_}
 use mathlib.Core.List.{List, []}
@@ -19,7 +19,7 @@ use Rattle.chains.specs.Chains.{Chained}
 use Rattle.chains.proofs.Chains.{chained-same}
 use Rattle.directions.specs.Sets.{has}
 use Rattle.trace_places.specs.Questions.{metUnder}
-use Rattle.trace_places.specs.Traces.{Seen, metWord, allSet, firstPlace, nextLoss, lossCount, firstLoss, lossSlot, rowLost, lossRow, LossesTraced, Traced}
+use Rattle.trace_places.specs.Traces.{Seen, metWord, allSet, firstPlace, nextLoss, lossCount, firstLoss, lossSlot, rowLost, lossRow, Traced}
 use Rattle.trace_places.specs.Making.{Placed, Kept, LossesPut, eventMoves, someBelow, SetsWith, CanTrace}
 use Rattle.trace_places.proofs.Steps.{step-within, all-below}
 

@@ -15,14 +15,14 @@ use borrow.Fn.PlainCycle.{Measures, is, falls, and}
 use Rattle.meaning.specs.Schema.{Schema}
 use Rattle.meaning.specs.Forms.{Sort, collection, bind}
 use Rattle.tables.specs.Codes.{Operator, operatorOf}
-use Rattle.tables.specs.Bodies.{BodyRow, Part, reads, ending, firstPart, secondPart}
+use Rattle.tables.specs.Bodies.{BodyRow, reads, ending, firstPart, secondPart}
 use Rattle.tables.proofs.Readings.{ending-start, sound-pos}
 use Rattle.directions.proofs.Passes.{pass-small}
 use Rattle.body_rows.specs.Marks.{bodyOf, firstSort, secondSort, Starts}
 use Rattle.typing.specs.Types.{memberOf}
 use Rattle.body_rows.proofs.Kept.{starts-less}
 use Rattle.typing.proofs.Types.{lent, operatorHere, partsHere, coded-here, code-here, second-here, first-here, binds-here, sums-here, bind-take}
-use Rattle.type_marks.specs.Marks.{places, Added}
+use Rattle.type_marks.specs.Marks.{places}
 use Rattle.type_marks.specs.Lists.{markedBy, partMarks, leafLists, sumMarks}
 use Rattle.type_marks.proofs.Marks.{added-as, added-then}
 use Rattle.form_marks.proofs.Nodes.{passTo, inner, leaf-here, one-here, two-here}

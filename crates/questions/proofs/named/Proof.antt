@@ -1,13 +1,11 @@
 -- `questions::named` meets its contract: the walk over the row's places stops at the first that answers. The loop's invariant is `Walk`; the
 -- measure is what is left of the places.
-use Prim.Native.Nat.{ℕ, suc, _+_, _-_, _*_, _/_, _%_, _≤_, _<_}
-use mathlib.Core.Path.{_≡_, sym, ap, _∙_}
+use Prim.Native.Nat.{ℕ, suc, _-_, _*_, _/_, _%_, _≤_, _<_}
+use mathlib.Core.Path.{_≡_, sym, _∙_}
 use mathlib.Core.Bool.{Bool}
 use native.Mathlib.Omega.{arith}
 use lib.Dec.{eqb}
 use denote.Ref.{now}
-use borrow.Author.Needs.{needs}
-use Rattle.meaning.specs.Reach.{Change}
 use Rattle.tables.specs.Columns.{typesOf, eventRow}
 use Rattle.trace_places.specs.Questions.{Question, questionOf, answersAt}
 use Rattle.trace_places.specs.Traces.{itself, placeRow, thereWord, metWord, Traced}

@@ -1,11 +1,8 @@
 -- `row_sets::put_answers` meets its contract.
-use Prim.Native.Nat.{ℕ, _<_}
-use mathlib.Core.Path.{_≡_, sym, ap, subst, _∙_}
+use mathlib.Core.Path.{sym, ap, subst, _∙_}
 use mathlib.Core.Logic.{⊎-elim}
-use mathlib.Core.Bool.{true, false, _||_}
 use denote.Ref.{now}
 use lib.Dec.{T}
-use Rattle.meaning.specs.Reach.{Change}
 use Rattle.walks.specs.Site.{idIn}
 use Rattle.trace_places.specs.Questions.{named, takenFrom, asked, questionOf}
 use Rattle.questions.proofs.Losses.{not-taken}
