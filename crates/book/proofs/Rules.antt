@@ -8,12 +8,13 @@ use lib.Dec.{T, leb}
 use mir.Facts.{yes-and, yes-leb, no-leb, yes-eqb, no-eqb}
 use borrow.Author.Tests.{lt-ltb, le-ltb, le-leb}
 use Rattle.meaning.specs.Limits.{maxForms}
-use Rattle.meaning.specs.Schema.{Schema, knownType}
+use Rattle.meaning.specs.Schema.{Floor, Schema, knownType}
 use Rattle.meaning.specs.Forms.{truth, Form, kind, wellTyped, formCount, Rule, faultyRule}
 use Rattle.meaning.proofs.Lists.{not-and-left, not-and-right}
+use Rattle.meaning.proofs.Floors.{typed-floors}
 use Rattle.rows.specs.Rows.{wordAt}
-use Rattle.tables.specs.Bodies.{BodyRow, reads, wholeBody, readBody, ending}
-use Rattle.tables.specs.Columns.{ruleRow}
+use Rattle.tables.specs.Bodies.{BodyRow, asTruth, reads, wholeBody, readBody, ending}
+use Rattle.tables.specs.Columns.{ruleRow, schemaOf}
 use Rattle.tables.proofs.Readings.{is-truth}
 use Rattle.tables.proofs.Forms.{whole-ending, whole-body, body-ending, body-none, body-count}
 use Rattle.schema.proofs.Types.{type-known}
@@ -48,9 +49,9 @@ module _ (rows : ℕ → BodyRow) (n : ℕ) where
 
 -- ---- a rule, by the two words of its row
 
-module _ (typeCount : ℕ) (types : List ℕ) (relationshipCount : ℕ) (relationships rules bodies : List ℕ) (rule : ℕ) (context size : ℕ) (first : context ≡ wordAt rules 2 rule 0) (second : size ≡ wordAt rules 2 rule 1) (p : Option Rule) where
+module _ (typeCount : ℕ) (types : List ℕ) (relationshipCount : ℕ) (relationships rules bodies : List ℕ) (rule : ℕ) (context size : ℕ) (first : context ≡ wordAt rules 2 rule 0) (second : size ≡ wordAt rules 2 rule 1) (fs : List Floor) (p : Option Rule) where
   abbrev S : Schema
-  S = lent typeCount types relationshipCount relationships
+  S = schemaOf typeCount types fs relationshipCount relationships
 
   abbrev body : Form truth
   body = readBody (bodyOf bodies rule) size
@@ -83,7 +84,7 @@ module _ (typeCount : ℕ) (types : List ℕ) (relationshipCount : ℕ) (relatio
       refused true c = refl
       refused false c = refl
 
-  pub judged : context < typeCount → ((k : ℕ) → (bodyOf bodies rule k) .x < 2 ^ 32) → T (wholeBody (bodyOf bodies rule) size) → (b : Bool) → b ≡ typedPart S (context ∷ []) ((ending (bodyOf bodies rule) size) .form) → not b ≡ faulty
+  pub judged : context < typeCount → ((k : ℕ) → (bodyOf bodies rule k) .x < 2 ^ 32) → T (wholeBody (bodyOf bodies rule) size) → (b : Bool) → b ≡ typedPart (lent typeCount types relationshipCount relationships) (context ∷ []) ((ending (bodyOf bodies rule) size) .form) → not b ≡ faulty
   unfolding typedPart
   judged h words whole b e =
       let rows = bodyOf bodies rule in
@@ -91,7 +92,9 @@ module _ (typeCount : ℕ) (types : List ℕ) (relationshipCount : ℕ) (relatio
       let known : true ≡ knownType (S .types) context = sym (type-known typeCount types context ∙ lt-ltb context typeCount h) in
       let few : true ≡ leb (formCount body) maxForms = sym (ap (λ n. leb n maxForms) (body-count rows words size whole) ∙ le-leb size maxForms (w .few)) in
       let same : b ≡ wellTyped S (context ∷ []) body =
-      e ∙ ap (typedPart S (context ∷ [])) (is-truth ((ending rows size) .form) (w .isTruth)) ∙ ap (wellTyped S (context ∷ [])) (sym (body-ending rows size whole)) in
+      e ∙ ap (typedPart (lent typeCount types relationshipCount relationships) (context ∷ [])) (is-truth ((ending rows size) .form) (w .isTruth))
+      ∙ typed-floors (S .types) (S .relationships) [] fs (context ∷ []) (asTruth ((ending rows size) .form))
+      ∙ ap (wellTyped S (context ∷ [])) (sym (body-ending rows size whole)) in
       ap not (sym (all-three b) ∙ (λ j. known j && same j && few j)) ∙ tests
     where
       all-three : (b : Bool) → (true && b && true) ≡ b

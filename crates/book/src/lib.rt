@@ -1,9 +1,11 @@
-// Refusal 4: each rule of lent tables has a known context type, and a body that is one whole form, well typed.
+// Refusal 4: each rule of lent tables has a known context type, and a body that is one whole form, well typed, whatever the floors.
 use body_rows::body;
 use tables::Found;
 use typing::Place;
 ghost use mathlib.Core.Path.{_≡_};
+ghost use mathlib.Core.List.{List};
 ghost use mathlib.Core.Option.{Option};
+ghost use Rattle.meaning.specs.Schema.{Floor};
 ghost use Rattle.meaning.specs.Forms.{Rule, faultyRule, ruleFault};
 ghost use Rattle.tables.specs.Columns.{ruleRow, schemaOf, rulesOf};
 ghost use Rattle.tables.specs.Refusals.{foundOf};
@@ -18,8 +20,8 @@ fn faulty(
     bodies: &[u32],
     rule: u32,
 ) -> bool
-    ensures { λ r. ⌜ ((p : Option Rule) → r ≡ faultyRule
-        (schemaOf «type_count» (now (types .entry)) «relationship_count» (now (relationships .entry)))
+    ensures { λ r. ⌜ ((fs : List Floor) (p : Option Rule) → r ≡ faultyRule
+        (schemaOf «type_count» (now (types .entry)) fs «relationship_count» (now (relationships .entry)))
         rule p (ruleRow (now (rules .entry)) (now (bodies .entry)) rule)) ⌝ }
 {
     let context = rows::word(rules, tables::RULE_WIDTH, rule, 0);
@@ -43,6 +45,7 @@ fn faulty(
     env[0] = context;
     let form = Place {
         types: type_count,
+        floors: 0,
         relationships: relationship_count,
         rule,
         end: n,
@@ -61,10 +64,10 @@ pub fn check(
     rules: &[u32],
     bodies: &[u32],
 ) -> Found
-    ensures { λ r. ⌜ r ≡ foundOf (ruleFault (record {
-      schema = schemaOf «type_count» (now (types .entry)) «relationship_count» (now (relationships .entry));
+    ensures { λ r. ⌜ ((fs : List Floor) → r ≡ foundOf (ruleFault (record {
+      schema = schemaOf «type_count» (now (types .entry)) fs «relationship_count» (now (relationships .entry));
       rules = rulesOf «rule_count» (now (rules .entry)) (now (bodies .entry));
-    })) ⌝ }
+    }))) ⌝ }
 {
     let mut rule: u32 = 0;
     while rule < rule_count {

@@ -11,21 +11,21 @@ use borrow.Author.Tests.{lt-ltb, ltb-false}
 use denote.Floats.{is-true}
 use lib.Dec.{T, ltb}
 use lib.ListN.{length, getElem?}
-use mir.Facts.{and-yes, ltb-yes, T-not-not}
+use mir.Facts.{ltb-yes, T-not-not}
 use Rattle.meaning.specs.Lists.{any, firstOf}
-use Rattle.meaning.specs.Limits.{cellCount, validId}
-use Rattle.meaning.specs.Schema.{Schema, knownType, cellsOf}
-use Rattle.meaning.specs.Register.{cellsFit, objectFits}
+use Rattle.meaning.specs.Limits.{cellCount}
+use Rattle.meaning.specs.Schema.{Schema, cellsOf}
 use Rattle.meaning.specs.Forms.{wellTyped}
 use Rattle.meaning.specs.Events.{Refusal, knownEvent}
 use Rattle.meaning.specs.Answers.{refusalAt, refusal}
 use Rattle.meaning.proofs.Lists.{decide, element-in, first-of-none}
 use Rattle.meaning.proofs.Order.{fault-none}
+use Rattle.meaning.proofs.Registers.{object-parts}
 use Rattle.meaning.proofs.Agreement.{Checked, checked, refusal-at-none}
 use Rattle.rows.specs.Rows.{wordAt, rowsLent}
-use Rattle.tables.specs.Layouts.{Sheet, Layout, typeTable, relationshipTable, ruleTable, bodyTable, objectTable, linkTable, eventTable, bookTables, layouts}
+use Rattle.tables.specs.Layouts.{Sheet, Layout, typeTable, floorTable, relationshipTable, ruleTable, bodyTable, objectTable, linkTable, eventTable, bookTables, layouts}
 use Rattle.tables.specs.Bodies.{wholeBody}
-use Rattle.tables.specs.Columns.{bookOf, registerIn, batchIn, ruleRow, objectRow, eventRow}
+use Rattle.tables.specs.Columns.{floorsOf, bookOf, registerIn, batchIn, ruleRow, objectRow, eventRow}
 use Rattle.tables.specs.Refusals.{verdictOf, overfull, anyOverfull, tableRefusal, refusalOf, eventFault, sheetRefusal}
 use Rattle.tables.specs.declared.Counts.{Counts}
 use Rattle.tables.specs.declared.Verdict.the-variants.{Clear}
@@ -98,12 +98,11 @@ module _ (n : Counts) (s : Sheet) where
     whole = bodies-whole fits
 
     pub typed : (i : ℕ) → i < n .objects → wordAt (s .objects) 10 i 1 < n .types
-    unfolding objectFits objectRow
+    unfolding objectRow
     typed i h =
         let o = objectRow (s .objects) i in
         let fit = fits .register .objects-fit o (element-in _ i (row-there (objectRow (s .objects)) (n .objects) i h)) in
-        let known = and-yes (validId (o .id) && knownType (S .types) (o .type)) (cellsFit (S .types) o) fit .0 in
-        ltb-yes (subst T (type-known (n .types) (s .types) (wordAt (s .objects) 10 i 1)) (and-yes (validId (o .id)) (knownType (S .types) (o .type)) known .1))
+        ltb-yes (subst T (type-known (n .types) (s .types) (wordAt (s .objects) 10 i 1)) (object-parts S o fit .type-known))
 
     pub cells : (i : ℕ) → i < n .objects → wordAt (s .types) 2 (wordAt (s .objects) 10 i 1) 1 ≤ cellCount
     cells i h =
@@ -120,16 +119,18 @@ module _ (n : Counts) (s : Sheet) where
     given =
         record {
           few-types = kept typeTable (few 0 typeTable refl);
-          few-relationships = kept relationshipTable (few 1 relationshipTable refl);
-          few-rules = kept ruleTable (few 2 ruleTable refl);
-          few-objects = kept objectTable (few 4 objectTable refl);
-          few-links = kept linkTable (few 5 linkTable refl);
+          few-floors = kept floorTable (few 1 floorTable refl);
+          few-relationships = kept relationshipTable (few 2 relationshipTable refl);
+          few-rules = kept ruleTable (few 3 ruleTable refl);
+          few-objects = kept objectTable (few 5 objectTable refl);
+          few-links = kept linkTable (few 6 linkTable refl);
           types-lent = omega (arith, lent typeTable (few 0 typeTable refl), div-mul-le-self (length (s .types)) 2);
-          relationships-lent = omega (arith, lent relationshipTable (few 1 relationshipTable refl), div-mul-le-self (length (s .relationships)) 2);
-          rules-lent = omega (arith, lent ruleTable (few 2 ruleTable refl), div-mul-le-self (length (s .rules)) 2);
-          bodies-lent = omega (arith, lent bodyTable (few 3 bodyTable refl), div-mul-le-self (length (s .bodies)) 4);
-          objects-lent = omega (arith, lent objectTable (few 4 objectTable refl), div-mul-le-self (length (s .objects)) 10);
-          links-lent = omega (arith, lent linkTable (few 5 linkTable refl), div-mul-le-self (length (s .links)) 3);
+          floors-lent = omega (arith, lent floorTable (few 1 floorTable refl), div-mul-le-self (length (s .floors)) 2);
+          relationships-lent = omega (arith, lent relationshipTable (few 2 relationshipTable refl), div-mul-le-self (length (s .relationships)) 2);
+          rules-lent = omega (arith, lent ruleTable (few 3 ruleTable refl), div-mul-le-self (length (s .rules)) 2);
+          bodies-lent = omega (arith, lent bodyTable (few 4 bodyTable refl), div-mul-le-self (length (s .bodies)) 4);
+          objects-lent = omega (arith, lent objectTable (few 5 objectTable refl), div-mul-le-self (length (s .objects)) 10);
+          links-lent = omega (arith, lent linkTable (few 6 linkTable refl), div-mul-le-self (length (s .links)) 3);
           clear = parts bookTables short clear .1;
           whole = whole (parts bookTables short clear .1);
           typed = typed (parts bookTables short clear .1);
@@ -141,7 +142,7 @@ module _ (n : Counts) (s : Sheet) where
   module _ (short : Bool) (clear : refusalOf layouts n s short ≡ none) where
     few-events : over n s eventTable ≡ false
     unfolding layouts
-    few-events = few-at layouts short clear 6 eventTable refl
+    few-events = few-at layouts short clear 7 eventTable refl
 
     pub given-all : Given n s × EventsLent n s
     given-all =
@@ -168,6 +169,6 @@ module _ (n : Counts) (s : Sheet) where
         rows,
         record {
           known = known;
-          kinds = λ i h. kind-known (n .types) (s .types) (n .relationships) (s .relationships) _ _ _ (wordAt (s .events) 4 i 0) (is-true _ (known i h));
+          kinds = λ i h. kind-known (n .types) (s .types) (floorsOf (n .floors) (s .floors)) (n .relationships) (s .relationships) _ _ _ (wordAt (s .events) 4 i 0) (is-true _ (known i h));
         },
       )

@@ -5,7 +5,7 @@ use mathlib.Core.Bool.{Bool, true, false, _||_, not, cond, or-assoc, or-comm}
 use mathlib.Core.List.{List, [], _∷_, _++_}
 use mathlib.Core.Option.{Option, none, some}
 use Rattle.meaning.specs.Lists.{any, firstOf}
-use Rattle.meaning.specs.Schema.{typeFault, relationshipFault}
+use Rattle.meaning.specs.Schema.{typeFault, floorFault, relationshipFault}
 use Rattle.meaning.specs.Register.{Register, objectFault, linkFault}
 use Rattle.meaning.specs.Forms.{Book, ruleFault}
 use Rattle.meaning.specs.Events.{Refusal}
@@ -39,10 +39,10 @@ module _ (n : Counts) (s : Sheet) where
   g = registerIn n s
 
   abbrev types : Option ℕ
-  types = firstOf (typeFault (k .schema .types)) (relationshipFault (k .schema))
+  types = firstOf (typeFault (k .schema .types)) (firstOf (floorFault (k .schema)) (relationshipFault (k .schema)))
 
   abbrev rows : Option ℕ
-  rows = firstOf (objectFault (k .schema .types) g) (linkFault (k .schema) g)
+  rows = firstOf (objectFault (k .schema .types) (k .schema .floors) g) (linkFault (k .schema) g)
 
   -- refusals 3, 4 and 5, stage by stage
   pub stages : verdictOf (refusal k g) ≡ staged 3 (foundOf types) (staged 4 (foundOf (ruleFault k)) (staged 5 (foundOf rows) Clear))
@@ -101,8 +101,8 @@ module _ (n : Counts) (s : Sheet) (short : Bool) where
       (refusal (bookOf n s) (registerIn n s)))
 
 -- a book and a register are refused alike, whatever the events
-pub without-events : (n : Counts) (types relationships rules bodies objects links events : List ℕ) (short : Bool)
-    → refusalOf bookTables n (sheetOf types relationships rules bodies objects links []) short
-    ≡ refusalOf bookTables n (sheetOf types relationships rules bodies objects links events) short
+pub without-events : (n : Counts) (types floors relationships rules bodies objects links events : List ℕ) (short : Bool)
+    → refusalOf bookTables n (sheetOf types floors relationships rules bodies objects links []) short
+    ≡ refusalOf bookTables n (sheetOf types floors relationships rules bodies objects links events) short
 unfolding refusalOf tableRefusal bookTables
-without-events n types relationships rules bodies objects links events short = refl
+without-events n types floors relationships rules bodies objects links events short = refl

@@ -4,7 +4,7 @@ use mathlib.Core.Path.{_≡_}
 use mathlib.Core.Option.{none}
 use lib.Dec.{T}
 use lib.ListN.{length}
-use Rattle.meaning.specs.Limits.{maxTypes, maxRelationships, maxRules, maxObjects, maxLinks, maxEvents, cellCount}
+use Rattle.meaning.specs.Limits.{maxTypes, maxFloors, maxRelationships, maxRules, maxObjects, maxLinks, maxEvents, cellCount}
 use Rattle.meaning.specs.Events.{knownEvent}
 use Rattle.meaning.specs.Answers.{refusal}
 use Rattle.rows.specs.Rows.{wordAt}
@@ -17,11 +17,13 @@ use Rattle.body_rows.specs.Marks.{bodyOf}
 -- limits are kept, used rows are lent, refusals 3 to 5 are not met; so bodies are whole forms, and objects have known types of few cells
 pub record Given (n : Counts) (s : Sheet) : Type 0 where
   pub few-types : n .types ≤ maxTypes
+  pub few-floors : n .floors ≤ maxFloors
   pub few-relationships : n .relationships ≤ maxRelationships
   pub few-rules : n .rules ≤ maxRules
   pub few-objects : n .objects ≤ maxObjects
   pub few-links : n .links ≤ maxLinks
   pub types-lent : n .types * 2 ≤ length (s .types)
+  pub floors-lent : n .floors * 2 ≤ length (s .floors)
   pub relationships-lent : n .relationships * 2 ≤ length (s .relationships)
   pub rules-lent : n .rules * 2 ≤ length (s .rules)
   pub bodies-lent : n .rules * 256 ≤ length (s .bodies)

@@ -32,15 +32,23 @@ fn refuse(number: u32, place: Found, otherwise: Verdict) -> Verdict
 fn contents(
     n: Counts,
     types: &[u32],
+    floors: &[u32],
     relationships: &[u32],
     rules: &[u32],
     bodies: &[u32],
     objects: &[u32],
     links: &[u32],
 ) -> Verdict
-    ensures { λ r. ⌜ (let s = sheetOf (now (types .entry)) (now (relationships .entry)) (now (rules .entry)) (now (bodies .entry)) (now (objects .entry)) (now (links .entry)) [] in r ≡ verdictOf (refusal (bookOf n s) (registerIn n s))) ⌝ }
+    ensures { λ r. ⌜ (let s = sheetOf (now (types .entry)) (now (floors .entry)) (now (relationships .entry)) (now (rules .entry)) (now (bodies .entry)) (now (objects .entry)) (now (links .entry)) [] in r ≡ verdictOf (refusal (bookOf n s) (registerIn n s))) ⌝ }
 {
-    let s = schema::check(n.types, types, n.relationships, relationships);
+    let s = schema::check(
+        n.types,
+        types,
+        n.floors,
+        floors,
+        n.relationships,
+        relationships,
+    );
     let b = book::check(
         n.types,
         types,
@@ -53,6 +61,8 @@ fn contents(
     let g = register_faults::check(
         n.types,
         types,
+        n.floors,
+        floors,
         n.relationships,
         relationships,
         n.objects,
@@ -69,6 +79,7 @@ fn contents(
 pub fn check(
     n: Counts,
     types: &[u32],
+    floors: &[u32],
     relationships: &[u32],
     rules: &[u32],
     bodies: &[u32],
@@ -76,25 +87,44 @@ pub fn check(
     links: &[u32],
     scratch_short: bool,
 ) -> Verdict
-    ensures { λ r. ⌜ r ≡ verdictOf (lentRefusal n (sheetOf (now (types .entry)) (now (relationships .entry)) (now (rules .entry)) (now (bodies .entry)) (now (objects .entry)) (now (links .entry)) []) «scratch_short») ⌝ }
+    ensures { λ r. ⌜ r ≡ verdictOf (lentRefusal n (sheetOf (now (types .entry)) (now (floors .entry)) (now (relationships .entry)) (now (rules .entry)) (now (bodies .entry)) (now (objects .entry)) (now (links .entry)) []) «scratch_short») ⌝ }
 {
-    if any_overfull(n, types, relationships, rules, bodies, objects, links) {
+    if any_overfull(
+        n,
+        types,
+        floors,
+        relationships,
+        rules,
+        bodies,
+        objects,
+        links,
+    ) {
         return Verdict::Refused(2, 0);
     }
     if any_long(rules, n.rules) {
         return Verdict::Refused(2, 0);
     }
-    let broken = any_broken(types, relationships, rules, bodies, objects, links);
+    let broken = any_broken(types, floors, relationships, rules, bodies, objects, links);
     if or(broken, scratch_short) {
         return Verdict::Refused(6, 0);
     }
-    contents(n, types, relationships, rules, bodies, objects, links)
+    contents(
+        n,
+        types,
+        floors,
+        relationships,
+        rules,
+        bodies,
+        objects,
+        links,
+    )
 }
 
 // The same with a lent batch: 2 and 6 of its table too.
 pub fn check_all(
     n: Counts,
     types: &[u32],
+    floors: &[u32],
     relationships: &[u32],
     rules: &[u32],
     bodies: &[u32],
@@ -103,7 +133,7 @@ pub fn check_all(
     events: &[u32],
     scratch_short: bool,
 ) -> Verdict
-    ensures { λ r. ⌜ r ≡ verdictOf (refusalOf layouts n (sheetOf (now (types .entry)) (now (relationships .entry)) (now (rules .entry)) (now (bodies .entry)) (now (objects .entry)) (now (links .entry)) (now (events .entry))) «scratch_short») ⌝ }
+    ensures { λ r. ⌜ r ≡ verdictOf (refusalOf layouts n (sheetOf (now (types .entry)) (now (floors .entry)) (now (relationships .entry)) (now (rules .entry)) (now (bodies .entry)) (now (objects .entry)) (now (links .entry)) (now (events .entry))) «scratch_short») ⌝ }
 {
     if too_many(events, EVENT_WIDTH, n.events as usize, MAX_EVENTS) {
         return Verdict::Refused(2, 0);
@@ -112,6 +142,7 @@ pub fn check_all(
     check(
         n,
         types,
+        floors,
         relationships,
         rules,
         bodies,

@@ -21,17 +21,17 @@ four (some same) = refl
 four (some reversed) = refl
 four (some either) = refl
 
-module _ (o : Operator) (set : ℕ) (small : set < 4) where
-  pub first-passed : (p : Passing) → firstPassing o ≡ some p → getD (passRow o) (0 * 4 + set) 0 ≡ passed p set
+module _ (floored : Bool) (o : Operator) (set : ℕ) (small : set < 4) where
+  pub first-passed : (p : Passing) → firstPassing o ≡ some p → getD (passRow floored o) (0 * 4 + set) 0 ≡ passed p set
   first-passed p e =
       let within : set < length (setsOf (firstPassing o)) = omega (arith, four (firstPassing o)) in
       let at : 0 * 4 + set ≡ set = omega arith in
-      ap (λ i. getD (passRow o) i 0) at ∙ List·getD-append (setsOf (firstPassing o)) (setsOf (secondPassing o)) 0 set within ∙ ap (λ q. getD (setsOf q) set 0) e
+      ap (λ i. getD (passRow floored o) i 0) at ∙ List·getD-append (setsOf (firstPassing o)) (setsOf (secondPassing floored o)) 0 set within ∙ ap (λ q. getD (setsOf q) set 0) e
 
-  pub second-passed : (p : Passing) → secondPassing o ≡ some p → getD (passRow o) (1 * 4 + set) 0 ≡ passed p set
+  pub second-passed : (p : Passing) → secondPassing floored o ≡ some p → getD (passRow floored o) (1 * 4 + set) 0 ≡ passed p set
   second-passed p e =
       let at : 1 * 4 + set ≡ length (setsOf (firstPassing o)) + set = omega (arith, four (firstPassing o)) in
-      ap (λ i. getD (passRow o) i 0) at ∙ getD-append-add (setsOf (firstPassing o)) (setsOf (secondPassing o)) set 0 ∙ ap (λ q. getD (setsOf q) set 0) e
+      ap (λ i. getD (passRow floored o) i 0) at ∙ getD-append-add (setsOf (firstPassing o)) (setsOf (secondPassing floored o)) set 0 ∙ ap (λ q. getD (setsOf q) set 0) e
 
 -- what is passed is a set of directions again
 small : List ℕ → Bool
@@ -57,5 +57,5 @@ small-last (some same) = tt
 small-last (some reversed) = tt
 small-last (some either) = tt
 
-pub pass-small : (o : Operator) (i : ℕ) → getD (passRow o) i 0 < 4
-pass-small o = small-at (passRow o) (small-sets (firstPassing o) (setsOf (secondPassing o)) (small-last (secondPassing o)))
+pub pass-small : (floored : Bool) (o : Operator) (i : ℕ) → getD (passRow floored o) i 0 < 4
+pass-small floored o = small-at (passRow floored o) (small-sets (firstPassing o) (setsOf (secondPassing floored o)) (small-last (secondPassing floored o)))

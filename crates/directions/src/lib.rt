@@ -1,6 +1,6 @@
 // Which way a movement passes from a part to its form: one table, and nothing else says a direction.
 ghost use mathlib.Core.Path.{_≡_};
-ghost use mathlib.Core.Bool.{_&&_};
+ghost use mathlib.Core.Bool.{true, _&&_};
 ghost use mathlib.Core.Option.{some};
 ghost use Prim.Native.Nat.{_+_, _*_, _<_};
 ghost use lib.ListN.{getD};
@@ -19,8 +19,8 @@ pub const FIRST: u32 = 0;
 pub const SECOND: u32 = 1;
 
 // For each operator, by its code: which directions of its first part, and then of its second, move the form in a direction of
-// the set {}, {up}, {down}, {up, down}.
-const PASSES: [[u32; 8]; 23] = [
+// the set {}, {up}, {down}, {up, down}. A sum over a floored cell is a form of its own, after the operators.
+const PASSES: [[u32; 8]; 24] = [
     [0, 2, 1, 3, 0, 1, 2, 3], // le
     [0, 2, 1, 3, 0, 1, 2, 3], // lt
     [0, 3, 3, 3, 0, 3, 3, 3], // eq
@@ -44,6 +44,7 @@ const PASSES: [[u32; 8]; 23] = [
     [0, 0, 0, 0, 0, 0, 0, 0], // role
     [0, 0, 0, 0, 0, 0, 0, 0], // all
     [0, 1, 2, 3, 0, 1, 2, 3], // select
+    [0, 0, 0, 0, 0, 1, 2, 3], // sum over a floored cell
 ];
 
 // Whether a direction, UP or DOWN, is in a set.
@@ -67,12 +68,15 @@ pub fn shared(a: u32, b: u32, direction: u32) -> bool
     }
 }
 
-// The directions of a part that move its form in a direction of the set.
-pub fn pass(code: u32, part: u32, set: u32) -> u32
-    requires { ⌜ (code < 23) × (part < 2) × (set < 4) ⌝ }
-    ensures { λ r. ⌜ ((o : Operator) → operatorOf code ≡ some o → r ≡ getD (passRow o) (part * 4 + set) 0) ⌝ }
+// The directions of a part that move its form in a direction of the set; `floored` of a sum over a floored cell.
+pub fn pass(code: u32, floored: bool, part: u32, set: u32) -> u32
+    requires { ⌜ (code < 23) × (floored ≡ true → code ≡ 17) × (part < 2) × (set < 4) ⌝ }
+    ensures { λ r. ⌜ ((o : Operator) → operatorOf code ≡ some o → r ≡ getD (passRow floored o) (part * 4 + set) 0) ⌝ }
 {
-    let row = code as usize;
     let at = (part * 4 + set) as usize;
+    if floored {
+        return PASSES[23][at];
+    }
+    let row = code as usize;
     PASSES[row][at]
 }

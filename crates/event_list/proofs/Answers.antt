@@ -58,24 +58,24 @@ unlessKnown known rule = cond known none (some (record { number = 4; place = rul
 
 -- the counts without a register
 abbrev bookAlone : Counts → Counts
-bookAlone n = record { types = n .types; relationships = n .relationships; rules = n .rules; objects = 0; links = 0; events = 0 }
+bookAlone n = record { types = n .types; floors = n .floors; relationships = n .relationships; rules = n .rules; objects = 0; links = 0; events = 0 }
 
 -- an empty register is never refused
-pub book-alone : (n : Counts) (types relationships rules bodies : List ℕ)
-    → lentRefusal (bookAlone n) (sheetOf types relationships rules bodies [] [] []) false ≡ lentBookRefusal n (sheetOf types relationships rules bodies [] [] [])
+pub book-alone : (n : Counts) (types floors relationships rules bodies : List ℕ)
+    → lentRefusal (bookAlone n) (sheetOf types floors relationships rules bodies [] [] []) false ≡ lentBookRefusal n (sheetOf types floors relationships rules bodies [] [] [])
 unfolding refusalOf tableRefusal bookTables ruleTables refusal registerRefusal objectFault linkFault refusalAt lentBookRefusal
-book-alone n types relationships rules bodies =
-    let s = sheetOf types relationships rules bodies [] [] [] in
+book-alone n types floors relationships rules bodies =
+    let s = sheetOf types floors relationships rules bodies [] [] [] in
     ap (firstOf (tableRefusal ruleTables n s false)) (sym (first-none (bookRefusal (bookOf n s))))
 
 -- a book that is not refused has at most 32 rules
-pub few-rules : (n : Counts) (types relationships rules bodies : List ℕ) → lentBookRefusal n (sheetOf types relationships rules bodies [] [] []) ≡ none → n .rules ≤ maxRules
-few-rules n types relationships rules bodies e =
-    given (bookAlone n) (sheetOf types relationships rules bodies [] [] []) false (book-alone n types relationships rules bodies ∙ e) .few-rules
+pub few-rules : (n : Counts) (types floors relationships rules bodies : List ℕ) → lentBookRefusal n (sheetOf types floors relationships rules bodies [] [] []) ≡ none → n .rules ≤ maxRules
+few-rules n types floors relationships rules bodies e =
+    given (bookAlone n) (sheetOf types floors relationships rules bodies [] [] []) false (book-alone n types floors relationships rules bodies ∙ e) .few-rules
 
-module _ (n : Counts) (types relationships rules bodies : List ℕ) (rule : ℕ) where
+module _ (n : Counts) (types floors relationships rules bodies : List ℕ) (rule : ℕ) where
   abbrev s : Sheet
-  s = sheetOf types relationships rules bodies [] [] []
+  s = sheetOf types floors relationships rules bodies [] [] []
 
   abbrev k : Book
   k = bookOf n s
@@ -119,7 +119,7 @@ module _ (n : Counts) (types relationships rules bodies : List ℕ) (rule : ℕ)
     met = first-of-none (lentBookRefusal n s) (lackedRule k rule) (clear-none (ruleRefusal n s rule) clear)
 
     known : Given (bookAlone n) s
-    known = given (bookAlone n) s false (book-alone n types relationships rules bodies ∙ met .0)
+    known = given (bookAlone n) s false (book-alone n types floors relationships rules bodies ∙ met .0)
 
     there : rule < n .rules
     there = ltb-true rule (n .rules) (step (ltb rule (n .rules)) (lacked-is ∙ met .1))

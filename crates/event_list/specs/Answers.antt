@@ -11,7 +11,7 @@ use Rattle.meaning.specs.Forms.{Rule, Book}
 use Rattle.meaning.specs.Events.{Refusal}
 use Rattle.meaning.specs.EventList.{EventType, eventTypeWords, eventList}
 use Rattle.meaning.specs.Answers.{bookRefusal, lackedRule}
-use Rattle.tables.specs.Layouts.{Sheet, Layout, typeTable, relationshipTable, ruleTable, bodyTable}
+use Rattle.tables.specs.Layouts.{Sheet, Layout, typeTable, floorTable, relationshipTable, ruleTable, bodyTable}
 use Rattle.tables.specs.Columns.{bookOf}
 use Rattle.tables.specs.Refusals.{tableRefusal}
 use Rattle.tables.specs.declared.Counts.{Counts}
@@ -21,7 +21,7 @@ use Rattle.event_list.specs.declared.Listed.the-variants.{Types, Refused
 
 -- the tables of a book
 unfoldable pub ruleTables : List Layout
-ruleTables = typeTable ∷ relationshipTable ∷ ruleTable ∷ bodyTable ∷ []
+ruleTables = typeTable ∷ floorTable ∷ relationshipTable ∷ ruleTable ∷ bodyTable ∷ []
 
 -- 2, 6, 3 and 4 of a lent book, "checked from the top"
 unfoldable pub lentBookRefusal : Counts → Sheet → Option Refusal

@@ -19,14 +19,16 @@ pub enum Listed {
 pub fn book_verdict(
     n: Counts,
     types: &[u32],
+    floors: &[u32],
     relationships: &[u32],
     rules: &[u32],
     bodies: &[u32],
 ) -> Verdict
-    ensures { λ r. ⌜ r ≡ verdictOf (lentBookRefusal n (sheetOf (now (types .entry)) (now (relationships .entry)) (now (rules .entry)) (now (bodies .entry)) [] [] [])) ⌝ }
+    ensures { λ r. ⌜ r ≡ verdictOf (lentBookRefusal n (sheetOf (now (types .entry)) (now (floors .entry)) (now (relationships .entry)) (now (rules .entry)) (now (bodies .entry)) [] [] [])) ⌝ }
 {
     let book = Counts {
         types: n.types,
+        floors: n.floors,
         relationships: n.relationships,
         rules: n.rules,
         objects: 0,
@@ -34,21 +36,22 @@ pub fn book_verdict(
         events: 0,
     };
     let none = &types[..0];
-    checks::check(book, types, relationships, rules, bodies, none, none, false)
+    checks::check(book, types, floors, relationships, rules, bodies, none, none, false)
 }
 
 // The same, and then 4 of a rule number that the book lacks.
 fn verdict(
     n: Counts,
     types: &[u32],
+    floors: &[u32],
     relationships: &[u32],
     rules: &[u32],
     bodies: &[u32],
     rule: u32,
 ) -> Verdict
-    ensures { λ r. ⌜ r ≡ verdictOf (ruleRefusal n (sheetOf (now (types .entry)) (now (relationships .entry)) (now (rules .entry)) (now (bodies .entry)) [] [] []) «rule») ⌝ }
+    ensures { λ r. ⌜ r ≡ verdictOf (ruleRefusal n (sheetOf (now (types .entry)) (now (floors .entry)) (now (relationships .entry)) (now (rules .entry)) (now (bodies .entry)) [] [] []) «rule») ⌝ }
 {
-    match book_verdict(n, types, relationships, rules, bodies) {
+    match book_verdict(n, types, floors, relationships, rules, bodies) {
         Verdict::Refused(number, place) => Verdict::Refused(number, place),
         Verdict::Clear => {
             if rule < n.rules {
@@ -64,22 +67,25 @@ fn verdict(
 pub fn list(
     n: Counts,
     types: &[u32],
+    floors: &[u32],
     relationships: &[u32],
     rules: &[u32],
     bodies: &[u32],
     rule: u32,
     list: &mut [u16],
 ) -> Listed
-    ensures { λ r. ⌜ (let s = sheetOf (now (types .entry)) (now (relationships .entry)) (now (rules .entry)) (now (bodies .entry)) [] [] [] in
+    ensures { λ r. ⌜ (let s = sheetOf (now (types .entry)) (now (floors .entry)) (now (relationships .entry)) (now (rules .entry)) (now (bodies .entry)) [] [] [] in
         (r ≡ answer n s «rule» (length (now (list .entry)))) × (now (list .exit) ≡ listAfter n s «rule» (now (list .entry)))) ⌝ }
 {
-    match verdict(n, types, relationships, rules, bodies, rule) {
+    match verdict(n, types, floors, relationships, rules, bodies, rule) {
         Verdict::Refused(number, place) => Listed::Refused(number, place),
         Verdict::Clear => {
             let mut marks = [false; 1792];
             rule_marks(
                 n.types,
                 types,
+                n.floors,
+                floors,
                 n.relationships,
                 relationships,
                 rules,

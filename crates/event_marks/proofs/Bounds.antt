@@ -11,9 +11,9 @@ use lib.ListN.{length, getD, getElem?, List·getD-eq-default}
 use mir.Facts.{and-yes, yes-and, ltb-yes, yes-ltb, ltb-no, T-not-not}
 use Rattle.meaning.specs.Lists.{every, firstOf, putInOrder, _∈_}
 use Rattle.meaning.specs.Limits.{maxTypes, maxRelationships, maxForms, cellCount}
-use Rattle.meaning.specs.Schema.{ObjectType, Relationship, Schema, knownType, knownRelationship, knownRole, typeAt, cellsOf, hasParent, under, relationshipOf, forward, relationshipAt, sourceType, targetType, nearType, farType, faultyRelationship, typeFault, relationshipFault}
+use Rattle.meaning.specs.Schema.{ObjectType, Relationship, Schema, knownType, knownRelationship, knownRole, typeAt, cellsOf, hasParent, under, relationshipOf, forward, relationshipAt, sourceType, targetType, nearType, farType, faultyRelationship, typeFault, floorFault, relationshipFault}
 use Rattle.meaning.specs.Forms.{Sort, Form, compare, negate, connect, quantify, kind, num, cell, size, sum, combine, role, all, select, bind, variable, memberType, wellTyped, formCount, Rule, Book, faultyRule, ruleFault}
-use Rattle.meaning.specs.Reach.{Direction, up, down, opposite, Passing, same, reversed, either, through, leftOf, rightOf, firstTruth, secondTruth, sourceOf, secondTerm, quiet}
+use Rattle.meaning.specs.Reach.{Direction, up, down, opposite, Passing, same, reversed, either, through, leftOf, rightOf, firstTruth, secondTruth, sourceOf, secondTerm, sumSource, flooredSum, quiet}
 use Rattle.meaning.specs.EventList.{EventType, insertOf, deleteOf, setOf, joinOf, partOf, specialOf, generalOf, eventTypeWords, whereParent, roleLists, allLists, kindLists, lists, contextLists, eventList}
 use Rattle.meaning.specs.Answers.{refusalAt, bookRefusal}
 use Rattle.meaning.proofs.Lists.{decide, first-of-none, every-at, every-append}
@@ -166,7 +166,7 @@ module _ (S : Schema) (few-types : length (S .types) ≤ maxTypes) (few-relation
   lists-placed (size c) ts w = lists-placed c ts w
   lists-placed (sum c k) ts w =
       let member = memberType (S .relationships) c in
-      over-placed either c ts (λ d. setOf member k ∷ []) (wellTyped S ts c) (ltb k (cellsOf (S .types) member)) (lists-placed c ts) (λ h d. set-placed member k h) w
+      over-placed (sumSource (flooredSum S c k)) c ts (λ d. setOf member k ∷ []) (wellTyped S ts c) (ltb k (cellsOf (S .types) member)) (lists-placed c ts) (λ h d. set-placed member k h) w
   lists-placed (combine o a b) ts w = two-placed same (secondTerm o) a b ts (lists-placed a ts) (lists-placed b ts) w
   lists-placed (role v r) ts w =
       let known = ltb v (length ts) && knownRole (S .relationships) r in
@@ -210,8 +210,10 @@ module _ (k : Book) (clear : bookRefusal k ≡ none) (few-types : length (k .sch
   book-parts : ((typeFault (S .types) ≡ none) × (relationshipFault S ≡ none)) × (ruleFault k ≡ none)
   unfolding bookRefusal
   book-parts =
-      let parts = first-of-none (refusalAt 3 (firstOf (typeFault (S .types)) (relationshipFault S))) (refusalAt 4 (ruleFault k)) clear in
-      (first-of-none (typeFault (S .types)) (relationshipFault S) (refusal-at-none 3 _ (parts .0)), refusal-at-none 4 (ruleFault k) (parts .1))
+      let later = firstOf (floorFault S) (relationshipFault S) in
+      let parts = first-of-none (refusalAt 3 (firstOf (typeFault (S .types)) later)) (refusalAt 4 (ruleFault k)) clear in
+      let schema = first-of-none (typeFault (S .types)) later (refusal-at-none 3 _ (parts .0)) in
+      ((schema .0, first-of-none (floorFault S) (relationshipFault S) (schema .1) .1), refusal-at-none 4 (ruleFault k) (parts .1))
 
   -- a rule of a book that is not refused lists nothing that has no place
   pub book-placed : (n : ℕ) (r : Rule) → getElem? (k .rules) n ≡ some r → (e : EventType) → e ∈ eventList S r → T (placed e)

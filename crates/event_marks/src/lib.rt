@@ -12,7 +12,7 @@ ghost use lib.ListN.{length};
 ghost use Rattle.meaning.specs.EventList.{eventList};
 ghost use Rattle.rows.specs.Rows.{wordAt};
 ghost use Rattle.tables.specs.Bodies.{wholeBody};
-ghost use Rattle.tables.specs.Columns.{ruleRow, schemaOf};
+ghost use Rattle.tables.specs.Columns.{ruleRow, floorsOf, schemaOf};
 ghost use Rattle.body_rows.specs.Marks.{bodyOf};
 ghost use Rattle.type_marks.specs.Marks.{places, marked, Added};
 
@@ -21,6 +21,8 @@ ghost use Rattle.type_marks.specs.Marks.{places, marked, Added};
 pub fn rule_marks(
     type_count: u32,
     types: &[u32],
+    floor_count: u32,
+    floors: &[u32],
     relationship_count: u32,
     relationships: &[u32],
     rules: &[u32],
@@ -30,7 +32,7 @@ pub fn rule_marks(
 )
     requires { ⌜ T (wholeBody (bodyOf (now bodies) rule) (wordAt (now rules) 2 rule 1)) × (length (now marks) ≡ places) ⌝ }
     ensures { λ _. ⌜ Added (now (marks .entry)) (now (marks .exit)) (marked (eventList
-        (schemaOf «type_count» (now (types .entry)) «relationship_count» (now (relationships .entry)))
+        (schemaOf «type_count» (now (types .entry)) (floorsOf «floor_count» (now (floors .entry))) «relationship_count» (now (relationships .entry)))
         (ruleRow (now (rules .entry)) (now (bodies .entry)) rule))) ⌝ }
 {
     let context = rows::word(rules, tables::RULE_WIDTH, rule, 0);
@@ -41,6 +43,7 @@ pub fn rule_marks(
     env[0] = context;
     let form = Place {
         types: type_count,
+        floors: floor_count,
         relationships: relationship_count,
         rule,
         end,
@@ -48,6 +51,7 @@ pub fn rule_marks(
     };
     mark_form(
         types,
+        floors,
         relationships,
         bodies,
         &starts,

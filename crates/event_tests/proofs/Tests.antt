@@ -1,4 +1,4 @@
--- What a test of the row that a search finds says of the register, and a pass over the rows of a table that looks for one.
+-- What a test of the row that a search finds says of the register.
 use Prim.Native.Nat.{ℕ, _≤_, _<_, min}
 use mathlib.Core.Path.{_≡_, sym, ap, _∙_}
 use mathlib.Core.Logic.{⊎-elim}
@@ -9,14 +9,11 @@ use native.Mathlib.Omega.{arith}
 use lib.Dec.{T, leb}
 use mir.Facts.{leb-yes, leb-no}
 use borrow.Author.Tests.{le-leb, lt-leb}
-use Rattle.meaning.specs.Lists.{any, holds}
+use Rattle.meaning.specs.Lists.{holds}
 use Rattle.meaning.specs.Register.{Object, Link, objectAt, hasLink}
 use Rattle.meaning.proofs.Lists.{decide}
-use Rattle.rows.specs.Rows.{readRows}
 use Rattle.tables.specs.Columns.{objectRow}
-use Rattle.schema.proofs.Scan.{Passed, passed-found, passed-all}
 use Rattle.register.specs.Tables.{objectsWith, linksWith, objectPlace, linkPlace}
-use Rattle.register.proofs.Hits.{alone, any-row}
 use Rattle.register.proofs.Searches.{object-row, link-there}
 
 module _ (n : ℕ) (objects : List ℕ) (ls : List Link) (id : ℕ) (test : Object → Bool) where
@@ -32,13 +29,6 @@ module _ (os : List Object) (n : ℕ) (links : List ℕ) (l : Link) where
 
   pub link-absent : linkPlace n links l ≡ none → hasLink (linksWith os n links) l ≡ false
   link-absent e = link-there os n links l ∙ ap (holds (λ i. true)) e
-
-module _ {A : Type 0} (hit : A → Bool) (read : ℕ → A) (n : ℕ) {i : ℕ} (p : Passed (alone hit) read n i) where
-  pub some-row : i < n → hit (read i) ≡ true → any hit (readRows read n) ≡ true
-  some-row h e = any-row hit read n ∙ ap (holds (λ k. true)) (passed-found (alone hit) read n p h e)
-
-  pub no-row : n ≤ i → any hit (readRows read n) ≡ false
-  no-row h = any-row hit read n ∙ ap (holds (λ k. true)) (passed-all (alone hit) read n p h)
 
 -- above the limit, what is lent decides
 pub least-reached : (limit lent used : ℕ) → used < limit → leb lent used ≡ leb (min limit lent) used

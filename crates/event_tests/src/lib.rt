@@ -6,10 +6,11 @@ ghost use mathlib.Core.Bool.{_&&_, not};
 ghost use mathlib.Core.List.{List};
 ghost use Prim.Native.Nat.{min};
 ghost use lib.Dec.{leb, eqb};
-ghost use Rattle.meaning.specs.Schema.{under, sourceType, targetType};
+ghost use Rattle.meaning.specs.Schema.{Floor, Relationship, under, sourceType, targetType};
 ghost use Rattle.meaning.specs.Register.{Object, Link, present, isUnder, hasLink};
-ghost use Rattle.meaning.specs.Events.{needsType, typeNeeded, strictlyAbove, strictlyUnder, hasCell, linkOf};
-ghost use Rattle.tables.specs.Columns.{typesOf, relationshipsOf, schemaOf, linkRow};
+ghost use Rattle.meaning.specs.Events.{needsType, typeNeeded, strictlyAbove, strictlyUnder, hasCell, setBelow, broughtBelow, linkOf};
+ghost use Rattle.rows.specs.Rows.{signed};
+ghost use Rattle.tables.specs.Columns.{typesOf, floorsOf, relationshipsOf, schemaOf, linkRow};
 ghost use Rattle.register.specs.Tables.{objectsWith, linksWith, ObjectsAscend, LinksAscend};
 
 // Whether no row is left below the limit and the lent rows.
@@ -117,6 +118,65 @@ pub fn strictly_under(
     }
 }
 
+// 15 of a set: whether a word is below 0, and the type of the object of an id has the cell floored.
+pub fn set_below(
+    type_count: u32,
+    types: &[u32],
+    floor_count: u32,
+    floors: &[u32],
+    count: u32,
+    objects: &[u32],
+    id: u32,
+    cell: u32,
+    word: u32,
+) -> bool
+    requires { ⌜ ObjectsAscend count (now objects) ⌝ }
+    ensures { λ r. ⌜ ((rs : List Relationship) (ls : List Link) → r ≡ setBelow
+        (record { types = typesOf «type_count» (now (types .entry)); floors = floorsOf «floor_count» (now (floors .entry)); relationships = rs })
+        (objectsWith count (now (objects .entry)) ls) id cell (signed word)) ⌝ }
+{
+    if !number::is_negative(word) {
+        return false;
+    }
+    match register::object_row(count, objects, id) {
+        Found::At(row) => {
+            let t = columns::type_of(objects, row);
+            schema::floors::floored(type_count, types, floor_count, floors, t, cell)
+        }
+        Found::Nothing => false,
+    }
+}
+
+// 15 of a special: whether the object of an id is below a floor of type t.
+pub fn brought_below(
+    type_count: u32,
+    types: &[u32],
+    floor_count: u32,
+    floors: &[u32],
+    count: u32,
+    objects: &[u32],
+    id: u32,
+    t: u32,
+) -> bool
+    requires { ⌜ ObjectsAscend count (now objects) ⌝ }
+    ensures { λ r. ⌜ ((rs : List Relationship) (ls : List Link) → r ≡ broughtBelow
+        (record { types = typesOf «type_count» (now (types .entry)); floors = floorsOf «floor_count» (now (floors .entry)); relationships = rs })
+        (objectsWith count (now (objects .entry)) ls) id t) ⌝ }
+{
+    match register::object_row(count, objects, id) {
+        Found::At(row) => register::floors::below_floor(
+            type_count,
+            types,
+            floor_count,
+            floors,
+            objects,
+            row,
+            t,
+        ),
+        Found::Nothing => false,
+    }
+}
+
 // Whether a link is there.
 pub fn has_link(count: u32, links: &[u32], relationship: u32, source: u32, target: u32) -> bool
     requires { ⌜ LinksAscend count (now links) ⌝ }
@@ -151,8 +211,9 @@ fn needs_type(
     id: u32,
     t: u32,
 ) -> bool
-    ensures { λ r. ⌜ r ≡ needsType (schemaOf «type_count» (now (types .entry)) «relationship_count» (now (relationships .entry)))
-        id t (linkRow (now (links .entry)) row) ⌝ }
+    ensures { λ r. ⌜ ((fs : List Floor) →
+        r ≡ needsType (schemaOf «type_count» (now (types .entry)) fs «relationship_count» (now (relationships .entry)))
+        id t (linkRow (now (links .entry)) row)) ⌝ }
 {
     let relationship = columns::relationship_of(links, row);
     let source = columns::source_of(links, row);
@@ -176,8 +237,8 @@ pub fn type_needed(
     id: u32,
     t: u32,
 ) -> bool
-    ensures { λ r. ⌜ ((os : List Object) → r ≡ typeNeeded
-        (schemaOf «type_count» (now (types .entry)) «relationship_count» (now (relationships .entry)))
+    ensures { λ r. ⌜ ((fs : List Floor) (os : List Object) → r ≡ typeNeeded
+        (schemaOf «type_count» (now (types .entry)) fs «relationship_count» (now (relationships .entry)))
         (linksWith os count (now (links .entry))) id t) ⌝ }
 {
     let mut row: u32 = 0;

@@ -6,15 +6,20 @@ use body_rows::body::SECOND;
 use body_rows::body::field;
 use body_rows::body::shape;
 use typing::Place;
+use typing::floored_sum;
 use typing::member_type;
 ghost use mathlib.Core.Path.{_≡_};
-ghost use Prim.Native.Nat.{_+_, _≤_, _<_};
+ghost use mathlib.Core.Option.{some};
+ghost use Prim.Native.Nat.{_+_, _*_, _≤_, _<_};
 ghost use lib.Dec.{T};
-ghost use lib.ListN.{length, take};
+ghost use lib.ListN.{length, getD, take};
 ghost use Rattle.meaning.specs.Forms.{collection};
+ghost use Rattle.tables.specs.Codes.{Operator, operatorOf};
 ghost use Rattle.tables.specs.Bodies.{reads, ending};
-ghost use Rattle.tables.specs.Columns.{relationshipsOf, schemaOf};
+ghost use Rattle.tables.specs.Columns.{floorsOf, relationshipsOf, schemaOf};
+ghost use Rattle.directions.specs.Passes.{passRow};
 ghost use Rattle.body_rows.specs.Marks.{bodyOf, Starts};
+ghost use Rattle.typing.specs.Types.{flooredAt};
 ghost use Rattle.type_marks.specs.Marks.{places, Added};
 ghost use Rattle.type_marks.specs.Lists.{partMarks, sumMarks};
 
@@ -45,9 +50,33 @@ fn mark_sum(
     type_marks::put_cell(member, x, set, marks);
 }
 
+// The directions of a form's only part that move it in a direction of the set, by its code and its first field.
+fn to_only(
+    types: &[u32],
+    floors: &[u32],
+    relationships: &[u32],
+    bodies: &[u32],
+    starts: &[u32; 65],
+    at: Place,
+    code: u32,
+    x: u32,
+    set: u32,
+) -> u32
+    requires { ⌜ (Starts (bodyOf (now bodies) (at .rule)) (now starts) (at .end))
+        × (code ≡ 17 → T (reads collection (ending (bodyOf (now bodies) (at .rule)) (at .end))))
+        × (code < 23) × (set < 4) ⌝ }
+    ensures { λ r. ⌜ ((o : Operator) → operatorOf code ≡ some o → r ≡ getD (passRow (flooredAt
+        (schemaOf (at .types) (now (types .entry)) (floorsOf (at .floors) (now (floors .entry))) (at .relationships) (now (relationships .entry)))
+        code x ((ending (bodyOf (now (bodies .entry)) (at .rule)) (at .end)) .form)) o) (1 * 4 + set) 0) ⌝ }
+{
+    let floored = floored_sum(types, floors, relationships, bodies, starts, at, code, x);
+    directions::pass(code, floored, directions::SECOND, set)
+}
+
 // Marks what moves a form in a direction of the set, by the types of its variables.
 pub fn mark_form(
     types: &[u32],
+    floors: &[u32],
     relationships: &[u32],
     bodies: &[u32],
     starts: &[u32; 65],
@@ -61,7 +90,7 @@ pub fn mark_form(
         × (length (now env) ≡ 64) × (at .depth + at .end ≤ 65)
         × (length (now marks) ≡ places) × (set < 4) ⌝ }
     ensures { λ _. ⌜ Added (now (marks .entry)) (now (marks .exit)) (λ place.
-        partMarks (schemaOf (at .types) (now (types .entry)) (at .relationships) (now (relationships .entry)))
+        partMarks (schemaOf (at .types) (now (types .entry)) (floorsOf (at .floors) (now (floors .entry))) (at .relationships) (now (relationships .entry)))
         ((ending (bodyOf (now (bodies .entry)) (at .rule)) (at .end)) .form) (take (at .depth) (now (env .entry))) set place) ⌝ }
 {
     let row = at.end - 1;
@@ -74,17 +103,28 @@ pub fn mark_form(
     }
     let mut second = at;
     second.end = row;
-    let to_second = directions::pass(code, directions::SECOND, set);
     if shape(code, FIRST) == NONE {
+        let only = to_only(
+            types,
+            floors,
+            relationships,
+            bodies,
+            starts,
+            second,
+            code,
+            x,
+            set,
+        );
         mark_sum(relationships, bodies, starts, second, code, x, set, marks);
         mark_form(
             types,
+            floors,
             relationships,
             bodies,
             starts,
             env,
             second,
-            to_second,
+            only,
             marks,
         );
         return;
@@ -92,9 +132,11 @@ pub fn mark_form(
     let index = row as usize;
     let mut first = at;
     first.end = starts[index];
-    let to_first = directions::pass(code, directions::FIRST, set);
+    let to_first = directions::pass(code, false, directions::FIRST, set);
+    let to_second = directions::pass(code, false, directions::SECOND, set);
     mark_form(
         types,
+        floors,
         relationships,
         bodies,
         starts,
@@ -106,6 +148,7 @@ pub fn mark_form(
     if shape(code, FIRST) != COLLECTION {
         mark_form(
             types,
+            floors,
             relationships,
             bodies,
             starts,
@@ -122,6 +165,7 @@ pub fn mark_form(
     second.depth = at.depth + 1;
     mark_form(
         types,
+        floors,
         relationships,
         bodies,
         starts,

@@ -14,18 +14,20 @@ ghost use Rattle.full.specs.Answers.{lentAnswer, verdictFor, lentAnswerA
 pub fn check(
     n: Counts,
     types: &[u32],
+    floors: &[u32],
     relationships: &[u32],
     rules: &[u32],
     bodies: &[u32],
     objects: &[u32],
     links: &[u32],
 ) -> Answer
-    ensures { λ r. ⌜ r ≡ answerOf (lentAnswer n (sheetOf (now (types .entry)) (now (relationships .entry)) (now (rules .entry)) (now (bodies .entry))
+    ensures { λ r. ⌜ r ≡ answerOf (lentAnswer n (sheetOf (now (types .entry)) (now (floors .entry)) (now (relationships .entry)) (now (rules .entry)) (now (bodies .entry))
         (now (objects .entry)) (now (links .entry)) [])) ⌝ }
 {
     match checks::check(
         n,
         types,
+        floors,
         relationships,
         rules,
         bodies,
@@ -40,6 +42,7 @@ pub fn check(
             search(
                 n,
                 types,
+                floors,
                 relationships,
                 rules,
                 bodies,
@@ -73,6 +76,7 @@ fn verdict_for(verdict: Verdict, rules: u32, rule: u32) -> Verdict
 pub fn check_rule(
     n: Counts,
     types: &[u32],
+    floors: &[u32],
     relationships: &[u32],
     rules: &[u32],
     bodies: &[u32],
@@ -81,12 +85,13 @@ pub fn check_rule(
     rule: u32,
     id: u32,
 ) -> Answer
-    ensures { λ r. ⌜ r ≡ answerOf (lentAnswerAt n (sheetOf (now (types .entry)) (now (relationships .entry)) (now (rules .entry)) (now (bodies .entry))
+    ensures { λ r. ⌜ r ≡ answerOf (lentAnswerAt n (sheetOf (now (types .entry)) (now (floors .entry)) (now (relationships .entry)) (now (rules .entry)) (now (bodies .entry))
         (now (objects .entry)) (now (links .entry)) []) «rule» id) ⌝ }
 {
     let verdict = checks::check(
         n,
         types,
+        floors,
         relationships,
         rules,
         bodies,
@@ -102,6 +107,7 @@ pub fn check_rule(
             if breaks_at(
                 n,
                 types,
+                floors,
                 relationships,
                 rules,
                 bodies,

@@ -52,6 +52,7 @@ pub fn breaks(
 pub fn search(
     n: Counts,
     types: &[u32],
+    floors: &[u32],
     relationships: &[u32],
     rules: &[u32],
     bodies: &[u32],
@@ -59,8 +60,8 @@ pub fn search(
     links: &[u32],
     index: &[u16; 81920],
 ) -> Answer
-    requires { ⌜ Clear n (sheetOf (now types) (now relationships) (now rules) (now bodies) (now objects) (now links) []) (now index) ⌝ }
-    ensures { λ r. ⌜ r ≡ answerOf (found n (sheetOf (now (types .entry)) (now (relationships .entry)) (now (rules .entry)) (now (bodies .entry))
+    requires { ⌜ Clear n (sheetOf (now types) (now floors) (now relationships) (now rules) (now bodies) (now objects) (now links) []) (now index) ⌝ }
+    ensures { λ r. ⌜ r ≡ answerOf (found n (sheetOf (now (types .entry)) (now (floors .entry)) (now (relationships .entry)) (now (rules .entry)) (now (bodies .entry))
         (now (objects .entry)) (now (links .entry)) [])) ⌝ }
 {
     let mut answer = Answer::Accepted;
@@ -100,6 +101,7 @@ pub fn search(
 pub fn breaks_at(
     n: Counts,
     types: &[u32],
+    floors: &[u32],
     relationships: &[u32],
     rules: &[u32],
     bodies: &[u32],
@@ -109,8 +111,8 @@ pub fn breaks_at(
     rule: u32,
     id: u32,
 ) -> bool
-    requires { ⌜ (Clear n (sheetOf (now types) (now relationships) (now rules) (now bodies) (now objects) (now links) []) (now index)) × (rule < n .rules) ⌝ }
-    ensures { λ r. ⌜ r ≡ brokenIn n (sheetOf (now (types .entry)) (now (relationships .entry)) (now (rules .entry)) (now (bodies .entry))
+    requires { ⌜ (Clear n (sheetOf (now types) (now floors) (now relationships) (now rules) (now bodies) (now objects) (now links) []) (now index)) × (rule < n .rules) ⌝ }
+    ensures { λ r. ⌜ r ≡ brokenIn n (sheetOf (now (types .entry)) (now (floors .entry)) (now (relationships .entry)) (now (rules .entry)) (now (bodies .entry))
         (now (objects .entry)) (now (links .entry)) []) «rule» id ⌝ }
 {
     match register::object_row(n.objects, objects, id) {

@@ -7,7 +7,7 @@ use native.Mathlib.Omega.{arith}
 use native.Mathlib.Decide.{decLe}
 use lib.Dec.{ltb, eqb}
 use Rattle.meaning.specs.Limits.{cellCount, validId, fitsWord}
-use Rattle.meaning.specs.Schema.{Schema, knownType, knownRelationship}
+use Rattle.meaning.specs.Schema.{Floor, Schema, knownType, knownRelationship}
 use Rattle.meaning.specs.Events.{Event, insert, delete, special, general, knownEvent}
 use Rattle.rows.specs.Rows.{signed}
 use Rattle.tables.specs.Columns.{noEvent, eventOf, schemaOf}
@@ -19,9 +19,9 @@ module _ (S : Schema) where
   guarded true e h = h
   guarded false e h = refl
 
-module _ (n : ℕ) (types : List ℕ) (m : ℕ) (relationships : List ℕ) (x y z : ℕ) where
+module _ (n : ℕ) (types : List ℕ) (fs : List Floor) (m : ℕ) (relationships : List ℕ) (x y z : ℕ) where
   abbrev S : Schema
-  S = schemaOf n types m relationships
+  S = schemaOf n types fs m relationships
 
   pub unknown-kind : (kind : ℕ) → 7 ≤ kind → false ≡ knownEvent S (eventOf kind x y z)
   unfolding eventOf knownEvent validId

@@ -8,7 +8,7 @@ ghost use mathlib.Core.List.{List};
 ghost use Prim.Native.Nat.{ℕ};
 ghost use lib.Dec.{ltb, eqb};
 ghost use Rattle.meaning.specs.Limits.{cellCount, validId, fitsWord};
-ghost use Rattle.meaning.specs.Schema.{knownType, knownRelationship};
+ghost use Rattle.meaning.specs.Schema.{Floor, knownType, knownRelationship};
 ghost use Rattle.meaning.specs.Events.{knownEvent};
 ghost use Rattle.rows.specs.Rows.{signed};
 ghost use Rattle.tables.specs.Columns.{typesOf, relationshipsOf, schemaOf, eventRow};
@@ -83,7 +83,8 @@ fn alone(x: u32, y: u32, z: u32) -> bool
 
 // Whether an event is known.
 pub fn event_known(n: Counts, events: &[u32], row: u32) -> bool
-    ensures { λ r. ⌜ ((types relationships : List ℕ) → r ≡ knownEvent (schemaOf (n .types) types (n .relationships) relationships) (eventRow (now (events .entry)) row)) ⌝ }
+    ensures { λ r. ⌜ ((types : List ℕ) (fs : List Floor) (relationships : List ℕ) →
+        r ≡ knownEvent (schemaOf (n .types) types fs (n .relationships) relationships) (eventRow (now (events .entry)) row)) ⌝ }
 {
     let kind = rows::word(events, EVENT_WIDTH, row, 0);
     let x = rows::word(events, EVENT_WIDTH, row, 1);
@@ -109,7 +110,8 @@ pub fn event_known(n: Counts, events: &[u32], row: u32) -> bool
 
 // The first event that is not known.
 pub fn first_unknown(n: Counts, events: &[u32]) -> Found
-    ensures { λ r. ⌜ ((types relationships rules bodies objects links : List ℕ) → r ≡ foundOf (eventFault n (sheetOf types relationships rules bodies objects links (now (events .entry))))) ⌝ }
+    ensures { λ r. ⌜ ((types floors relationships rules bodies objects links : List ℕ) →
+        r ≡ foundOf (eventFault n (sheetOf types floors relationships rules bodies objects links (now (events .entry))))) ⌝ }
 {
     let used = n.events;
     let mut row: u32 = 0;

@@ -10,7 +10,7 @@ use lib.ListN.{getElem?}
 use mir.Facts.{and-yes, yes-and, or-no, and-no, T-not, not-T, T-not-not}
 use Rattle.meaning.specs.Lists.{firstOf}
 use Rattle.meaning.specs.Limits.{maxForms}
-use Rattle.meaning.specs.Schema.{ObjectType, Schema, knownType, typeFault, relationshipFault}
+use Rattle.meaning.specs.Schema.{ObjectType, Schema, knownType, typeFault, floorFault, relationshipFault}
 use Rattle.meaning.specs.Register.{Register, isUnder, objectFault, linkFault}
 use Rattle.meaning.specs.Forms.{wellTyped, formCount, Rule, Book, faultyRule, ruleFault}
 use Rattle.meaning.specs.Meaning.{meaning, broken}
@@ -55,14 +55,14 @@ checked k g e =
     top : (bookRefusal k ≡ none) × (registerRefusal S g ≡ none)
     top = first-of-none (bookRefusal k) (registerRefusal S g) e
 
-    parts : (refusalAt 3 (firstOf (typeFault (S .types)) (relationshipFault S)) ≡ none) × (refusalAt 4 (ruleFault k) ≡ none)
-    parts = first-of-none (refusalAt 3 (firstOf (typeFault (S .types)) (relationshipFault S))) (refusalAt 4 (ruleFault k)) (top .0)
+    parts : (refusalAt 3 (firstOf (typeFault (S .types)) (firstOf (floorFault S) (relationshipFault S))) ≡ none) × (refusalAt 4 (ruleFault k) ≡ none)
+    parts = first-of-none (refusalAt 3 (firstOf (typeFault (S .types)) (firstOf (floorFault S) (relationshipFault S)))) (refusalAt 4 (ruleFault k)) (top .0)
 
-    schema : (typeFault (S .types) ≡ none) × (relationshipFault S ≡ none)
-    schema = first-of-none (typeFault (S .types)) (relationshipFault S) (refusal-at-none 3 _ (parts .0))
+    schema : (typeFault (S .types) ≡ none) × (firstOf (floorFault S) (relationshipFault S) ≡ none)
+    schema = first-of-none (typeFault (S .types)) (firstOf (floorFault S) (relationshipFault S)) (refusal-at-none 3 _ (parts .0))
 
-    rows : (objectFault (S .types) g ≡ none) × (linkFault S g ≡ none)
-    rows = first-of-none (objectFault (S .types) g) (linkFault S g) (refusal-at-none 5 _ (top .1))
+    rows : (objectFault (S .types) (S .floors) g ≡ none) × (linkFault S g ≡ none)
+    rows = first-of-none (objectFault (S .types) (S .floors) g) (linkFault S g) (refusal-at-none 5 _ (top .1))
 
     well-typed : (n : ℕ) (r : Rule) → getElem? (k .rules) n ≡ some r → T (wellTyped S (r .context ∷ []) (r .body))
     well-typed n r q =

@@ -17,6 +17,7 @@ use Rattle.meaning.specs.Lists.{_∈_}
 use Rattle.meaning.proofs.Lists.{or-left, or-right}
 use Rattle.meaning.proofs.Schemas.{TypesFit}
 use Rattle.meaning.proofs.Registers.{RegisterFits, under-present, instance-in, instance-from, far-in, far-from, far-under}
+use Rattle.meaning.proofs.Floors.{floor-holds}
 use Rattle.meaning.proofs.Effects.{link-stays, link-was, under-stays, under-was, cell-same, insert-absent, delete-absent}
 use Rattle.meaning.specs.Unmoved.{Unmoved}
 use Rattle.meaning.proofs.Movement.{UnmovedKept, Leaves}
@@ -185,5 +186,7 @@ module _ (S : Schema) (types-fit : TypesFit (S .types)) (lent : Lent) (g : Regis
         role-unmoved = λ d x t r h s n. role-leaf d r x t h n;
         all-unmoved = all-leaf;
         cell-unmoved = cell-leaf;
+        floor-before = floor-holds S types-fit g fits;
+        floor-at-end = floor-holds S types-fit (after S g es) end-register;
         kind-unmoved = kind-leaf;
       }

@@ -65,7 +65,7 @@ module _ (S : Schema) (g : Register) (fits : RegisterFits S g) where
       step none e = zero-le
       step (some o) e =
           word-size (getD (o .cells) k (pos 0))
-          (every-getD fitsWord (o .cells) k (pos 0) (object-parts (S .types) o (fits .objects-fit o (object-at g x e .0)) .cells-word) tt)
+          (every-getD fitsWord (o .cells) k (pos 0) (object-parts S o (fits .objects-fit o (object-at g x e .0)) .cells-word) tt)
 
   module _ (few : length (g .objects) ≤ 1024) where
     pub number-bound : (ts : List ℕ) (f : Form number) → T (wellTyped S ts f) → formCount f ≤ 64 → (vs : List ℕ) → natAbs (meaning (S .types) g f vs) ≤ 2 ^ 47

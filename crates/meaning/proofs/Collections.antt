@@ -8,8 +8,8 @@ use native.Mathlib.Nat.{lt-irrefl, lt-trans}
 use lib.Dec.{T}
 use lib.ListN.{length, length-map}
 use Rattle.meaning.specs.Schema.{ObjectType, Schema, farType}
-use Rattle.meaning.specs.Register.{Object, Register, objectKey, objectAt, present, farEnd, farEnds}
-use Rattle.meaning.specs.Forms.{collection, Form, role, all, select, bind, variable}
+use Rattle.meaning.specs.Register.{Object, Register, objectKey, objectAt, present, isUnder, farEnd, farEnds}
+use Rattle.meaning.specs.Forms.{collection, Form, role, all, select, bind, variable, memberType}
 use Rattle.meaning.specs.Meaning.{meaning}
 use Rattle.meaning.specs.Lists.{_∈_, Ascending, Before}
 use Rattle.meaning.proofs.Lists.{holds-some, keep-from, ascending-keep, ascending-shorter, ascending-map}
@@ -38,6 +38,16 @@ gathered S g fits = record { objects-ascend = fits .objects-ascend; far-ascend =
     ends r u x m =
         let (l, h, s, e) = far-from g r u x m in
         subst (λ y. T (present g y)) (sym e) (under-present (S .types) g (farEnd r l) (farType (S .relationships) r) (far-under S g fits r u l h s))
+
+-- a member is there, and under the members' type
+pub member-under : (S : Schema) (g : Register) → RegisterFits S g → (c : Form collection) (vs : List ℕ) (x : ℕ) → x ∈ meaning (S .types) g c vs → T (isUnder (S .types) g x (memberType (S .relationships) c))
+unfolding meaning memberType
+member-under S g fits (role v r) vs x m =
+    let (l, h, s, e) = far-from g r (variable vs v) x m in
+    subst (λ y. T (isUnder (S .types) g y (farType (S .relationships) r))) (sym e) (far-under S g fits r (variable vs v) l h s)
+member-under S g fits (all t) vs x m = instance-from (S .types) g (fits .objects-ascend) x t m
+member-under S g fits (select c b) vs x m =
+    member-under S g fits c vs x (keep-from (λ y. meaning (S .types) g b (bind vs y)) (meaning (S .types) g c vs) m .0)
 
 module _ (types : List ObjectType) (g : Register) (h : Gathered g) where
   pub members-ascend : (c : Form collection) (vs : List ℕ) → Ascending _<_ (meaning types g c vs)

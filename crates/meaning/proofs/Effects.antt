@@ -15,15 +15,16 @@ use lib.IntN.{ℤ, pos}
 use mir.Facts.{and-yes, yes-and, or-yes, or-no, T-not, not-T, T-not-not, eqb-yes, yes-eqb, eqb-no, ltb-yes, leb-no}
 use Rattle.meaning.specs.Lists.{every, keep, putInOrder, _∈_, Ascending, Before}
 use Rattle.meaning.specs.Limits.{cellCount, maxObjects, validId, fitsWord}
-use Rattle.meaning.specs.Schema.{ObjectType, Relationship, Schema, knownType, knownRelationship, cellsOf, under, relationshipOf, forward, sourceType, targetType}
-use Rattle.meaning.specs.Register.{Object, Link, Register, objectKey, linkKey, objectAt, present, isUnder, cellAt, sameLink, hasLink, nearEnd, farEnd, startsAt, isZero, objectFits, linkFits}
+use Rattle.meaning.specs.Schema.{ObjectType, Relationship, Schema, knownType, knownRelationship, cellsOf, under, floored, relationshipOf, forward, sourceType, targetType}
+use Rattle.meaning.specs.Register.{Object, Link, Register, objectKey, linkKey, objectAt, present, isUnder, cellAt, sameLink, hasLink, nearEnd, farEnd, startsAt, isZero, negative, belowFloor, objectFits, linkFits}
 use Rattle.meaning.specs.Events.{Event, insert, delete, set, join, part, special, general, Lent, linkOf, newObject, clearedFrom, withCell, withType, withHigherType, amended, endsAt, apply, Check}
-use Rattle.meaning.specs.Events.{_when_, firstMet, needsType, typeNeeded, strictlyAbove, strictlyUnder, hasCell, checks, eventRefusal, knownEvent}
+use Rattle.meaning.specs.Events.{_when_, firstMet, needsType, typeNeeded, strictlyAbove, strictlyUnder, hasCell, setBelow, broughtBelow, checks, eventRefusal, knownEvent}
 use Rattle.meaning.specs.Reach.{stepAt, joined, leadsTo, taken, parted, setsCell, insertsInto, specialisesInto, deletesFrom, generalisesFrom}
 use Rattle.meaning.proofs.Lists.{not-and-left, not-sub, decide, first-absent, first-keep, first-map, every-drop, every-take, every-append, every-replicate, every-set, holds-some, cond-yes, cond-no, any-none, keep-in, keep-from, length-keep, ascending-keep, ascending-map}
 use Rattle.meaning.proofs.Order.{first-put, length-put, put-from, put-other, put-has, put-ascending}
 use Rattle.meaning.proofs.Schemas.{TypesFit, under-trans, under-cells}
 use Rattle.meaning.proofs.Registers.{RegisterFits, object-parts, object-whole, object-at, ascending-found, under-present, same-link, link-in, link-has, link-parts, link-whole}
+use Rattle.meaning.proofs.Floors.{zeros-kept, written-kept, raised-kept}
 
 -- ---- refusals that are not met
 
@@ -78,23 +79,27 @@ at-self b x n = and-rest (eqb x x) b (eqb-refl x) n
 
 -- ---- cells
 
-module _ (types : List ObjectType) (o : Object) where
-  with-cell-fits : (k : ℕ) (v : ℤ) → T (fitsWord v) → k < cellsOf types (o .type) → T (objectFits types o) → T (objectFits types (withCell k v o))
-  with-cell-fits k v w h t =
-      let f = object-parts types o t in
-      object-whole types (withCell k v o)
+module _ (S : Schema) (types-fit : TypesFit (S .types)) (o : Object) where
+  abbrev its : List ObjectType
+  its = S .types
+
+  with-cell-fits : (k : ℕ) (v : ℤ) → T (fitsWord v) → k < cellsOf its (o .type) → T (not (negative v && floored (S .types) (S .floors) (o .type) k)) → T (objectFits (S .types) (S .floors) o) → T (objectFits (S .types) (S .floors) (withCell k v o))
+  with-cell-fits k v w h allowed t =
+      let f = object-parts S o t in
+      object-whole S (withCell k v o)
       (record {
         id-valid = f .id-valid;
         type-known = f .type-known;
         cells-count = length-set (o .cells) k v ∙ f .cells-count;
         cells-word = every-set fitsWord (o .cells) k v w (f .cells-word);
-        cells-zero = rw (drop-set-lt (cellsOf types (o .type)) (o .cells) k v h) (f .cells-zero);
+        cells-zero = rw (drop-set-lt (cellsOf its (o .type)) (o .cells) k v h) (f .cells-zero);
+        floors-kept = written-kept S (o .type) k v (o .cells) (rw (f .cells-count) (lt-of-lt-of-le h (types-fit .cells-bound (o .type)))) allowed (f .floors-kept);
       })
 
-  with-type-fits : (t : ℕ) → T (knownType types t) → cellsOf types (o .type) ≤ cellsOf types t → T (objectFits types o) → T (objectFits types (withType t o))
-  with-type-fits t known h fit =
-      let f = object-parts types o fit in
-      object-whole types (withType t o)
+  with-type-fits : (t : ℕ) → T (knownType its t) → cellsOf its (o .type) ≤ cellsOf its t → T (not (belowFloor (S .types) (S .floors) t (o .cells))) → T (objectFits (S .types) (S .floors) o) → T (objectFits (S .types) (S .floors) (withType t o))
+  with-type-fits t known h allowed fit =
+      let f = object-parts S o fit in
+      object-whole S (withType t o)
       (record {
         id-valid = f .id-valid;
         type-known = known;
@@ -102,18 +107,20 @@ module _ (types : List ObjectType) (o : Object) where
         cells-word = f .cells-word;
         cells-zero =
             subst (λ l. T (every isZero l))
-            (drop-drop (cellsOf types t - cellsOf types (o .type)) (cellsOf types (o .type)) (o .cells) ∙ ap (λ n. drop n (o .cells)) (add-sub-of-le h))
-            (every-drop isZero (cellsOf types t - cellsOf types (o .type)) (drop (cellsOf types (o .type)) (o .cells)) (f .cells-zero));
+            (drop-drop (cellsOf its t - cellsOf its (o .type)) (cellsOf its (o .type)) (o .cells) ∙ ap (λ n. drop n (o .cells)) (add-sub-of-le h))
+            (every-drop isZero (cellsOf its t - cellsOf its (o .type)) (drop (cellsOf its (o .type)) (o .cells)) (f .cells-zero));
+        floors-kept = allowed;
       })
 
-  with-higher-type-fits : (t : ℕ) → T (knownType types t) → cellsOf types t ≤ cellCount → T (objectFits types o) → T (objectFits types (withHigherType types t o))
+  with-higher-type-fits : (t : ℕ) → T (knownType its t) → T (under its (o .type) t) → T (objectFits (S .types) (S .floors) o) → T (objectFits (S .types) (S .floors) (withHigherType its t o))
   unfolding fitsWord
-  with-higher-type-fits t known h fit =
-      let f = object-parts types o fit in
-      let n = cellsOf types t in
+  with-higher-type-fits t known above fit =
+      let f = object-parts S o fit in
+      let n = cellsOf its t in
+      let h = types-fit .cells-bound t in
       let zeros = replicate (cellCount - n) (pos 0) in
       let taken : length (take n (o .cells)) ≡ n = length-take-le n (o .cells) (rw (f .cells-count) h) in
-      object-whole types (withHigherType types t o)
+      object-whole S (withHigherType its t o)
       (record {
         id-valid = f .id-valid;
         type-known = known;
@@ -122,6 +129,7 @@ module _ (types : List ObjectType) (o : Object) where
             every-append fitsWord (take n (o .cells)) zeros (every-take fitsWord n (o .cells) (f .cells-word))
             (every-replicate fitsWord (cellCount - n) (pos 0) tt);
         cells-zero = rw (drop-at (take n (o .cells)) zeros n taken) (every-replicate isZero (cellCount - n) (pos 0) tt);
+        floors-kept = raised-kept S types-fit (o .type) t n (o .cells) above (f .floors-kept);
       })
 
 -- the cells that a higher type has stay
@@ -130,16 +138,17 @@ cleared-same n k cells enough h =
     List·getD-append (take n cells) (replicate (cellCount - n) (pos 0)) (pos 0) k (rw (length-take-le n cells enough) h)
     ∙ getD-take n cells k (pos 0) h
 
-new-object-fits : (types : List ObjectType) (id t : ℕ) → T (validId id) → T (knownType types t) → T (objectFits types (newObject id t))
+new-object-fits : (S : Schema) (id t : ℕ) → T (validId id) → T (knownType (S .types) t) → T (objectFits (S .types) (S .floors) (newObject id t))
 unfolding fitsWord
-new-object-fits types id t valid known =
-    object-whole types (newObject id t)
+new-object-fits S id t valid known =
+    object-whole S (newObject id t)
     (record {
       id-valid = valid;
       type-known = known;
       cells-count = refl;
       cells-word = tt;
-      cells-zero = every-drop isZero (cellsOf types t) (replicate cellCount (pos 0)) tt;
+      cells-zero = every-drop isZero (cellsOf (S .types) t) (replicate cellCount (pos 0)) tt;
+      floors-kept = zeros-kept S t cellCount;
     })
 
 -- ---- an object of a register after a change
@@ -220,8 +229,8 @@ data Fate (S : Schema) (g h : Register) (x : ℕ) : Event → Type 0 where
   kept : {e : Event} → objectAt h x ≡ objectAt g x → Fate S g h x e
   came : {t : ℕ} → T (validId x) → T (knownType (S .types) t) → T (not (present g x)) → objectAt h x ≡ some (newObject x t) → Fate S g h x (insert x t)
   went : objectAt h x ≡ none → Fate S g h x (delete x)
-  written : {o : Object} {k : ℕ} {v : ℤ} → T (fitsWord v) → k < cellsOf (S .types) (o .type) → objectAt g x ≡ some o → objectAt h x ≡ some (withCell k v o) → Fate S g h x (set x k v)
-  lowered : {o : Object} {t : ℕ} → T (knownType (S .types) t) → T (under (S .types) t (o .type)) → objectAt g x ≡ some o → objectAt h x ≡ some (withType t o) → Fate S g h x (special x t)
+  written : {o : Object} {k : ℕ} {v : ℤ} → T (fitsWord v) → k < cellsOf (S .types) (o .type) → T (not (negative v && floored (S .types) (S .floors) (o .type) k)) → objectAt g x ≡ some o → objectAt h x ≡ some (withCell k v o) → Fate S g h x (set x k v)
+  lowered : {o : Object} {t : ℕ} → T (knownType (S .types) t) → T (under (S .types) t (o .type)) → T (not (belowFloor (S .types) (S .floors) t (o .cells))) → objectAt g x ≡ some o → objectAt h x ≡ some (withType t o) → Fate S g h x (special x t)
   raised : {o : Object} {t : ℕ} → T (knownType (S .types) t) → T (under (S .types) (o .type) t) → objectAt g x ≡ some o → objectAt h x ≡ some (withHigherType (S .types) t o) → Fate S g h x (general x t)
 
 module _ (S : Schema) (types-fit : TypesFit (S .types)) (lent : Lent) (g : Register) (fits : RegisterFits S g) where
@@ -232,7 +241,7 @@ module _ (S : Schema) (types-fit : TypesFit (S .types)) (lent : Lent) (g : Regis
   relationships = S .relationships
 
   fate : (e : Event) → eventRefusal S lent g e ≡ none → (x : ℕ) → Fate S g (apply S e g) x e
-  unfolding apply checks knownEvent strictlyAbove strictlyUnder hasCell objectAt
+  unfolding apply checks knownEvent strictlyAbove strictlyUnder hasCell setBelow broughtBelow objectAt
   fate (insert id t) ok x =
       let c = clear S lent g (insert id t) ok in
       let valid = both (validId id) (knownType types t) (c .0) in
@@ -245,7 +254,7 @@ module _ (S : Schema) (types-fit : TypesFit (S .types)) (lent : Lent) (g : Regis
       let c = clear S lent g (set id k v) ok in
       let o = holds-some (λ o. ltb k (cellsOf types (o .type))) (objectAt g id) (T-not-not (hasCell types g id k) (c .1 .1 .0)) in
       at-or-else (λ y. Fate S g (apply S (set id k v) g) y (set id k v)) id x
-      (written (both (validId id && ltb k cellCount) (fitsWord v) (c .0) .1) (ltb-yes (o .2)) (o .1) (amended-at g id (withCell k v) (λ o. refl) (o .1)))
+      (written (both (validId id && ltb k cellCount) (fitsWord v) (c .0) .1) (ltb-yes (o .2)) (rw (setBelow, o .1) at (c .1 .1 .1 .0)) (o .1) (amended-at g id (withCell k v) (λ o. refl) (o .1)))
       (λ n. kept (amended-other g id (withCell k v) (λ o. refl) x n))
   fate (join r a b) ok x = kept refl
   fate (part r a b) ok x = kept refl
@@ -254,7 +263,7 @@ module _ (S : Schema) (types-fit : TypesFit (S .types)) (lent : Lent) (g : Regis
       let o = holds-some (λ o. under types t (o .type) && not (eqb t (o .type))) (objectAt g id) (T-not-not (strictlyAbove types g id t) (c .1 .1 .0)) in
       let lower = and-yes (under types t (o .0 .type)) (not (eqb t (o .0 .type))) (o .2) .0 in
       at-or-else (λ y. Fate S g (apply S (special id t) g) y (special id t)) id x
-      (lowered (both (validId id) (knownType types t) (c .0) .1) lower (o .1) (amended-at g id (withType t) (λ o. refl) (o .1)))
+      (lowered (both (validId id) (knownType types t) (c .0) .1) lower (rw (broughtBelow, o .1) at (c .1 .1 .1 .0)) (o .1) (amended-at g id (withType t) (λ o. refl) (o .1)))
       (λ n. kept (amended-other g id (withType t) (λ o. refl) x n))
   fate (general id t) ok x =
       let c = clear S lent g (general id t) ok in
@@ -274,8 +283,8 @@ module _ (S : Schema) (types-fit : TypesFit (S .types)) (lent : Lent) (g : Regis
       step (kept q) nd ng = rw q u
       step (came i k a b) nd ng = absurd (T-not (present g x) (under-present types g x t u) a)
       step (went b) nd ng = absurd (T-not (isUnder types g x t) u (at-self (isUnder types g x t) x nd))
-      step (written w k a b) nd ng = rw b (rw a at u)
-      step (lowered {o} {t = s} k l a b) nd ng = rw b (under-trans types types-fit s (o .type) t l (rw a at u))
+      step (written w k f a b) nd ng = rw b (rw a at u)
+      step (lowered {o} {t = s} k l f a b) nd ng = rw b (under-trans types types-fit s (o .type) t l (rw a at u))
       step (raised {o} {t = s} k l a b) nd ng =
           rw b (T-not-not (under types s t) (and-rest (isUnder types g x t) (not (under types s t)) u (at-self (isUnder types g x t && not (under types s t)) x ng)))
 
@@ -287,14 +296,14 @@ module _ (S : Schema) (types-fit : TypesFit (S .types)) (lent : Lent) (g : Regis
       step (kept q) ni ns u = rw q at u
       step (came {t = s} i k a b) ni ns u = absurd (T-not (under types s t) (rw b at u) (at-self (under types s t) x ni))
       step (went b) ni ns u = absurd (rw b at u)
-      step (written w k a b) ni ns u = rw a (rw b at u)
-      step (lowered {o} {t = s} k l a b) ni ns u =
+      step (written w k f a b) ni ns u = rw a (rw b at u)
+      step (lowered {o} {t = s} k l f a b) ni ns u =
           T-not-not (isUnder types g x t) (and-rest (under types s t) (not (isUnder types g x t)) (rw b at u) (at-self (under types s t && not (isUnder types g x t)) x ns))
       step (raised {o} {t = s} k l a b) ni ns u = rw a (under-trans types types-fit (o .type) s t l (rw b at u))
 
   -- ---- the register fits
 
-  found-fits : (x : ℕ) {o : Object} → objectAt g x ≡ some o → T (objectFits types o)
+  found-fits : (x : ℕ) {o : Object} → objectAt g x ≡ some o → T (objectFits (S .types) (S .floors) o)
   found-fits x {o} e = fits .objects-fit o (object-at g x e .0)
 
   objects-ascend-after : (e : Event) → Ascending (Before objectKey) ((apply S e g) .objects)
@@ -307,19 +316,19 @@ module _ (S : Schema) (types-fit : TypesFit (S .types)) (lent : Lent) (g : Regis
   objects-ascend-after (special id t) = amended-ascends g id (withType t) (λ o. refl) (fits .objects-ascend)
   objects-ascend-after (general id t) = amended-ascends g id (withHigherType types t) (λ o. refl) (fits .objects-ascend)
 
-  objects-fit-after : (e : Event) → eventRefusal S lent g e ≡ none → (o : Object) → o ∈ (apply S e g) .objects → T (objectFits types o)
+  objects-fit-after : (e : Event) → eventRefusal S lent g e ≡ none → (o : Object) → o ∈ (apply S e g) .objects → T (objectFits (S .types) (S .floors) o)
   objects-fit-after e ok o m = step (fate e ok (o .id)) (ascending-found (apply S e g) (objects-ascend-after e) m)
     where
-      now : {found : Option Object} {n : Object} → found ≡ some o → found ≡ some n → T (objectFits types n) → T (objectFits types o)
-      now {n} p q t = subst (λ z. T (objectFits types z)) (Option·some-injective n o (sym q ∙ p)) t
+      now : {found : Option Object} {n : Object} → found ≡ some o → found ≡ some n → T (objectFits (S .types) (S .floors) n) → T (objectFits (S .types) (S .floors) o)
+      now {n} p q t = subst (λ z. T (objectFits (S .types) (S .floors) z)) (Option·some-injective n o (sym q ∙ p)) t
 
-      step : {f : Event} {h : Register} → Fate S g h (o .id) f → objectAt h (o .id) ≡ some o → T (objectFits types o)
+      step : {f : Event} {h : Register} → Fate S g h (o .id) f → objectAt h (o .id) ≡ some o → T (objectFits (S .types) (S .floors) o)
       step (kept q) p = found-fits (o .id) (sym q ∙ p)
-      step (came {t} i k a b) p = now p b (new-object-fits types (o .id) t i k)
+      step (came {t} i k a b) p = now p b (new-object-fits S (o .id) t i k)
       step (went b) p = absurd (Option·none-ne-some o (sym b ∙ p))
-      step (written {o = was} {k} {v} w h a b) p = now p b (with-cell-fits types was k v w h (found-fits (o .id) a))
-      step (lowered {o = was} {t} k l a b) p = now p b (with-type-fits types was t k (under-cells types types-fit t (was .type) l) (found-fits (o .id) a))
-      step (raised {o = was} {t} k l a b) p = now p b (with-higher-type-fits types was t k (types-fit .cells-bound t) (found-fits (o .id) a))
+      step (written {o = was} {k} {v} w h f a b) p = now p b (with-cell-fits S types-fit was k v w h f (found-fits (o .id) a))
+      step (lowered {o = was} {t} k l f a b) p = now p b (with-type-fits S types-fit was t k (under-cells types types-fit t (was .type) l) f (found-fits (o .id) a))
+      step (raised {o = was} {t} k l a b) p = now p b (with-higher-type-fits S types-fit was t k l (found-fits (o .id) a))
 
   -- the event does not take object x out of type t
   abbrev Leaves : Event → ℕ → ℕ → Type 0
@@ -475,11 +484,11 @@ module _ (S : Schema) (types-fit : TypesFit (S .types)) (lent : Lent) (g : Regis
       step (kept q) v n = rw (cellAt, q)
       step (came i j a b) v n = absurd (T-not (present g x) (under-present types g x t u) a)
       step (went b) v n = absurd (rw b at v)
-      step (written {o} {k = j} {v = z} w j< a b) v n =
+      step (written {o} {k = j} {v = z} w j< f a b) v n =
           rw (cellAt, a, b) (getD-set-other (o .cells) j k z (pos 0) (λ e. eqb-no (at-self (eqb j k) x n) (sym e)))
-      step (lowered j l a b) v n = rw (cellAt, a, b)
+      step (lowered j l f a b) v n = rw (cellAt, a, b)
       step (raised {o} {t = s} j l a b) v n =
-          let enough : cellsOf types s ≤ length (o .cells) = rw ((object-parts types o (found-fits x a)) .cells-count) (types-fit .cells-bound s) in
+          let enough : cellsOf types s ≤ length (o .cells) = rw ((object-parts S o (found-fits x a)) .cells-count) (types-fit .cells-bound s) in
           rw (cellAt, a, b) (cleared-same (cellsOf types s) k (o .cells) enough (lt-of-lt-of-le h (under-cells types types-fit s t (rw b at v))))
 
   -- ---- objects

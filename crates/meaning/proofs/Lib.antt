@@ -4,6 +4,7 @@ pub mod Integers
 pub mod Variables
 pub mod Schemas
 pub mod Registers
+pub mod Floors
 pub mod Effects
 pub mod Steps
 pub mod Monotone

@@ -1,23 +1,23 @@
 -- What document 01's reach rules say of each operator: where nothing moves its parts, the value before and the value after are
 -- in order. The comparisons are in Comparisons.antt.
 use Prim.Native.Nat.{ℕ, _<_}
-use mathlib.Core.Path.{_≡_, ap, _∙_, subst}
+use mathlib.Core.Path.{_≡_, refl, sym, ap, _∙_, subst}
 use mathlib.Core.Logic.{⊎-elim, ∥∥₁-elim}
-use mathlib.Core.Bool.{Bool, _&&_, _||_, not}
-use mathlib.Core.List.{List, map, map-congr-left}
+use mathlib.Core.Bool.{Bool, true, false, _&&_, _||_, not}
+use mathlib.Core.List.{List, [], _∷_, map, map-congr-left, List·Memᴰ·head, List·Memᴰ·tail, List·Memᴰ·not-nil, List·Memᴰ·cases-cons}
 use native.Mathlib.Nat.{lt-irrefl, lt-trans}
 use lib.Dec.{T}
 use lib.ListN.{length}
-use lib.IntN.{ℤ, pos, ℤ-set}
-use lib.Signed.{≤ℤ-refl}
+use lib.IntN.{ℤ, pos, _+ℤ_, +ℤ-idl, ℤ-set}
+use lib.Signed.{_≤ℤ_, ≤ℤ-refl}
 use mir.Facts.{and-yes, yes-and, or-yes, or-no, T-not, not-T}
 use Rattle.meaning.specs.Lists.{keep, _∈_, Ascending}
 use Rattle.meaning.specs.Forms.{Sort, truth, number, collection, Connective, and, or, xor, implies, Quantifier, forall, exists, Arithmetic, add, sub}
 use Rattle.meaning.specs.Meaning.{Value, connected, quantified, combined, total}
-use Rattle.meaning.specs.Reach.{Direction, up, down, opposite, Passing, same, reversed, either, through, firstTruth, secondTruth, sourceOf, secondTerm}
+use Rattle.meaning.specs.Reach.{Direction, up, down, opposite, Passing, same, reversed, either, through, firstTruth, secondTruth, sourceOf, secondTerm, sumSource}
 use Rattle.meaning.specs.Unmoved.{Below, Unmoved, Through}
 use Rattle.meaning.proofs.Lists.{or-left, or-right, any-of, any-cases, every-of, every-at, keep-in, keep-from, ascending-unique, ascending-shorter}
-use Rattle.meaning.proofs.Integers.{pos-mono, add-mono, sub-mono}
+use Rattle.meaning.proofs.Integers.{≤ℤ-trans, pos-mono, add-mono, sub-mono}
 
 -- nothing moves through a part, as a test and as what follows from it
 pub through-none : (p : Passing) (moved : Direction → Bool) (P : Direction → Type 0) (d : Direction) → ((e : Direction) → T (not (moved e)) → P e) → T (not (through _||_ p moved d)) → Through p P d
@@ -106,10 +106,58 @@ pub size-unmoved : (d : Direction) (l l′ : List ℕ) → Ascending _<_ l → A
 size-unmoved up l l′ a a′ s = size-below l′ l a′ a s
 size-unmoved down l l′ a a′ s = size-below l l′ a a′ s
 
-pub sum-unmoved : (d : Direction) (f f′ : ℕ → ℤ) (l l′ : List ℕ) → Ascending _<_ l → Ascending _<_ l′ → Through either (λ e. Unmoved collection e l l′) d → ((x : ℕ) → x ∈ l → x ∈ l′ → f x ≡ f′ x) → Unmoved number d (total (map f l)) (total (map f′ l′))
-sum-unmoved d f f′ l l′ a a′ s h = subst (λ k. Unmoved number d (total (map f l)) (total k)) terms (unmoved-refl number d (total (map f l)))
+-- numbers of which none is below 0
+abbrev pub NoneBelow : (ℕ → ℤ) → List ℕ → Type 0
+NoneBelow f l = (x : ℕ) → x ∈ l → pos 0 ≤ℤ f x
+
+total-least : (f : ℕ → ℤ) (l : List ℕ) → NoneBelow f l → pos 0 ≤ℤ total (map f l)
+unfolding total
+total-least f [] h = ≤ℤ-refl (pos 0)
+total-least f (x ∷ xs) h =
+    add-mono {a = pos 0} {b = f x} {c = pos 0} {d = total (map f xs)} (h x (List·Memᴰ·head refl)) (total-least f xs (λ y m. h y (List·Memᴰ·tail m)))
+
+-- more of them come to no less
+total-below : (f : ℕ → ℤ) (l l′ : List ℕ) → Ascending _<_ l → Ascending _<_ l′ → Below collection l l′ → NoneBelow f l′ → total (map f l) ≤ℤ total (map f l′)
+unfolding total
+total-below f [] l′ a a′ s h = total-least f l′ h
+total-below f (x ∷ xs) [] a a′ s h = absurd (List·Memᴰ·not-nil (s x (List·Memᴰ·head refl)))
+total-below f (x ∷ xs) (y ∷ ys) a a′ s h =
+    ⊎-elim
+    (λ (e : x ≡ y). add-mono (subst (λ z. f x ≤ℤ f z) e (≤ℤ-refl (f x))) (total-below f xs ys (a .1) (a′ .1) (after-both e) rest))
+    (λ (n : x ∈ ys). ≤ℤ-trans (total-below f (x ∷ xs) ys a (a′ .1) (after-first n) rest) one-more)
+    (List·Memᴰ·cases-cons (s x (List·Memᴰ·head refl)))
+  where
+    rest : NoneBelow f ys
+    rest z m = h z (List·Memᴰ·tail m)
+
+    one-more : total (map f ys) ≤ℤ (f y +ℤ total (map f ys))
+    one-more =
+        subst (λ z. z ≤ℤ (f y +ℤ total (map f ys))) (+ℤ-idl (total (map f ys)))
+        (add-mono {a = pos 0} (h y (List·Memᴰ·head refl)) (≤ℤ-refl (total (map f ys))))
+
+    after-both : x ≡ y → Below collection xs ys
+    after-both e z m =
+        ⊎-elim (λ (q : z ≡ y). absurd (lt-irrefl x (subst (λ w. x < w) (q ∙ sym e) (a .0 z m)))) (λ n. n) (List·Memᴰ·cases-cons (s z (List·Memᴰ·tail m)))
+
+    -- y comes before x, and so before what comes after x
+    apart : x ∈ ys → (z : ℕ) → z ∈ x ∷ xs → y < z
+    apart n z m = ⊎-elim (λ (q : z ≡ x). subst (λ w. y < w) (sym q) (a′ .0 x n)) (λ o. lt-trans (a′ .0 x n) (a .0 z o)) (List·Memᴰ·cases-cons m)
+
+    after-first : x ∈ ys → Below collection (x ∷ xs) ys
+    after-first n z m = ⊎-elim (λ (q : z ≡ y). absurd (lt-irrefl y (subst (λ w. y < w) q (apart n z m)))) (λ o. o) (List·Memᴰ·cases-cons (s z m))
+
+sum-below : (floor : Bool) (f f′ : ℕ → ℤ) (l l′ : List ℕ) → Ascending _<_ l → Ascending _<_ l′ → Through (sumSource floor) (λ e. Unmoved collection e l l′) down → (T floor → NoneBelow f′ l′) → ((x : ℕ) → x ∈ l → x ∈ l′ → f x ≡ f′ x) → Below number (total (map f l)) (total (map f′ l′))
+unfolding sumSource
+sum-below true f f′ l l′ a a′ s least h =
+    subst (λ k. total k ≤ℤ total (map f′ l′)) (sym (map-congr-left (λ x t. ∥∥₁-elim t (ℤ-set (f x) (f′ x)) (λ m. h x m (s x m)))))
+    (total-below f′ l l′ a a′ s (least tt))
+sum-below false f f′ l l′ a a′ s least h = subst (λ k. total (map f l) ≤ℤ total k) terms (≤ℤ-refl (total (map f l)))
   where
     terms : map f l ≡ map f′ l′
     terms =
         map-congr-left (λ x t. ∥∥₁-elim t (ℤ-set (f x) (f′ x)) (λ m. h x m (s .1 x m)))
         ∙ ap (map f′) (ascending-unique _<_ lt-irrefl (λ x y z. lt-trans) l l′ a a′ (s .1) (s .0))
+
+pub sum-unmoved : (floor : Bool) (d : Direction) (f f′ : ℕ → ℤ) (l l′ : List ℕ) → Ascending _<_ l → Ascending _<_ l′ → Through (sumSource floor) (λ e. Unmoved collection e l l′) d → (T floor → NoneBelow f l) → (T floor → NoneBelow f′ l′) → ((x : ℕ) → x ∈ l → x ∈ l′ → f x ≡ f′ x) → Unmoved number d (total (map f l)) (total (map f′ l′))
+sum-unmoved floor up f f′ l l′ a a′ s least least′ h = sum-below floor f′ f l′ l a′ a (exchanged collection (sumSource floor) l l′ s) least (λ x m n. sym (h x n m))
+sum-unmoved floor down f f′ l l′ a a′ s least least′ h = sum-below floor f f′ l l′ a a′ s least′ h

@@ -6,23 +6,23 @@ use mathlib.Core.Path.{_≡_, refl, subst}
 use mathlib.Core.Bool.{Bool, not, _||_, _&&_}
 use mathlib.Core.List.{List}
 use lib.Dec.{T, ltb, ltb→lt}
-use lib.IntN.{ℤ}
-use lib.Signed.{≤ℤ-refl}
+use lib.IntN.{ℤ, pos}
+use lib.Signed.{_≤ℤ_, ≤ℤ-refl}
 use lib.ListN.{length}
 use mir.Facts.{and-yes, or-no}
 use Rattle.meaning.specs.Lists.{any, _∈_}
-use Rattle.meaning.specs.Schema.{ObjectType, Relationship, Schema, cellsOf, under, knownType, knownRole, nearType, farType}
+use Rattle.meaning.specs.Schema.{ObjectType, Relationship, Schema, cellsOf, under, floored, knownType, knownRole, nearType, farType}
 use Rattle.meaning.specs.Register.{Register, isUnder, cellAt, instances, farEnds}
 use Rattle.meaning.specs.Forms.{Sort, truth, number, collection, Form, compare, negate, connect, quantify, kind, num, cell, size, sum, combine, role, all, select, bind, variable, memberType, wellTyped}
 use Rattle.meaning.specs.Meaning.{Value, meaning}
-use Rattle.meaning.specs.Reach.{Change, Direction, up, down, opposite, Passing, same, reversed, either, through, leftOf, rightOf, firstTruth, secondTruth, sourceOf, secondTerm, roleMoves, allMoves, cellMoves, kindMoves, moves}
+use Rattle.meaning.specs.Reach.{Change, Direction, up, down, opposite, Passing, same, reversed, either, through, leftOf, rightOf, firstTruth, secondTruth, sourceOf, secondTerm, sumSource, flooredSum, roleMoves, allMoves, cellMoves, kindMoves, moves}
 use Rattle.meaning.proofs.Lists.{any-none, keep-from}
 use Rattle.meaning.proofs.Variables.{Each, each-at, each-bind}
 use Rattle.meaning.proofs.Registers.{RegisterFits}
 use Rattle.meaning.specs.Unmoved.{Unmoved, Through}
 use Rattle.meaning.proofs.Monotone.{through-none, connective-unmoved, negation-unmoved, arithmetic-unmoved, quantifier-unmoved, select-unmoved, size-unmoved, sum-unmoved}
 use Rattle.meaning.proofs.Comparisons.{comparison-unmoved}
-use Rattle.meaning.proofs.Collections.{gathered, members-ascend}
+use Rattle.meaning.proofs.Collections.{gathered, member-under, members-ascend}
 
 -- A collection that is not moved in a direction, and whose members before and after are kept in type t.
 abbrev pub UnmovedKept : (ℕ → ℕ → Type 0) → ℕ → Direction → List ℕ → List ℕ → Type 0
@@ -35,6 +35,8 @@ pub record Leaves (c : Change) (first : Register) (Kept : ℕ → ℕ → Type 0
   pub role-unmoved : (d : Direction) (x t r : ℕ) → Kept x t → T (under (c .schema .types) t (nearType (c .schema .relationships) r)) → T (not (roleMoves c r x d)) → UnmovedKept Kept (farType (c .schema .relationships) r) d (farEnds first r x) (farEnds (c .end) r x)
   pub all-unmoved : (d : Direction) (t : ℕ) → T (not (allMoves c t d)) → UnmovedKept Kept t d (instances (c .schema .types) first t) (instances (c .schema .types) (c .end) t)
   pub cell-unmoved : (x t k : ℕ) → Kept x t → k < cellsOf (c .schema .types) t → T (not (cellMoves c x k)) → cellAt first x k ≡ cellAt (c .end) x k
+  pub floor-before : (x t k : ℕ) → T (isUnder (c .schema .types) first x t) → T (floored (c .schema .types) (c .schema .floors) t k) → pos 0 ≤ℤ cellAt first x k
+  pub floor-at-end : (x t k : ℕ) → T (isUnder (c .schema .types) (c .end) x t) → T (floored (c .schema .types) (c .schema .floors) t k) → pos 0 ≤ℤ cellAt (c .end) x k
   pub kind-unmoved : (d : Direction) (x u t : ℕ) → Kept x u → T (not (kindMoves c x t d)) → Unmoved truth d (isUnder (c .schema .types) first x t) (isUnder (c .schema .types) (c .end) x t)
 
 -- ---- what passes through a part
@@ -119,8 +121,11 @@ module _ (c : Change) (first : Register) (Kept : ℕ → ℕ → Type 0) (leaves
       size-unmoved d _ _ (members-ascend types first (gathered S first (leaves .first-fits)) e vs) (members-ascend types (c .end) (gathered S (c .end) (leaves .end-fits)) e vs) (unmoved e ts vs w k d n .0)
   unmoved (sum e j) ts vs w k d n =
       let ws = and-yes (wellTyped S ts e) (ltb j (cellsOf types (memberType relationships e))) w in
-      let h = over-members either e vs (λ x. cellMoves c x j) d (unmoved e ts vs (ws .0) k) n in
-      sum-unmoved d _ _ _ _ (members-ascend types first (gathered S first (leaves .first-fits)) e vs) (members-ascend types (c .end) (gathered S (c .end) (leaves .end-fits)) e vs) (h .0 .0)
+      let floor = flooredSum S e j in
+      let h = over-members (sumSource floor) e vs (λ x. cellMoves c x j) d (unmoved e ts vs (ws .0) k) n in
+      sum-unmoved floor d _ _ _ _ (members-ascend types first (gathered S first (leaves .first-fits)) e vs) (members-ascend types (c .end) (gathered S (c .end) (leaves .end-fits)) e vs) (h .0 .0)
+      (λ f x m. leaves .floor-before x (memberType relationships e) j (member-under S first (leaves .first-fits) e vs x m) f)
+      (λ f x m. leaves .floor-at-end x (memberType relationships e) j (member-under S (c .end) (leaves .end-fits) e vs x m) f)
       (λ x m m′. leaves .cell-unmoved x (memberType relationships e) j (h .0 .1 x m m′) (ltb→lt j (cellsOf types (memberType relationships e)) (ws .1)) (h .1 x m′))
   unmoved (combine o a b) ts vs w k d n =
       let ws = and-yes (wellTyped S ts a) (wellTyped S ts b) w in

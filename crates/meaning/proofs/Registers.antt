@@ -1,7 +1,7 @@
 -- What a register without refusal 5 is, and how its objects, links and collections are found in it.
 use Prim.Native.Nat.{ℕ, _<_}
 use mathlib.Core.Path.{_≡_, sym, subst, _∙_}
-use mathlib.Core.Bool.{Bool, true, false, _&&_, cond}
+use mathlib.Core.Bool.{Bool, true, false, _&&_, not, cond}
 use mathlib.Core.List.{List, [], _∷_, Memᴰ·cast, Memᴰ·map, Memᴰ·of-map}
 use mathlib.Core.Option.{none, some}
 use lib.Dec.{T, eqb, eqb-refl}
@@ -10,59 +10,65 @@ use mir.Facts.{and-yes, yes-and, eqb-yes, yes-eqb}
 use Rattle.meaning.specs.Lists.{every, keep, before, _∈_, Ascending, Before}
 use Rattle.meaning.specs.Limits.{cellCount, validId, fitsWord}
 use Rattle.meaning.specs.Schema.{ObjectType, Schema, knownType, knownRelationship, cellsOf, relationshipOf, forward, sourceType, targetType, farType, under}
-use Rattle.meaning.specs.Register.{Object, Link, Register, objectKey, linkKey, objectAt, present, isUnder, instances, sameLink, hasLink, nearEnd, farEnd, startsAt, farEnds, isZero, cellsFit, objectFits, faultyObject, linkFits, faultyLink, objectFault, linkFault}
+use Rattle.meaning.specs.Register.{Object, Link, Register, objectKey, linkKey, objectAt, present, isUnder, instances, sameLink, hasLink, nearEnd, farEnd, startsAt, farEnds, isZero, cellsFit, belowFloor, objectFits, faultyObject, linkFits, faultyLink, objectFault, linkFault}
 use Rattle.meaning.proofs.Lists.{first-only, ascending-one, holds-some, any-of, any-cases, keep-in, keep-from, first-some, ascending-keep, ascending-map}
 use Rattle.meaning.proofs.Order.{before-one, before-last, before-first, before-irreflexive, same-list-eq, same-list-refl, rows-fit, fits-rows}
 
 pub record RegisterFits (S : Schema) (g : Register) : Type 0 where
   pub objects-ascend : Ascending (Before objectKey) (g .objects)
-  pub objects-fit : (o : Object) → o ∈ g .objects → T (objectFits (S .types) o)
+  pub objects-fit : (o : Object) → o ∈ g .objects → T (objectFits (S .types) (S .floors) o)
   pub links-ascend : Ascending (Before linkKey) (g .links)
   pub links-fit : (l : Link) → l ∈ g .links → T (linkFits S g l)
 
-pub register-fits : (S : Schema) (g : Register) → objectFault (S .types) g ≡ none → linkFault S g ≡ none → RegisterFits S g
+pub register-fits : (S : Schema) (g : Register) → objectFault (S .types) (S .floors) g ≡ none → linkFault S g ≡ none → RegisterFits S g
 unfolding objectFault linkFault faultyObject faultyLink
 register-fits S g e f =
-    let o = rows-fit objectKey (objectFits (S .types)) (g .objects) e in
+    let o = rows-fit objectKey (objectFits (S .types) (S .floors)) (g .objects) e in
     let l = rows-fit linkKey (linkFits S g) (g .links) f in
     record { objects-ascend = o .0; objects-fit = o .1; links-ascend = l .0; links-fit = l .1 }
 
-pub fits-register : (S : Schema) (g : Register) → RegisterFits S g → (objectFault (S .types) g ≡ none) × (linkFault S g ≡ none)
+pub fits-register : (S : Schema) (g : Register) → RegisterFits S g → (objectFault (S .types) (S .floors) g ≡ none) × (linkFault S g ≡ none)
 unfolding objectFault linkFault faultyObject faultyLink
 fits-register S g r = (
-  fits-rows objectKey (objectFits (S .types)) (g .objects) (r .objects-ascend) (r .objects-fit),
+  fits-rows objectKey (objectFits (S .types) (S .floors)) (g .objects) (r .objects-ascend) (r .objects-fit),
   fits-rows linkKey (linkFits S g) (g .links) (r .links-ascend) (r .links-fit),
 )
 
 -- ---- objects
 
 -- what `objectFits` tests, part by part
-pub record ObjectFits (types : List ObjectType) (o : Object) : Type 0 where
+pub record ObjectFits (S : Schema) (o : Object) : Type 0 where
   pub id-valid : T (validId (o .id))
-  pub type-known : T (knownType types (o .type))
+  pub type-known : T (knownType (S .types) (o .type))
   pub cells-count : length (o .cells) ≡ cellCount
   pub cells-word : T (every fitsWord (o .cells))
-  pub cells-zero : T (every isZero (drop (cellsOf types (o .type)) (o .cells)))
+  pub cells-zero : T (every isZero (drop (cellsOf (S .types) (o .type)) (o .cells)))
+  pub floors-kept : T (not (belowFloor (S .types) (S .floors) (o .type) (o .cells)))
 
-pub object-parts : (types : List ObjectType) (o : Object) → T (objectFits types o) → ObjectFits types o
+pub object-parts : (S : Schema) (o : Object) → T (objectFits (S .types) (S .floors) o) → ObjectFits S o
 unfolding objectFits cellsFit
-object-parts types o t =
+object-parts S o t =
+    let types = S .types in
     let count = eqb (length (o .cells)) cellCount in
     let zero = every isZero (drop (cellsOf types (o .type)) (o .cells)) in
-    let whole = and-yes (validId (o .id) && knownType types (o .type)) (count && every fitsWord (o .cells) && zero) t in
+    let floors = and-yes (validId (o .id) && knownType types (o .type) && (count && every fitsWord (o .cells) && zero)) (not (belowFloor (S .types) (S .floors) (o .type) (o .cells))) t in
+    let whole = and-yes (validId (o .id) && knownType types (o .type)) (count && every fitsWord (o .cells) && zero) (floors .0) in
     let head = and-yes (validId (o .id)) (knownType types (o .type)) (whole .0) in
     let cells = and-yes (count && every fitsWord (o .cells)) zero (whole .1) in
     let words = and-yes count (every fitsWord (o .cells)) (cells .0) in
-    record { id-valid = head .0; type-known = head .1; cells-count = eqb-yes (words .0); cells-word = words .1; cells-zero = cells .1 }
+    record { id-valid = head .0; type-known = head .1; cells-count = eqb-yes (words .0); cells-word = words .1; cells-zero = cells .1; floors-kept = floors .1 }
 
-pub object-whole : (types : List ObjectType) (o : Object) → ObjectFits types o → T (objectFits types o)
+pub object-whole : (S : Schema) (o : Object) → ObjectFits S o → T (objectFits (S .types) (S .floors) o)
 unfolding objectFits cellsFit
-object-whole types o f =
+object-whole S o f =
+    let types = S .types in
     let count = eqb (length (o .cells)) cellCount in
     let zero = every isZero (drop (cellsOf types (o .type)) (o .cells)) in
-    yes-and (validId (o .id) && knownType types (o .type)) (count && every fitsWord (o .cells) && zero)
+    yes-and (validId (o .id) && knownType types (o .type) && (count && every fitsWord (o .cells) && zero)) (not (belowFloor (S .types) (S .floors) (o .type) (o .cells)))
+    (yes-and (validId (o .id) && knownType types (o .type)) (count && every fitsWord (o .cells) && zero)
     (yes-and (validId (o .id)) (knownType types (o .type)) (f .id-valid) (f .type-known))
-    (yes-and (count && every fitsWord (o .cells)) zero (yes-and count (every fitsWord (o .cells)) (yes-eqb (f .cells-count)) (f .cells-word)) (f .cells-zero))
+    (yes-and (count && every fitsWord (o .cells)) zero (yes-and count (every fitsWord (o .cells)) (yes-eqb (f .cells-count)) (f .cells-word)) (f .cells-zero)))
+    (f .floors-kept)
 
 pub object-at : (g : Register) (x : ℕ) {o : Object} → objectAt g x ≡ some o → (o ∈ g .objects) × (o .id ≡ x)
 unfolding objectAt

@@ -14,7 +14,7 @@ use Rattle.meaning.specs.Forms.{Sort, truth, collection, Form, compare, 
 use Rattle.meaning.specs.Meaning.{meaning}
 use Rattle.meaning.specs.Events.{Event, insert, delete, set, join, part, special, general, linkOf, strictlyAbove, strictlyUnder}
 use Rattle.meaning.specs.Reach.{Step, stepAt, Change, someStep, Kind, inserts, sets, joins, parts, specials, generals, among, partNamed, leadsTo, taken, setsCell, insertsInto, specialisesInto, deletesFrom, generalisesFrom, anyone, Direction, up, down, opposite, Passing, same}
-use Rattle.meaning.specs.Reach.{reversed, either, through, leftOf, rightOf, firstTruth, secondTruth, sourceOf, secondTerm, roleMoves, allMoves, cellMoves, kindMoves, moves, quiet, inserted, specialised, broughtIn, selected}
+use Rattle.meaning.specs.Reach.{reversed, either, through, leftOf, rightOf, firstTruth, secondTruth, sourceOf, secondTerm, sumSource, flooredSum, roleMoves, allMoves, cellMoves, kindMoves, moves, quiet, inserted, specialised, broughtIn, selected}
 use Rattle.meaning.specs.EventList.{EventType, insertOf, deleteOf, setOf, joinOf, partOf, specialOf, generalOf, eventTypeWords, whereParent, roleLists, allLists, kindLists, lists, contextLists, eventList, occurs, touched}
 use Rattle.meaning.proofs.Lists.{holds-some, or-left, or-right, decide, cond-yes, cond-no, any-of, any-cases, keep-from}
 use Rattle.meaning.proofs.Order.{put-other, put-has, put-ascending}
@@ -321,7 +321,7 @@ module _ (c : Change) where
     moves-listed (size k) vs ts v w = moves-listed k vs ts v w
     moves-listed (sum k n) vs ts v w =
         let member = memberType relationships k in
-        members-listed either k vs ts (λ u. cellMoves c u n) (setOf member n ∷ [])
+        members-listed (sumSource (flooredSum S k n)) k vs ts (λ u. cellMoves c u n) (setOf member n ∷ [])
         (moves-listed k vs ts v (and-yes (wellTyped S ts k) (ltb n (cellsOf types member)) w .0))
         (λ u h t. one-listed (setOf member n) (cell-listed u member n h t))
     moves-listed (combine o a b) vs ts v w = parts-listed same (secondTerm o) a b vs ts (moves-listed a vs ts v) (moves-listed b vs ts v) w

@@ -7,7 +7,7 @@ use mathlib.Core.Option.{Option, none, some}
 use lib.Dec.{ltb}
 use lib.ListN.{length}
 use Rattle.meaning.specs.Lists.{first, firstOf}
-use Rattle.meaning.specs.Schema.{Schema, typeFault, relationshipFault}
+use Rattle.meaning.specs.Schema.{Schema, typeFault, floorFault, relationshipFault}
 use Rattle.meaning.specs.Register.{Register, objectFault, linkFault}
 use Rattle.meaning.specs.Forms.{Book, ruleFault}
 use Rattle.meaning.specs.Meaning.{broken}
@@ -25,14 +25,14 @@ unfoldable pub refusalAt : ℕ → Option ℕ → Option Refusal
 refusalAt number none = none
 refusalAt number (some place) = some (record { number = number; place = place })
 
--- Refusals 3, 4 and 5, "checked from the top": types before relationships, objects before links.
+-- Refusals 3, 4 and 5, "checked from the top": types before floors and these before relationships, objects before links.
 unfoldable pub bookRefusal : Book → Option Refusal
 bookRefusal k =
-    firstOf (refusalAt 3 (firstOf (typeFault (k .schema .types)) (relationshipFault (k .schema))))
+    firstOf (refusalAt 3 (firstOf (typeFault (k .schema .types)) (firstOf (floorFault (k .schema)) (relationshipFault (k .schema)))))
     (refusalAt 4 (ruleFault k))
 
 unfoldable pub registerRefusal : Schema → Register → Option Refusal
-registerRefusal S g = refusalAt 5 (firstOf (objectFault (S .types) g) (linkFault S g))
+registerRefusal S g = refusalAt 5 (firstOf (objectFault (S .types) (S .floors) g) (linkFault S g))
 
 unfoldable pub refusal : Book → Register → Option Refusal
 refusal k g = firstOf (bookRefusal k) (registerRefusal (k .schema) g)

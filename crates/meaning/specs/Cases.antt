@@ -5,9 +5,9 @@ use Prim.Native.Nat.{ℕ, _-_}
 use mathlib.Core.List.{List, [], _∷_, _++_}
 use mathlib.Core.Option.{Option, none, some}
 use lib.ListN.{length, replicate}
-use lib.IntN.{ℤ, pos}
+use lib.IntN.{ℤ, pos, negsuc}
 use Rattle.meaning.specs.Limits.{cellCount}
-use Rattle.meaning.specs.Schema.{ObjectType, Relationship, Schema}
+use Rattle.meaning.specs.Schema.{ObjectType, Relationship, Floor, Schema}
 use Rattle.meaning.specs.Register.{Object, Link, Register}
 use Rattle.meaning.specs.Forms.{truth, le, ge, gt, and, or, forall, exists, add, Form, compare, connect, quantify, kind, num, cell, size, sum, combine, role, all, select, Rule, Book}
 use Rattle.meaning.specs.Events.{Event, insert, delete, set, join, part, special, general, Lent, linkOf, Refusal}
@@ -58,7 +58,7 @@ abbrev object : ℕ → ℕ → List ℤ → Object
 object id t cells = record { id = id; type = t; cells = cells ++ replicate (cellCount - length cells) (pos 0) }
 
 abbrev schemaA : Schema
-schemaA = record { types = top 1 ∷ top 1 ∷ []; relationships = from-to 0 1 ∷ [] }
+schemaA = record { types = top 1 ∷ top 1 ∷ []; floors = []; relationships = from-to 0 1 ∷ [] }
 
 abbrev sumRule : Rule
 sumRule = record { context = 0; body = compare le (sum (role 0 0) 0) (cell 0 0) }
@@ -107,6 +107,7 @@ abbrev shop : Schema
 shop =
     record {
       types = top 2 ∷ top 1 ∷ top 2 ∷ below 2 2 ∷ top 1 ∷ top 0 ∷ [];
+      floors = [];
       relationships = from-to 0 1 ∷ from-to 5 4 ∷ from-to 5 0 ∷ [];
     }
 
@@ -150,7 +151,7 @@ selectRule = record { context = 0; body = quantify forall (select (role 0 0) (co
 
 -- a type and one below it; a rule that asks the one below
 abbrev schemaK : Schema
-schemaK = record { types = top 1 ∷ below 0 1 ∷ []; relationships = from-to 0 0 ∷ [] }
+schemaK = record { types = top 1 ∷ below 0 1 ∷ []; floors = []; relationships = from-to 0 0 ∷ [] }
 
 abbrev registerK : Register
 registerK = record { objects = object 10 1 [] ∷ object 11 1 [] ∷ []; links = [] }
@@ -178,7 +179,7 @@ someOrNone = record { context = 0; body = connect or (quantify forall (role 0 0)
 
 -- two types, and a relationship between them, or of the first with itself
 abbrev schemaD : ℕ → Schema
-schemaD target = record { types = top 1 ∷ top 1 ∷ []; relationships = from-to 0 target ∷ [] }
+schemaD target = record { types = top 1 ∷ top 1 ∷ []; floors = []; relationships = from-to 0 target ∷ [] }
 
 abbrev registerD : List Object → List Link → Register
 registerD more links = record { objects = object 1 0 [] ∷ more; links = links }
@@ -186,6 +187,49 @@ registerD more links = record { objects = object 1 0 [] ∷ more; links = links 
 -- a rule that a loss alone turns false
 abbrev someRule : Rule
 someRule = record { context = 0; body = compare ge (size (role 0 0)) (num (pos 1)) }
+
+-- ---- floors (Req 02)
+
+abbrev floor : ℕ → ℕ → Floor
+floor t k = record { type = t; cell = k }
+
+-- NotTooPendingSales where a Sale's amount is at least 0
+abbrev flooredShop : Schema
+flooredShop = record { types = shop .types; floors = floor 0 0 ∷ []; relationships = shop .relationships }
+
+-- a type with two cells and one below it, a relationship from the first type to one of the two, and floors
+abbrev schemaF : List Floor → ℕ → Schema
+schemaF floors target = record { types = top 2 ∷ below 0 2 ∷ []; floors = floors; relationships = from-to 0 target ∷ [] }
+
+-- the sum over a role is at most, or at least, a number
+abbrev atMost : Rule
+atMost = record { context = 0; body = compare le (sum (role 0 0) 0) (num (pos 9)) }
+
+abbrev atLeast : Rule
+atLeast = record { context = 0; body = compare ge (sum (role 0 0) 0) (num (pos 1)) }
+
+-- a rule that no event moves
+abbrev always : Rule
+always = record { context = 0; body = compare le (num (pos 0)) (num (pos 0)) }
+
+-- object 1, and object 2 at the far end of its link
+abbrev registerF : ℕ → List ℤ → List Link → Register
+registerF t cells links = record { objects = object 1 0 [] ∷ object 2 t cells ∷ []; links = links }
+
+abbrev linkF : List Link
+linkF = linkOf 0 1 2 ∷ []
+
+-- a batch that meets a refusal
+abbrev refusedF : List Floor → ℕ → List ℤ → List Event → ℕ → ℕ → Case
+refusedF floors t cells es number place = caseBy (schemaF floors 0) always (registerF t cells []) es (refused number place) [] (registerF t cells [])
+
+-- a schema that meets refusal 3: its second relationship is of a type that it lacks
+abbrev faultyBook : List Floor → ℕ → Case
+faultyBook floors place =
+    record {
+      given = ruleFor (record { types = top 2 ∷ below 0 2 ∷ []; floors = floors; relationships = from-to 0 1 ∷ from-to 0 2 ∷ [] }) always;
+      expected = listing (some (record { number = 3; place = place })) (insertOf 0 ∷ []);
+    }
 
 unfoldable pub table : List Case
 table =
@@ -217,4 +261,28 @@ table =
     (registerD (object 2 1 [] ∷ []) [])
     ∷ caseBy (schemaD 0) someOrNone (registerD [] (linkOf 0 1 1 ∷ [])) (delete 1 ∷ insert 1 0 ∷ []) accepted [] (registerD [] [])
     ∷ caseBy schemaA someRule registerA (delete 20 ∷ insert 20 1 ∷ join 0 10 20 ∷ []) accepted (pairOf 0 10 ∷ []) (parkA [] (pos 0) linkA)
+    -- floors: document 000's row of NotTooPendingSales; a sum that falls by loss only and rises by gain only, whose set is either
+    ∷ record { given = ruleFor flooredShop notTooPendingSales; expected = listing none (setOf 0 0 ∷ setOf 0 1 ∷ setOf 4 0 ∷ joinOf 1 ∷ joinOf 2 ∷ []) }
+    ∷ caseBy (schemaF (floor 0 0 ∷ []) 0) atMost (registerF 0 [] linkF) (part 0 1 2 ∷ []) accepted [] (registerF 0 [] [])
+    ∷ caseBy (schemaF (floor 0 0 ∷ []) 0) atMost (registerF 0 [] []) (join 0 1 2 ∷ []) accepted (pairOf 0 1 ∷ []) (registerF 0 [] linkF)
+    ∷ caseBy (schemaF (floor 0 0 ∷ []) 0) atLeast (registerF 0 [] []) (join 0 1 2 ∷ []) accepted [] (registerF 0 [] linkF)
+    ∷ caseBy (schemaF (floor 0 0 ∷ []) 0) atLeast (registerF 0 (pos 1 ∷ []) linkF) (part 0 1 2 ∷ []) (brokenAt 0 1) (pairOf 0 1 ∷ []) (registerF 0 (pos 1 ∷ []) linkF)
+    ∷ caseBy (schemaF (floor 0 0 ∷ []) 0) atMost (registerF 0 [] linkF) (set 2 0 (pos 3) ∷ []) accepted (pairOf 0 1 ∷ []) (registerF 0 (pos 3 ∷ []) linkF)
+    ∷ caseBy (schemaF (floor 0 0 ∷ []) 0) atLeast (registerF 0 (pos 1 ∷ []) linkF) (set 2 0 (pos 3) ∷ []) accepted (pairOf 0 1 ∷ []) (registerF 0 (pos 3 ∷ []) linkF)
+    -- a floor of a type above the members' counts; one of a type below, or of another cell, does not
+    ∷ caseBy (schemaF (floor 0 0 ∷ []) 1) atMost (registerF 1 [] linkF) (part 0 1 2 ∷ []) accepted [] (registerF 1 [] [])
+    ∷ caseBy (schemaF (floor 1 0 ∷ []) 0) atMost (registerF 1 [] linkF) (part 0 1 2 ∷ []) accepted (pairOf 0 1 ∷ []) (registerF 1 [] [])
+    ∷ caseBy (schemaF (floor 0 1 ∷ []) 0) atMost (registerF 0 [] linkF) (part 0 1 2 ∷ []) accepted (pairOf 0 1 ∷ []) (registerF 0 [] [])
+    -- 15: a set, of a type below too; a special; after 11; a general out from under a floor is not refused
+    ∷ refusedF (floor 0 0 ∷ []) 1 [] (set 2 1 (negsuc 0) ∷ set 2 0 (negsuc 0) ∷ []) 15 1
+    ∷ refusedF (floor 1 1 ∷ []) 0 (pos 0 ∷ negsuc 0 ∷ []) (special 2 1 ∷ []) 15 0
+    ∷ refusedF (floor 0 0 ∷ []) 0 [] (set 2 2 (negsuc 0) ∷ []) 11 0
+    ∷ caseBy (schemaF (floor 1 1 ∷ []) 0) always (registerF 1 [] []) (general 2 0 ∷ set 2 1 (negsuc 0) ∷ []) accepted [] (registerF 0 (pos 0 ∷ negsuc 0 ∷ []) [])
+    -- 5: a register below a floor; 3: out of order, twice, of an unknown cell or type, before a relationship's fault
+    ∷ refusedF (floor 0 0 ∷ []) 1 (negsuc 0 ∷ []) [] 5 1
+    ∷ faultyBook (floor 0 1 ∷ floor 0 0 ∷ []) 1
+    ∷ faultyBook (floor 0 0 ∷ floor 0 1 ∷ floor 0 1 ∷ []) 2
+    ∷ faultyBook (floor 0 2 ∷ []) 0
+    ∷ faultyBook (floor 1 0 ∷ floor 2 0 ∷ []) 1
+    ∷ faultyBook (floor 0 0 ∷ floor 1 0 ∷ []) 1
     ∷ []

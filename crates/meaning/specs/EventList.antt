@@ -8,7 +8,7 @@ use Rattle.meaning.specs.Schema.{Schema, hasParent, relationshipOf, farT
 use Rattle.meaning.specs.Register.{isUnder}
 use Rattle.meaning.specs.Forms.{Sort, Form, compare, negate, connect, quantify, kind, num, cell, size, sum, combine, role, all, select, bind, variable, memberType, Rule}
 use Rattle.meaning.specs.Reach.{Change, someStep, inserts, deletes, sets, joins, parts, specials, generals, kindPlace, among, setsCell, insertsInto, specialisesInto, deletesFrom, generalisesFrom}
-use Rattle.meaning.specs.Reach.{anyone, Direction, up, down, same, reversed, either, through, leftOf, rightOf, firstTruth, secondTruth, sourceOf, secondTerm, quiet}
+use Rattle.meaning.specs.Reach.{anyone, Direction, up, down, same, reversed, through, leftOf, rightOf, firstTruth, secondTruth, sourceOf, secondTerm, sumSource, flooredSum, quiet}
 
 -- What a rule lists: a kind of event with the type, the type and cell, or the relationship that it names.
 pub data EventType : Type 0 where
@@ -55,7 +55,7 @@ lists S (kind v t) ts d = kindLists S t d
 lists S (num n) ts d = []
 lists S (cell v k) ts d = setOf (variable ts v) k ∷ []
 lists S (size c) ts d = through _++_ same (lists S c ts) d
-lists S (sum c k) ts d = through _++_ either (lists S c ts) d ++ setOf (memberType (S .relationships) c) k ∷ []
+lists S (sum c k) ts d = through _++_ (sumSource (flooredSum S c k)) (lists S c ts) d ++ setOf (memberType (S .relationships) c) k ∷ []
 lists S (combine o a b) ts d = through _++_ same (lists S a ts) d ++ through _++_ (secondTerm o) (lists S b ts) d
 lists S (role v r) ts d = roleLists S r d
 lists S (all t) ts d = allLists S t d

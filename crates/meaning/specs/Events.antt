@@ -1,4 +1,4 @@
--- Document 01, "Events" and "After a batch": what each event does, refusals 7 to 13, and the register after a batch.
+-- Document 01, "Events" and "After a batch": what each event does, refusals 7 to 13 and 15, and the register after a batch.
 use Prim.Native.Nat.{ℕ, suc, _-_, min}
 use mathlib.Core.Bool.{Bool, _&&_, _||_, not, cond}
 use mathlib.Core.List.{List, [], _∷_, _++_, map}
@@ -8,8 +8,8 @@ use lib.ListN.{length, take, replicate, set as replaceAt}
 use lib.IntN.{ℤ, pos}
 use Rattle.meaning.specs.Lists.{any, keep, holds, firstOf, putInOrder}
 use Rattle.meaning.specs.Limits.{maxObjects, maxLinks, cellCount, validId, fitsWord}
-use Rattle.meaning.specs.Schema.{ObjectType, Schema, knownType, knownRelationship, cellsOf, under, sourceType, targetType}
-use Rattle.meaning.specs.Register.{Object, Link, Register, objectKey, linkKey, objectAt, present, isUnder, sameLink, hasLink}
+use Rattle.meaning.specs.Schema.{ObjectType, Schema, knownType, knownRelationship, cellsOf, under, floored, sourceType, targetType}
+use Rattle.meaning.specs.Register.{Object, Link, Register, objectKey, linkKey, objectAt, present, isUnder, sameLink, hasLink, negative, belowFloor}
 
 -- "Events: `insert id t` .., `delete id`, `set id k v`, `join r a b`, `part r a b`, `special id t` .., `general id t` .."
 pub data Event : Type 0 where
@@ -76,7 +76,7 @@ unfoldable pub after : Schema → Register → List Event → Register
 after S g [] = g
 after S g (e ∷ es) = after S (apply S e g) es
 
--- ---- refusals 7 to 13
+-- ---- refusals 7 to 13, and 15
 
 infix 20 _when_
 -- a refusal's number, and when it is met
@@ -108,6 +108,13 @@ strictlyUnder types g id t = holds (λ o. under types (o .type) t && not (eqb t 
 unfoldable pub hasCell : List ObjectType → Register → ℕ → ℕ → Bool
 hasCell types g id k = holds (λ o. ltb k (cellsOf types (o .type))) (objectAt g id)
 
+-- 15 (Req 02): "a set puts a floored cell below 0 or a special brings an object with such a cell under a floor"
+unfoldable pub setBelow : Schema → Register → ℕ → ℕ → ℤ → Bool
+setBelow S g id k v = negative v && holds (λ o. floored (S .types) (S .floors) (o .type) k) (objectAt g id)
+
+unfoldable pub broughtBelow : Schema → Register → ℕ → ℕ → Bool
+broughtBelow S g id t = holds (λ o. belowFloor (S .types) (S .floors) t (o .cells)) (objectAt g id)
+
 -- 7: "kind, type, relationship unknown; cell not 0 to 7; id not 1 to" 2,147,483,647 (Req 07): what the event says by itself is known
 unfoldable pub knownEvent : Schema → Event → Bool
 knownEvent S (insert id t) = validId id && knownType (S .types) t
@@ -118,7 +125,7 @@ knownEvent S (part r a b) = knownRelationship (S .relationships) r && validId a 
 knownEvent S (special id t) = validId id && knownType (S .types) t
 knownEvent S (general id t) = validId id && knownType (S .types) t
 
--- The refusals that an event can meet, in the table's order.
+-- The refusals that an event can meet, in the table's order; 15 is "checked after 11".
 unfoldable pub checks : Schema → Lent → Register → Event → List Check
 checks S lent g (insert id t) =
     (7 when not (knownEvent S (insert id t)))
@@ -133,6 +140,7 @@ checks S lent g (set id k v) =
     (7 when not (knownEvent S (set id k v)))
     ∷ (8 when not (present g id))
     ∷ (11 when not (hasCell (S .types) g id k))
+    ∷ (15 when setBelow S g id k v)
     ∷ []
 checks S lent g (join r a b) =
     (7 when not (knownEvent S (join r a b)))
@@ -150,6 +158,7 @@ checks S lent g (special id t) =
     (7 when not (knownEvent S (special id t)))
     ∷ (8 when not (present g id))
     ∷ (11 when not (strictlyAbove (S .types) g id t))
+    ∷ (15 when broughtBelow S g id t)
     ∷ []
 checks S lent g (general id t) =
     (7 when not (knownEvent S (general id t)))

@@ -9,6 +9,10 @@ use lib.Signed.{mag}
 abbrev pub maxTypes : ℕ
 maxTypes = 32
 
+-- Req 02: "at most 256"
+abbrev pub maxFloors : ℕ
+maxFloors = 256
+
 abbrev pub maxRelationships : ℕ
 maxRelationships = 32
 

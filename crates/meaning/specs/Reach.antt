@@ -5,10 +5,10 @@ use mathlib.Core.List.{List, [], _∷_, _++_, map}
 use lib.Dec.{eqb}
 use lib.ListN.{getElem?}
 use Rattle.meaning.specs.Lists.{any, keep, holds}
-use Rattle.meaning.specs.Schema.{ObjectType, Schema, under}
+use Rattle.meaning.specs.Schema.{ObjectType, Schema, under, floored}
 use Rattle.meaning.specs.Register.{Link, Register, isUnder, instances, hasLink, farEnd, startsAt}
 use Rattle.meaning.specs.Forms.{Sort, truth, collection, Comparison, le, lt, eq, ne, ge, gt, Connective, and, or, xor, implies, Quantifier, forall, exists, Arithmetic, add, sub, Form}
-use Rattle.meaning.specs.Forms.{compare, negate, connect, quantify, kind, num, cell, size, sum, combine, role, all, select, bind, variable, Rule, Book}
+use Rattle.meaning.specs.Forms.{compare, negate, connect, quantify, kind, num, cell, size, sum, combine, role, all, select, bind, variable, memberType, Rule, Book}
 use Rattle.meaning.specs.Meaning.{meaning}
 use Rattle.meaning.specs.Events.{Event, insert, delete, set, join, part, special, general, linkOf, apply, after}
 
@@ -184,6 +184,15 @@ unfoldable pub secondTerm : Arithmetic → Passing
 secondTerm add = same
 secondTerm sub = reversed
 
+-- Req 02: "Sum over such a cell then rises by gain only and falls by loss only"; over any other "either way by gain, loss"
+unfoldable pub sumSource : Bool → Passing
+sumSource true = same
+sumSource false = either
+
+-- the sum is over a floored cell, by the members' type: a floor of a type below it says nothing of the other members
+abbrev pub flooredSum : Schema → Form collection → ℕ → Bool
+flooredSum S c k = floored (S .types) (S .floors) (memberType (S .relationships) c) k
+
 -- ---- the leaves
 
 -- "A role from object u has a *gain* if a join named such a link and it is there at the end. It has a *loss* if a part named
@@ -217,7 +226,7 @@ kindMoves c u t down = someStep c (generalisesFrom (c .schema .types) t (eqb u))
 -- ---- the forms
 
 -- Whether a form may move in a direction, by the ids that its variables stand for. "`not` reverses"; "`num`: never. `size`: rises by
--- gain, falls by loss. `sum`: either way by gain, loss or a set of that cell at a member." "`select c b`: gain if c gains or b may turn
+-- gain, falls by loss. `sum`: either way by gain, loss", as `sumSource` has it, "or a set of that cell at a member." "`select c b`: gain if c gains or b may turn
 -- true at a member of c; loss if c loses or b may turn false at one. Members are always those at the end." `forall` and `exists`
 -- turn by their collection, "or if b may turn" the same way "at a member".
 unfoldable pub moves : {s : Sort} → Change → Form s → List ℕ → Direction → Bool
@@ -231,7 +240,8 @@ moves c (num n) vs d = false
 moves c (cell v k) vs d = cellMoves c (variable vs v) k
 moves c (size k) vs d = through _||_ same (moves c k vs) d
 moves c (sum k n) vs d =
-    through _||_ either (moves c k vs) d || any (λ x. cellMoves c x n) (meaning (c .schema .types) (c .end) k vs)
+    through _||_ (sumSource (flooredSum (c .schema) k n)) (moves c k vs) d
+    || any (λ x. cellMoves c x n) (meaning (c .schema .types) (c .end) k vs)
 moves c (combine o a b) vs d = through _||_ same (moves c a vs) d || through _||_ (secondTerm o) (moves c b vs) d
 moves c (role v r) vs d = roleMoves c r (variable vs v) d
 moves c (all t) vs d = allMoves c t d

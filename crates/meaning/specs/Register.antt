@@ -9,7 +9,7 @@ use lib.IntN.{ℤ, pos}
 use lib.Signed.{leZ}
 use Rattle.meaning.specs.Lists.{any, every, keep, first, holds, ascends, sameList, firstFault}
 use Rattle.meaning.specs.Limits.{cellCount, validId, fitsWord}
-use Rattle.meaning.specs.Schema.{ObjectType, Schema, knownType, knownRelationship, cellsOf, under, relationshipOf, forward, sourceType, targetType}
+use Rattle.meaning.specs.Schema.{ObjectType, Floor, Schema, knownType, knownRelationship, cellsOf, under, relationshipOf, forward, sourceType, targetType}
 
 -- "Object: id .., type, eight signed 32-bit cells"; ids as Req 07 has them (`Limits.maxId`)
 pub record Object : Type 0 where
@@ -86,11 +86,19 @@ isZero z = leZ z (pos 0) && leZ (pos 0) z
 unfoldable pub cellsFit : List ObjectType → Object → Bool
 cellsFit types o = eqb (length (o .cells)) cellCount && every fitsWord (o .cells) && every isZero (drop (cellsOf types (o .type)) (o .cells))
 
-unfoldable pub objectFits : List ObjectType → Object → Bool
-objectFits types o = validId (o .id) && knownType types (o .type) && cellsFit types o
+-- "A register below a floor is refusal 5" (Req 02): some floor of the type, or of one above it, is of a cell below 0
+abbrev pub negative : ℤ → Bool
+negative z = not (leZ (pos 0) z)
 
-unfoldable pub faultyObject : List ObjectType → ℕ → Option Object → Object → Bool
-faultyObject types n previous o = not (ascends objectKey previous o && objectFits types o)
+unfoldable pub belowFloor : List ObjectType → List Floor → ℕ → List ℤ → Bool
+belowFloor types floors t cells = any (λ f. under types t (f .type) && negative (getD cells (f .cell) (pos 0))) floors
+
+unfoldable pub objectFits : List ObjectType → List Floor → Object → Bool
+objectFits types floors o =
+    validId (o .id) && knownType types (o .type) && cellsFit types o && not (belowFloor types floors (o .type) (o .cells))
+
+unfoldable pub faultyObject : List ObjectType → List Floor → ℕ → Option Object → Object → Bool
+faultyObject types floors n previous o = not (ascends objectKey previous o && objectFits types floors o)
 
 -- "both objects present and under the end types"
 unfoldable pub linkFits : Schema → Register → Link → Bool
@@ -104,8 +112,8 @@ faultyLink S g n previous l = not (ascends linkKey previous l && linkFits S g l)
 
 -- The row of the first faulty object, and that of the first faulty link: "any faulty object [comes] before a link". Of two
 -- neighbours out of order the later is faulty.
-unfoldable pub objectFault : List ObjectType → Register → Option ℕ
-objectFault types g = firstFault (faultyObject types) (g .objects)
+unfoldable pub objectFault : List ObjectType → List Floor → Register → Option ℕ
+objectFault types floors g = firstFault (faultyObject types floors) (g .objects)
 
 unfoldable pub linkFault : Schema → Register → Option ℕ
 linkFault S g = firstFault (faultyLink S g) (g .links)

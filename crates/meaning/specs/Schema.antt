@@ -1,11 +1,11 @@
--- Document 01, "Schema, register, batch": types, relationships and roles; refusal 3.
+-- Document 01, "Schema, register, batch": types, floors (Req 02), relationships and roles; refusal 3.
 use Prim.Native.Nat.{ℕ, zero, suc, _/_, _%_}
 use mathlib.Core.Bool.{Bool, true, _&&_, _||_, not, cond}
-use mathlib.Core.List.{List}
+use mathlib.Core.List.{List, [], _∷_}
 use mathlib.Core.Option.{Option, none}
 use lib.Dec.{ltb, leb, eqb}
 use lib.ListN.{length, getD}
-use Rattle.meaning.specs.Lists.{holds, firstFault}
+use Rattle.meaning.specs.Lists.{any, holds, ascends, firstFault}
 use Rattle.meaning.specs.Limits.{cellCount}
 
 -- "Type: number .., a parent of lower number or none, and 0 to 8 cells". Its number is its place in the list.
@@ -18,8 +18,14 @@ pub record Relationship : Type 0 where
   pub source : ℕ
   pub target : ℕ
 
+-- Req 02: "A line `(floor t k)` .. says that cell k of t and of types under it is at least 0."
+pub record Floor : Type 0 where
+  pub type : ℕ
+  pub cell : ℕ
+
 pub record Schema : Type 0 where
   pub types : List ObjectType
+  pub floors : List Floor
   pub relationships : List Relationship
 
 unfoldable pub knownType : List ObjectType → ℕ → Bool
@@ -49,6 +55,10 @@ climbs types (suc n) t u = eqb t u || holds (λ p. climbs types n p u) (parentOf
 -- "A type is *under* itself, its parent and so on up." A parent's number is lower, so there are at most t steps from t.
 unfoldable pub under : List ObjectType → ℕ → ℕ → Bool
 under types t u = climbs types t t u
+
+-- cell k of an object of type t is at least 0: t, or a type above it, has the floor
+unfoldable pub floored : List ObjectType → List Floor → ℕ → ℕ → Bool
+floored types floors t k = any (λ f. under types t (f .type) && eqb (f .cell) k) floors
 
 -- "Role 2r goes from source to target of relationship r, role 2r + 1 back."
 abbrev pub relationshipOf : ℕ → ℕ
@@ -89,9 +99,21 @@ faultyType types n previous t = not (parentFits types n t && leb (t .cells) cell
 unfoldable pub faultyRelationship : List ObjectType → ℕ → Option Relationship → Relationship → Bool
 faultyRelationship types n previous r = not (knownType types (r .source) && knownType types (r .target))
 
--- The place of the first faulty type, and that of the first faulty relationship: "any faulty type comes before a relationship".
+-- floors "ascending", none twice
+abbrev pub floorKey : Floor → List ℕ
+floorKey f = f .type ∷ f .cell ∷ []
+
+-- "a floor out of order, twice or on an unknown cell": a type that the schema lacks has no cell
+unfoldable pub faultyFloor : List ObjectType → ℕ → Option Floor → Floor → Bool
+faultyFloor types n previous f = not (ascends floorKey previous f && ltb (f .cell) (cellsOf types (f .type)))
+
+-- The place of the first faulty type, that of the first faulty floor, "met after the types and before the relationships", and that of the
+-- first faulty relationship: "any faulty type comes before a relationship".
 unfoldable pub typeFault : List ObjectType → Option ℕ
 typeFault types = firstFault (faultyType types) types
+
+unfoldable pub floorFault : Schema → Option ℕ
+floorFault S = firstFault (faultyFloor (S .types)) (S .floors)
 
 unfoldable pub relationshipFault : Schema → Option ℕ
 relationshipFault S = firstFault (faultyRelationship (S .types)) (S .relationships)

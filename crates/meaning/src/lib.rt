@@ -1,5 +1,7 @@
-// The limits of document 01, "Schema, register, batch", and of Req 07, as `specs/Limits` has them.
+// The limits of document 01, "Schema, register, batch", and of Req 02 and 07, as `specs/Limits` has them.
 pub const MAX_TYPES: u32 = 32;
+
+pub const MAX_FLOORS: u32 = 256;
 
 pub const MAX_RELATIONSHIPS: u32 = 32;
 

@@ -1,17 +1,20 @@
 -- Signed machine numbers as integers: what fits 64 bits is read back as it is.
 use Prim.Native.Nat.{ℕ, zero, suc, _-_, _^_, _≤_, _<_}
 use mathlib.Core.Path.{_≡_, refl, sym, ap, _∙_, subst}
-use mathlib.Core.Bool.{Bool, true, false, _&&_}
+use mathlib.Core.Logic.{⊎-elim}
+use mathlib.Core.Bool.{Bool, true, false, _&&_, not}
 use native.Mathlib.Omega.{arith}
-use lib.Dec.{T, eqb, eqb→eq, eqb-refl}
-use mir.Facts.{and-yes, yes-and}
+use lib.Dec.{T, ltb, leb, eqb, eqb→eq, eqb-refl}
+use mir.Facts.{and-yes, yes-and, ltb-yes, ltb-no}
 use native.Mathlib.Nat.{not-suc-le-zero}
 use lib.IntN.{ℤ, pos, negsuc, natAbs, _-ℤ_}
 use lib.Signed.{mag, leZ, ≤ℤ-refl, leZ-yes}
 use mir.Syntax.{w64}
 use mir.Val.{SFits, ofZ, toZ}
 use mir.ValLaws.{toZ-ofZ}
-use borrow.Author.Tests.{lt-ltb, le-ltb}
+use borrow.Author.Tests.{lt-ltb, le-ltb, le-leb, lt-leb}
+use Rattle.meaning.specs.Register.{negative}
+use Rattle.meaning.proofs.Lists.{decide}
 use Rattle.meaning.proofs.Integers.{≤ℤ-antisym}
 use Rattle.rows.specs.Rows.{signed}
 
@@ -61,3 +64,11 @@ signed-low w h = rw (lt-ltb w (2 ^ 31) h)
 
 pub signed-high : (w : ℕ) → 2 ^ 31 ≤ w → signed w ≡ negsuc (2 ^ 32 - 1 - w)
 signed-high w h = rw (le-ltb w (2 ^ 31) h)
+
+-- a word stands for a number below 0 from 2^31 on
+pub negative-word : (w : ℕ) → leb (2 ^ 31) w ≡ negative (signed w)
+negative-word w =
+    ⊎-elim
+    (λ (t : T (ltb w (2 ^ 31))). rw (lt-leb (2 ^ 31) w (ltb-yes t), signed-low w (ltb-yes t), le-leb 0 w (omega arith)))
+    (λ (t : T (not (ltb w (2 ^ 31)))). rw (le-leb (2 ^ 31) w (ltb-no t), signed-high w (ltb-no t)))
+    (decide (ltb w (2 ^ 31)))

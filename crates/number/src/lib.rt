@@ -2,6 +2,7 @@
 ghost use mathlib.Core.Path.{_≡_};
 ghost use Prim.Native.Nat.{_≤_, _^_};
 ghost use lib.IntN.{natAbs, _+ℤ_, _-ℤ_};
+ghost use Rattle.meaning.specs.Register.{negative};
 ghost use Rattle.meaning.specs.Meaning.{compared};
 ghost use Rattle.rows.specs.Rows.{signed};
 ghost use Rattle.number.specs.Comparing.{comparisonOf};
@@ -15,6 +16,13 @@ pub fn from_word(w: u32) -> i64
     } else {
         (w as i64) - 4294967296
     }
+}
+
+// Whether the value of a word is below 0.
+pub fn is_negative(w: u32) -> bool
+    ensures { λ r. ⌜ r ≡ negative (signed w) ⌝ }
+{
+    2147483648 <= w
 }
 
 pub fn add(a: i64, b: i64) -> i64

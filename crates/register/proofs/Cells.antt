@@ -12,30 +12,25 @@ use lib.Signed.{mag}
 use lib.ListN.{length, drop, getD, drop-of-length-le}
 use lib.Seq.{drop-cons}
 use mir.Facts.{ltb-yes, ltb-no, yes-ltb}
-use borrow.Author.Tests.{lt-ltb, le-ltb, lt-leb, eq-eqb, ne-eqb}
+use borrow.Author.Tests.{lt-ltb, lt-leb, eq-eqb, ne-eqb}
 use Rattle.meaning.specs.Lists.{every}
 use Rattle.meaning.specs.Limits.{fitsWord, cellCount}
 use Rattle.meaning.specs.Schema.{ObjectType, cellsOf}
-use Rattle.meaning.specs.Register.{isZero, cellsFit}
+use Rattle.meaning.specs.Register.{isZero, cellsFit, negative}
 use Rattle.meaning.proofs.Lists.{decide, cond-yes}
 use Rattle.rows.specs.Rows.{wordAt, rowsFrom, readRows, signed}
 use Rattle.rows.proofs.Words.{signed-fits}
 use Rattle.tables.specs.Columns.{objectRow}
+use Rattle.number.proofs.Signed.{signed-low, signed-high}
 use Rattle.schema.proofs.Rows.{length-rows, row-used}
 use Rattle.register.specs.Tables.{cellWord}
-
-positive : (w : ℕ) → w < 2 ^ 31 → signed w ≡ pos w
-positive w h = rw (lt-ltb w (2 ^ 31) h)
-
-negative : (w : ℕ) → 2 ^ 31 ≤ w → signed w ≡ negsuc (2 ^ 32 - 1 - w)
-negative w h = rw (le-ltb w (2 ^ 31) h)
 
 -- which of the two a word is
 signs : (P : ℤ → Type 0) (w : ℕ) → (w < 2 ^ 31 → P (pos w)) → (2 ^ 31 ≤ w → P (negsuc (2 ^ 32 - 1 - w))) → P (signed w)
 signs P w f g =
     ⊎-elim
-    (λ (t : T (ltb w (2 ^ 31))). subst P (sym (positive w (ltb-yes t))) (f (ltb-yes t)))
-    (λ (t : T (not (ltb w (2 ^ 31)))). subst P (sym (negative w (ltb-no t))) (g (ltb-no t)))
+    (λ (t : T (ltb w (2 ^ 31))). subst P (sym (signed-low w (ltb-yes t))) (f (ltb-yes t)))
+    (λ (t : T (not (ltb w (2 ^ 31)))). subst P (sym (signed-high w (ltb-no t))) (g (ltb-no t)))
     (decide (ltb w (2 ^ 31)))
 
 zero-pos : (w : ℕ) → isZero (pos w) ≡ eqb w 0
@@ -96,3 +91,7 @@ module _ (objects : List ℕ) (i : ℕ) where
       step : (b : Bool) → signed (cond b (wordAt objects 10 i (2 + k)) 0) ≡ cond b (signed (wordAt objects 10 i (2 + k))) (pos 0)
       step true = refl
       step false = refl
+
+  -- it is below 0 where its word says so
+  pub cell-negative : (k : ℕ) {w : ℕ} {b : Bool} → w ≡ cellWord objects i k → b ≡ negative (signed w) → b ≡ negative (getD ((objectRow objects i) .cells) k (pos 0))
+  cell-negative k e f = f ∙ ap (λ w. negative (signed w)) e ∙ ap negative (cell-value k)

@@ -8,7 +8,7 @@ use lib.Dec.{T, eqb}
 use mir.Facts.{eqb-yes}
 use borrow.Author.Tests.{eq-eqb, ne-eqb}
 use Rattle.meaning.specs.Lists.{holds}
-use Rattle.meaning.specs.Schema.{ObjectType, under}
+use Rattle.meaning.specs.Schema.{ObjectType, Floor, under}
 use Rattle.meaning.specs.Register.{Object, Link, objectKey, linkKey, sameLink, objectAt, isUnder, hasLink, objectFits, faultyObject, objectFault}
 use Rattle.meaning.specs.Events.{linkOf}
 use Rattle.meaning.proofs.Order.{same-list-eq, rows-fit}
@@ -85,6 +85,6 @@ unfolding hasLink
 link-there os n links l = any-row (sameLink l) (linkRow links) n
 
 -- objects of which none is faulty ascend
-pub objects-ascend : (types : List ObjectType) (n : ℕ) (objects : List ℕ) (ls : List Link) → objectFault types (objectsWith n objects ls) ≡ none → ObjectsAscend n objects
+pub objects-ascend : (types : List ObjectType) (floors : List Floor) (n : ℕ) (objects : List ℕ) (ls : List Link) → objectFault types floors (objectsWith n objects ls) ≡ none → ObjectsAscend n objects
 unfolding objectFault faultyObject
-objects-ascend types n objects ls e = rows-fit objectKey (objectFits types) (readRows (objectRow objects) n) e .0
+objects-ascend types floors n objects ls e = rows-fit objectKey (objectFits types floors) (readRows (objectRow objects) n) e .0

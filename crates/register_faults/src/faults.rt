@@ -1,13 +1,15 @@
 // The rows that break refusal 5: objects and links by their order and by the limits.
 use register::columns;
+use register::floors::below_floor;
 use register::search;
 use tables::Found;
 ghost use mathlib.Core.Path.{_≡_};
 ghost use mathlib.Core.List.{List};
 ghost use lib.ListN.{drop};
 ghost use Rattle.meaning.specs.Lists.{ascends, every};
+ghost use Rattle.meaning.specs.Schema.{Floor};
 ghost use Rattle.meaning.specs.Register.{Link, objectKey, linkKey, isUnder, isZero, objectFits, faultyObject, linkFits, faultyLink, objectFault, linkFault};
-ghost use Rattle.tables.specs.Columns.{objectRow, linkRow, typesOf, schemaOf, registerOf};
+ghost use Rattle.tables.specs.Columns.{objectRow, linkRow, typesOf, floorsOf, schemaOf, registerOf};
 ghost use Rattle.tables.specs.Refusals.{foundOf};
 ghost use Rattle.schema.specs.Previous.{previousRow};
 ghost use Rattle.register.specs.Tables.{objectsWith, ObjectsAscend};
@@ -26,9 +28,17 @@ fn zero_from(objects: &[u32], row: u32, cells: u32) -> bool
     true
 }
 
-// Whether an object's row keeps the limits by itself: its id, its type, and 0 in the cells that its type lacks.
-fn object_fits(type_count: u32, types: &[u32], objects: &[u32], row: u32) -> bool
-    ensures { λ r. ⌜ r ≡ objectFits (typesOf «type_count» (now (types .entry))) (objectRow (now (objects .entry)) row) ⌝ }
+// Whether an object's row keeps the limits by itself: its id, its type, 0 in the cells that its type lacks, and its type's floors.
+fn object_fits(
+    type_count: u32,
+    types: &[u32],
+    floor_count: u32,
+    floors: &[u32],
+    objects: &[u32],
+    row: u32,
+) -> bool
+    ensures { λ r. ⌜ r ≡ objectFits (typesOf «type_count» (now (types .entry))) (floorsOf «floor_count» (now (floors .entry)))
+        (objectRow (now (objects .entry)) row) ⌝ }
 {
     let id = columns::id_of(objects, row);
     if id == 0 {
@@ -41,7 +51,11 @@ fn object_fits(type_count: u32, types: &[u32], objects: &[u32], row: u32) -> boo
     if t >= type_count {
         return false;
     }
-    zero_from(objects, row, schema::cells_of(type_count, types, t))
+    if zero_from(objects, row, schema::cells_of(type_count, types, t)) {
+        !below_floor(type_count, types, floor_count, floors, objects, row, t)
+    } else {
+        false
+    }
 }
 
 // Whether an object's row comes after the one before it.
@@ -56,25 +70,40 @@ fn object_ascends(objects: &[u32], row: u32) -> bool
 }
 
 // Whether an object's row breaks refusal 5.
-fn faulty_object(type_count: u32, types: &[u32], objects: &[u32], row: u32) -> bool
-    ensures { λ r. ⌜ r ≡ faultyObject (typesOf «type_count» (now (types .entry))) row
+fn faulty_object(
+    type_count: u32,
+    types: &[u32],
+    floor_count: u32,
+    floors: &[u32],
+    objects: &[u32],
+    row: u32,
+) -> bool
+    ensures { λ r. ⌜ r ≡ faultyObject (typesOf «type_count» (now (types .entry))) (floorsOf «floor_count» (now (floors .entry))) row
         (previousRow (objectRow (now (objects .entry))) row) (objectRow (now (objects .entry)) row) ⌝ }
 {
     if object_ascends(objects, row) {
-        !object_fits(type_count, types, objects, row)
+        !object_fits(type_count, types, floor_count, floors, objects, row)
     } else {
         true
     }
 }
 
 // The first faulty object, if there is one.
-pub fn object_fault(type_count: u32, types: &[u32], object_count: u32, objects: &[u32]) -> Found
+pub fn object_fault(
+    type_count: u32,
+    types: &[u32],
+    floor_count: u32,
+    floors: &[u32],
+    object_count: u32,
+    objects: &[u32],
+) -> Found
     ensures { λ r. ⌜ ((ls : List Link) →
-        r ≡ foundOf (objectFault (typesOf «type_count» (now (types .entry))) (objectsWith «object_count» (now (objects .entry)) ls))) ⌝ }
+        r ≡ foundOf (objectFault (typesOf «type_count» (now (types .entry))) (floorsOf «floor_count» (now (floors .entry)))
+        (objectsWith «object_count» (now (objects .entry)) ls))) ⌝ }
 {
     let mut row: u32 = 0;
     while row < object_count {
-        if faulty_object(type_count, types, objects, row) {
+        if faulty_object(type_count, types, floor_count, floors, objects, row) {
             return Found::At(row);
         }
         row += 1;
@@ -115,8 +144,8 @@ fn link_fits(
     row: u32,
 ) -> bool
     requires { ⌜ ObjectsAscend «object_count» (now objects) ⌝ }
-    ensures { λ r. ⌜ ((ls : List Link) →
-        r ≡ linkFits (schemaOf «type_count» (now (types .entry)) «relationship_count» (now (relationships .entry)))
+    ensures { λ r. ⌜ ((fs : List Floor) (ls : List Link) →
+        r ≡ linkFits (schemaOf «type_count» (now (types .entry)) fs «relationship_count» (now (relationships .entry)))
         (objectsWith «object_count» (now (objects .entry)) ls) (linkRow (now (links .entry)) row)) ⌝ }
 {
     let relationship = columns::relationship_of(links, row);
@@ -176,8 +205,8 @@ fn faulty_link(
     row: u32,
 ) -> bool
     requires { ⌜ ObjectsAscend «object_count» (now objects) ⌝ }
-    ensures { λ r. ⌜ ((ls : List Link) →
-        r ≡ faultyLink (schemaOf «type_count» (now (types .entry)) «relationship_count» (now (relationships .entry)))
+    ensures { λ r. ⌜ ((fs : List Floor) (ls : List Link) →
+        r ≡ faultyLink (schemaOf «type_count» (now (types .entry)) fs «relationship_count» (now (relationships .entry)))
         (objectsWith «object_count» (now (objects .entry)) ls) row
         (previousRow (linkRow (now (links .entry))) row) (linkRow (now (links .entry)) row)) ⌝ }
 {
@@ -211,9 +240,9 @@ pub fn link_fault(
     links: &[u32],
 ) -> Found
     requires { ⌜ ObjectsAscend «object_count» (now objects) ⌝ }
-    ensures { λ r. ⌜ r ≡ foundOf (linkFault
-        (schemaOf «type_count» (now (types .entry)) «relationship_count» (now (relationships .entry)))
-        (registerOf «object_count» (now (objects .entry)) «link_count» (now (links .entry)))) ⌝ }
+    ensures { λ r. ⌜ ((fs : List Floor) → r ≡ foundOf (linkFault
+        (schemaOf «type_count» (now (types .entry)) fs «relationship_count» (now (relationships .entry)))
+        (registerOf «object_count» (now (objects .entry)) «link_count» (now (links .entry))))) ⌝ }
 {
     let mut row: u32 = 0;
     while row < link_count {

@@ -1,4 +1,6 @@
-// Document 01's schema as lent tables: what is under what, the ends of relationships and roles, and refusal 3.
+// Document 01's schema as lent tables: what is under what, floors, the ends of relationships and roles, and refusal 3.
+pub mod floors;
+
 use tables::Found;
 ghost use mathlib.Core.Path.{_≡_};
 ghost use mathlib.Core.Bool.{cond};
@@ -7,9 +9,9 @@ ghost use mathlib.Core.Option.{Option};
 ghost use Prim.Native.Nat.{ℕ};
 ghost use lib.Dec.{ltb};
 ghost use Rattle.meaning.specs.Lists.{firstOf};
-ghost use Rattle.meaning.specs.Schema.{ObjectType, Relationship, parentOf, cellsOf, hasParent, under, sourceType, targetType, nearType, farType, faultyType, faultyRelationship, typeFault, relationshipFault};
+ghost use Rattle.meaning.specs.Schema.{ObjectType, Floor, Relationship, parentOf, cellsOf, hasParent, under, sourceType, targetType, nearType, farType, faultyType, faultyRelationship, typeFault, floorFault, relationshipFault};
 ghost use Rattle.rows.specs.Rows.{wordAt};
-ghost use Rattle.tables.specs.Columns.{typeRow, relationshipRow, typesOf, relationshipsOf, schemaOf};
+ghost use Rattle.tables.specs.Columns.{typeRow, relationshipRow, typesOf, floorsOf, relationshipsOf, schemaOf};
 ghost use Rattle.tables.specs.Refusals.{foundOf};
 ghost use Rattle.schema.specs.Founds.{firstFound};
 
@@ -163,7 +165,8 @@ fn faulty_relationship(type_count: u32, relationships: &[u32], relationship: u32
 
 // The first faulty relationship, if there is one.
 fn relationship_fault(type_count: u32, relationship_count: u32, relationships: &[u32]) -> Found
-    ensures { λ r. ⌜ ((types : List ℕ) → r ≡ foundOf (relationshipFault (schemaOf «type_count» types «relationship_count» (now (relationships .entry))))) ⌝ }
+    ensures { λ r. ⌜ ((types : List ℕ) (floors : List Floor) →
+        r ≡ foundOf (relationshipFault (schemaOf «type_count» types floors «relationship_count» (now (relationships .entry))))) ⌝ }
 {
     let mut relationship: u32 = 0;
     while relationship < relationship_count {
@@ -185,18 +188,21 @@ pub fn first_of(a: Found, b: Found) -> Found
     }
 }
 
-// Refusal 3: the first faulty type, else the first faulty relationship.
+// Refusal 3: the first faulty type, else the first faulty floor, else the first faulty relationship.
 pub fn check(
     type_count: u32,
     types: &[u32],
+    floor_count: u32,
+    floors: &[u32],
     relationship_count: u32,
     relationships: &[u32],
 ) -> Found
-    ensures { λ r. ⌜ r ≡ foundOf (firstOf
-        (typeFault (typesOf «type_count» (now (types .entry))))
-        (relationshipFault (schemaOf «type_count» (now (types .entry)) «relationship_count» (now (relationships .entry))))) ⌝ }
+    ensures { λ r. ⌜ (let S = schemaOf «type_count» (now (types .entry)) (floorsOf «floor_count» (now (floors .entry)))
+        «relationship_count» (now (relationships .entry)) in
+        r ≡ foundOf (firstOf (typeFault (S .types)) (firstOf (floorFault S) (relationshipFault S)))) ⌝ }
 {
     let t = type_fault(type_count, types);
+    let f = floors::floor_fault(type_count, types, floor_count, floors);
     let r = relationship_fault(type_count, relationship_count, relationships);
-    first_of(t, r)
+    first_of(t, first_of(f, r))
 }

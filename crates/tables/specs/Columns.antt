@@ -6,12 +6,12 @@ use mathlib.Core.Option.{none, some}
 use lib.Dec.{eqb}
 use lib.ListN.{getD}
 use Rattle.meaning.specs.Limits.{maxForms, cellCount}
-use Rattle.meaning.specs.Schema.{ObjectType, Relationship, Schema}
+use Rattle.meaning.specs.Schema.{ObjectType, Floor, Relationship, Schema}
 use Rattle.meaning.specs.Register.{Object, Link, Register}
 use Rattle.meaning.specs.Forms.{Rule, Book}
 use Rattle.meaning.specs.Events.{Event, insert, delete, set, join, part, special, general, linkOf}
 use Rattle.rows.specs.Rows.{wordAt, readRows, signed}
-use Rattle.tables.specs.Layouts.{Sheet, typeTable, relationshipTable, ruleTable, objectTable, linkTable, eventTable}
+use Rattle.tables.specs.Layouts.{Sheet, typeTable, floorTable, relationshipTable, ruleTable, objectTable, linkTable, eventTable}
 use Rattle.tables.specs.Bodies.{bodyRow, readBody}
 use Rattle.tables.specs.declared.Counts.{Counts}
 
@@ -26,6 +26,10 @@ typeRow t i =
       parent = cond (eqb (wordAt t (typeTable .width) i 0) noParent) none (some (wordAt t (typeTable .width) i 0));
       cells = wordAt t (typeTable .width) i 1;
     }
+
+-- floors: type, cell
+unfoldable pub floorRow : List ℕ → ℕ → Floor
+floorRow t i = record { type = wordAt t (floorTable .width) i 0; cell = wordAt t (floorTable .width) i 1 }
 
 -- relationships: source type, target type
 unfoldable pub relationshipRow : List ℕ → ℕ → Relationship
@@ -76,16 +80,20 @@ eventRow t i =
     let width = eventTable .width in
     eventOf (wordAt t width i 0) (wordAt t width i 1) (wordAt t width i 2) (wordAt t width i 3)
 
--- The types, the relationships, the schema, the rules, the register and the batch of tables with so many used rows.
+-- The types, the floors, the relationships, the schema, the rules, the register and the batch of tables with so many used rows.
 abbrev pub typesOf : ℕ → List ℕ → List ObjectType
 typesOf typeCount types = readRows (typeRow types) typeCount
+
+abbrev pub floorsOf : ℕ → List ℕ → List Floor
+floorsOf floorCount floors = readRows (floorRow floors) floorCount
 
 abbrev pub relationshipsOf : ℕ → List ℕ → List Relationship
 relationshipsOf relationshipCount relationships = readRows (relationshipRow relationships) relationshipCount
 
-abbrev pub schemaOf : ℕ → List ℕ → ℕ → List ℕ → Schema
-schemaOf typeCount types relationshipCount relationships =
-    record { types = typesOf typeCount types; relationships = relationshipsOf relationshipCount relationships }
+-- what asks nothing of the floors is said of any
+abbrev pub schemaOf : ℕ → List ℕ → List Floor → ℕ → List ℕ → Schema
+schemaOf typeCount types floors relationshipCount relationships =
+    record { types = typesOf typeCount types; floors = floors; relationships = relationshipsOf relationshipCount relationships }
 
 abbrev pub rulesOf : ℕ → List ℕ → List ℕ → List Rule
 rulesOf ruleCount rules bodies = readRows (ruleRow rules bodies) ruleCount
@@ -101,7 +109,7 @@ eventsOf eventCount events = readRows (eventRow events) eventCount
 abbrev pub bookOf : Counts → Sheet → Book
 bookOf n s =
     record {
-      schema = schemaOf (n .types) (s .types) (n .relationships) (s .relationships);
+      schema = schemaOf (n .types) (s .types) (floorsOf (n .floors) (s .floors)) (n .relationships) (s .relationships);
       rules = rulesOf (n .rules) (s .rules) (s .bodies);
     }
 

@@ -4,13 +4,14 @@ use mathlib.Core.List.{List, [], _∷_, _++_}
 use lib.Dec.{eqb}
 use lib.ListN.{getD}
 use Rattle.meaning.specs.Lists.{keep}
-use Rattle.meaning.specs.Limits.{maxTypes, maxRelationships, maxRules, maxForms, maxObjects, maxLinks, maxEvents}
+use Rattle.meaning.specs.Limits.{maxTypes, maxFloors, maxRelationships, maxRules, maxForms, maxObjects, maxLinks, maxEvents}
 use Rattle.rows.specs.Rows.{readRows, rowsLent}
 use Rattle.tables.specs.declared.Counts.{Counts}
 
 -- the words of each lent table
 pub record Sheet : Type 0 where
   pub types : List ℕ
+  pub floors : List ℕ
   pub relationships : List ℕ
   pub rules : List ℕ
   pub bodies : List ℕ
@@ -18,10 +19,11 @@ pub record Sheet : Type 0 where
   pub links : List ℕ
   pub events : List ℕ
 
-abbrev pub sheetOf : List ℕ → List ℕ → List ℕ → List ℕ → List ℕ → List ℕ → List ℕ → Sheet
-sheetOf types relationships rules bodies objects links events =
+abbrev pub sheetOf : List ℕ → List ℕ → List ℕ → List ℕ → List ℕ → List ℕ → List ℕ → List ℕ → Sheet
+sheetOf types floors relationships rules bodies objects links events =
     record {
       types = types;
+      floors = floors;
       relationships = relationships;
       rules = rules;
       bodies = bodies;
@@ -43,10 +45,13 @@ pub record Layout : Type 0 where
 abbrev pub typeTable : Layout
 typeTable = record { section = 0; width = 2; each = 1; limit = maxTypes; words = λ s. s .types; used = λ n. n .types }
 
+abbrev pub floorTable : Layout
+floorTable = record { section = 1; width = 2; each = 1; limit = maxFloors; words = λ s. s .floors; used = λ n. n .floors }
+
 abbrev pub relationshipTable : Layout
 relationshipTable =
     record {
-      section = 1;
+      section = 2;
       width = 2;
       each = 1;
       limit = maxRelationships;
@@ -55,13 +60,13 @@ relationshipTable =
     }
 
 abbrev pub ruleTable : Layout
-ruleTable = record { section = 2; width = 2; each = 1; limit = maxRules; words = λ s. s .rules; used = λ n. n .rules }
+ruleTable = record { section = 3; width = 2; each = 1; limit = maxRules; words = λ s. s .rules; used = λ n. n .rules }
 
 -- "a body of at most 64 forms": each rule has so many rows
 abbrev pub bodyTable : Layout
 bodyTable =
     record {
-      section = 2;
+      section = 3;
       width = 4;
       each = maxForms;
       limit = maxRules * maxForms;
@@ -70,13 +75,13 @@ bodyTable =
     }
 
 abbrev pub objectTable : Layout
-objectTable = record { section = 3; width = 10; each = 1; limit = maxObjects; words = λ s. s .objects; used = λ n. n .objects }
+objectTable = record { section = 4; width = 10; each = 1; limit = maxObjects; words = λ s. s .objects; used = λ n. n .objects }
 
 abbrev pub linkTable : Layout
-linkTable = record { section = 4; width = 3; each = 1; limit = maxLinks; words = λ s. s .links; used = λ n. n .links }
+linkTable = record { section = 5; width = 3; each = 1; limit = maxLinks; words = λ s. s .links; used = λ n. n .links }
 
 abbrev pub eventTable : Layout
-eventTable = record { section = 5; width = 4; each = 1; limit = maxEvents; words = λ s. s .events; used = λ n. n .events }
+eventTable = record { section = 6; width = 4; each = 1; limit = maxEvents; words = λ s. s .events; used = λ n. n .events }
 
 -- how many words of the table of bodies are a rule's
 abbrev pub bodyWords : ℕ
@@ -84,7 +89,7 @@ bodyWords = bodyTable .width * bodyTable .each
 
 -- the tables of a book and a register, and those of a batch with them
 unfoldable pub bookTables : List Layout
-bookTables = typeTable ∷ relationshipTable ∷ ruleTable ∷ bodyTable ∷ objectTable ∷ linkTable ∷ []
+bookTables = typeTable ∷ floorTable ∷ relationshipTable ∷ ruleTable ∷ bodyTable ∷ objectTable ∷ linkTable ∷ []
 
 unfoldable pub layouts : List Layout
 unfolding bookTables
@@ -92,7 +97,7 @@ layouts = bookTables ++ eventTable ∷ []
 
 -- the sections of the text
 abbrev pub sectionCount : ℕ
-sectionCount = 6
+sectionCount = 7
 
 -- A number for each section, by a number for each table: the least of those that its lines fill.
 abbrev least : (Layout → ℕ) → List Layout → ℕ

@@ -3,6 +3,8 @@
 // The words of a row of each table (specs/Layouts).
 pub const TYPE_WIDTH: u32 = 2;
 
+pub const FLOOR_WIDTH: u32 = 2;
+
 pub const RELATIONSHIP_WIDTH: u32 = 2;
 
 pub const RULE_WIDTH: u32 = 2;
@@ -24,6 +26,7 @@ pub const LOSS_WIDTH: u32 = 2;
 // How many rows of each lent table are used.
 pub struct Counts {
     pub types: u32,
+    pub floors: u32,
     pub relationships: u32,
     pub rules: u32,
     pub objects: u32,

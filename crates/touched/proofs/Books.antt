@@ -21,7 +21,7 @@ use Rattle.touched.specs.Shared.{sharedBelow, Occurring}
 use Rattle.touched.specs.Books.{lentBook, BookGiven}
 use Rattle.touched.proofs.Marks.{shared-touched}
 
-pub book-given : (n : Counts) (s : Sheet) → Given n s → BookGiven n (s .types) (s .relationships) (s .rules) (s .bodies)
+pub book-given : (n : Counts) (s : Sheet) → Given n s → BookGiven n (s .types) (s .floors) (s .relationships) (s .rules) (s .bodies)
 unfolding refusal
 book-given n s g =
     record {
@@ -32,9 +32,9 @@ book-given n s g =
       whole = g .whole;
     }
 
-module _ (n : Counts) (types relationships rules bodies : List ℕ) (given : BookGiven n types relationships rules bodies) (rule : ℕ) (there : rule < n .rules) where
+module _ (n : Counts) (types floors relationships rules bodies : List ℕ) (given : BookGiven n types floors relationships rules bodies) (rule : ℕ) (there : rule < n .rules) where
   abbrev k : Book
-  k = lentBook n types relationships rules bodies
+  k = lentBook n types floors relationships rules bodies
 
   abbrev r : Rule
   r = ruleRow rules bodies rule

@@ -7,7 +7,7 @@ ghost use Rattle.meaning.specs.Lists.{keep};
 ghost use Rattle.meaning.specs.Reach.{Change};
 ghost use Rattle.meaning.specs.EventList.{touched};
 ghost use Rattle.rows.specs.Rows.{readRows};
-ghost use Rattle.tables.specs.Columns.{ruleRow, schemaOf};
+ghost use Rattle.tables.specs.Columns.{ruleRow, floorsOf, schemaOf};
 ghost use Rattle.type_marks.specs.Marks.{places};
 ghost use Rattle.bits.specs.Bits.{bitsIn};
 ghost use Rattle.touched.specs.Shared.{sharedBelow, Occurring};
@@ -35,14 +35,16 @@ fn shared(a: &[bool; 1792], b: &[bool; 1792]) -> bool
 fn rule_touched(
     n: Counts,
     types: &[u32],
+    floors: &[u32],
     relationships: &[u32],
     rules: &[u32],
     bodies: &[u32],
     rule: u32,
     occurring: &[bool; 1792],
 ) -> bool
-    requires { ⌜ BookGiven n (now types) (now relationships) (now rules) (now bodies) × (rule < n .rules) ⌝ }
-    ensures { λ r. ⌜ ((c : Change) → c .schema ≡ schemaOf (n .types) (now (types .entry)) (n .relationships) (now (relationships .entry))
+    requires { ⌜ BookGiven n (now types) (now floors) (now relationships) (now rules) (now bodies) × (rule < n .rules) ⌝ }
+    ensures { λ r. ⌜ ((c : Change) → c .schema ≡ schemaOf (n .types) (now (types .entry)) (floorsOf (n .floors) (now (floors .entry)))
+        (n .relationships) (now (relationships .entry))
         → Occurring c (now (occurring .entry))
         → r ≡ touched c (ruleRow (now (rules .entry)) (now (bodies .entry)) rule)) ⌝ }
 {
@@ -50,6 +52,8 @@ fn rule_touched(
     rule_marks(
         n.types,
         types,
+        n.floors,
+        floors,
         n.relationships,
         relationships,
         rules,
@@ -64,20 +68,31 @@ fn rule_touched(
 pub fn touched(
     n: Counts,
     types: &[u32],
+    floors: &[u32],
     relationships: &[u32],
     rules: &[u32],
     bodies: &[u32],
     occurring: &[bool; 1792],
 ) -> u32
-    requires { ⌜ BookGiven n (now types) (now relationships) (now rules) (now bodies) ⌝ }
-    ensures { λ r. ⌜ ((c : Change) → c .schema ≡ schemaOf (n .types) (now (types .entry)) (n .relationships) (now (relationships .entry))
+    requires { ⌜ BookGiven n (now types) (now floors) (now relationships) (now rules) (now bodies) ⌝ }
+    ensures { λ r. ⌜ ((c : Change) → c .schema ≡ schemaOf (n .types) (now (types .entry)) (floorsOf (n .floors) (now (floors .entry)))
+        (n .relationships) (now (relationships .entry))
         → Occurring c (now (occurring .entry))
         → bitsIn r ≡ keep (λ i. touched c (ruleRow (now (rules .entry)) (now (bodies .entry)) i)) (readRows (λ i. i) (n .rules))) ⌝ }
 {
     let mut word: u32 = 0;
     let mut rule: u32 = 0;
     while rule < n.rules {
-        if rule_touched(n, types, relationships, rules, bodies, rule, occurring) {
+        if rule_touched(
+            n,
+            types,
+            floors,
+            relationships,
+            rules,
+            bodies,
+            rule,
+            occurring,
+        ) {
             word = bits::with(word, rule);
         }
         rule += 1;

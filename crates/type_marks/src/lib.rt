@@ -9,7 +9,7 @@ ghost use mathlib.Core.List.{List, [], _∷_};
 ghost use Prim.Native.Nat.{_≤_, _<_};
 ghost use lib.ListN.{length, take};
 ghost use Rattle.meaning.specs.Lists.{sameList};
-ghost use Rattle.meaning.specs.Schema.{ObjectType, Relationship};
+ghost use Rattle.meaning.specs.Schema.{ObjectType, Floor, Relationship};
 ghost use Rattle.meaning.specs.Forms.{variable};
 ghost use Rattle.meaning.specs.EventList.{setOf, roleLists};
 ghost use Rattle.tables.specs.Columns.{typesOf, relationshipsOf, schemaOf};
@@ -92,8 +92,8 @@ pub fn put_members(
     marks: &mut [bool],
 )
     requires { ⌜ length (now marks) ≡ places ⌝ }
-    ensures { λ _. ⌜ ((rs : List Relationship) → Added (now (marks .entry)) (now (marks .exit))
-        (markedBy set (typeLists (record { types = typesOf «type_count» (now (types .entry)); relationships = rs }) whole t))) ⌝ }
+    ensures { λ _. ⌜ ((fs : List Floor) (rs : List Relationship) → Added (now (marks .entry)) (now (marks .exit))
+        (markedBy set (typeLists (record { types = typesOf «type_count» (now (types .entry)); floors = fs; relationships = rs }) whole t))) ⌝ }
 {
     let parent = schema::has_parent(type_count, types, t);
     put_type(
@@ -119,8 +119,8 @@ pub fn put_members(
 // Marks what moves a role. A link is lost by a part, or with the object to which it leads.
 fn put_role(relationship_count: u32, relationships: &[u32], role: u32, set: u32, marks: &mut [bool])
     requires { ⌜ length (now marks) ≡ places ⌝ }
-    ensures { λ _. ⌜ ((ts : List ObjectType) → Added (now (marks .entry)) (now (marks .exit))
-        (markedBy set (roleLists (record { types = ts; relationships = relationshipsOf «relationship_count» (now (relationships .entry)) }) role))) ⌝ }
+    ensures { λ _. ⌜ ((ts : List ObjectType) (fs : List Floor) → Added (now (marks .entry)) (now (marks .exit))
+        (markedBy set (roleLists (record { types = ts; floors = fs; relationships = relationshipsOf «relationship_count» (now (relationships .entry)) }) role))) ⌝ }
 {
     let gained = directions::contains(set, UP);
     let lost = directions::contains(set, DOWN);
@@ -163,9 +163,9 @@ pub fn put_leaf(
     marks: &mut [bool],
 )
     requires { ⌜ (length (now marks) ≡ places) × (length (now env) ≡ 64) × (at .depth ≤ 64) × (set < 4) ⌝ }
-    ensures { λ _. ⌜ Added (now (marks .entry)) (now (marks .exit)) (markedBy set (leafLists
-        (schemaOf (at .types) (now (types .entry)) (at .relationships) (now (relationships .entry)))
-        (take (at .depth) (now (env .entry))) code x y)) ⌝ }
+    ensures { λ _. ⌜ ((fs : List Floor) → Added (now (marks .entry)) (now (marks .exit)) (markedBy set (leafLists
+        (schemaOf (at .types) (now (types .entry)) fs (at .relationships) (now (relationships .entry)))
+        (take (at .depth) (now (env .entry))) code x y))) ⌝ }
 {
     if code == KIND {
         put_members(at.types, types, false, y, set, marks);

@@ -32,7 +32,7 @@ use Rattle.body_rows.proofs.Marks.{result-sort}
 
 module _ (typeCount : ℕ) (types : List ℕ) (relationshipCount : ℕ) (relationships : List ℕ) where
   abbrev pub lent : Schema
-  lent = schemaOf typeCount types relationshipCount relationships
+  lent = schemaOf typeCount types [] relationshipCount relationships
 
   module _ (depth : ℕ) (env : List ℕ) (long : depth ≤ length env) (code x y : ℕ) where
     abbrev pub leafWords : Bool

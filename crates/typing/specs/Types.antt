@@ -4,7 +4,7 @@ use mathlib.Core.Bool.{Bool, true, false, _&&_, cond}
 use mathlib.Core.List.{List}
 use lib.Dec.{ltb, leb, eqb}
 use lib.ListN.{length}
-use Rattle.meaning.specs.Schema.{Relationship, Schema, knownType, knownRole, cellsOf, under, nearType}
+use Rattle.meaning.specs.Schema.{Relationship, Schema, knownType, knownRole, cellsOf, under, floored, nearType}
 use Rattle.meaning.specs.Forms.{variable, memberType, wellTyped}
 use Rattle.tables.specs.Bodies.{Part, part, asCollection}
 
@@ -18,6 +18,10 @@ memberOf relationships p = memberType relationships (asCollection p)
 -- a sum names a cell of its members; what is no sum names none
 abbrev pub summed : Schema → ℕ → ℕ → Part → Bool
 summed S code x p = cond (eqb code 17) (ltb x (cellsOf (S .types) (memberOf (S .relationships) p))) true
+
+-- a sum is over a floored cell; what is no sum is over none
+abbrev pub flooredAt : Schema → ℕ → ℕ → Part → Bool
+flooredAt S code x p = eqb code 17 && floored (S .types) (S .floors) (memberOf (S .relationships) p) x
 
 -- a row without parts, by its code and its first two fields: num, all, and then kind, cell and role, which name a variable
 unfoldable pub typedLeaf : Schema → List ℕ → ℕ → ℕ → ℕ → Bool

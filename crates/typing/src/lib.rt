@@ -1,4 +1,4 @@
-// Whether the forms of a body are well typed.
+// Whether the forms of a body are well typed. That asks nothing of the floors, so it is said of the schema without them.
 use body_rows::body::COLLECTION;
 use body_rows::body::FIRST;
 use body_rows::body::NONE;
@@ -9,11 +9,12 @@ ghost use mathlib.Core.Path.{_≡_};
 ghost use Prim.Native.Nat.{_+_, _≤_};
 ghost use lib.Dec.{T};
 ghost use lib.ListN.{length, take};
+ghost use mathlib.Core.List.{[]};
 ghost use Rattle.meaning.specs.Forms.{collection};
 ghost use Rattle.tables.specs.Bodies.{reads, ending};
-ghost use Rattle.tables.specs.Columns.{relationshipsOf, schemaOf};
+ghost use Rattle.tables.specs.Columns.{floorsOf, relationshipsOf, schemaOf};
 ghost use Rattle.body_rows.specs.Marks.{bodyOf, Starts};
-ghost use Rattle.typing.specs.Types.{typedPart, memberOf, summed, typedLeaf};
+ghost use Rattle.typing.specs.Types.{typedPart, memberOf, summed, flooredAt, typedLeaf};
 
 // The codes of operators.
 const KIND: u32 = 13;
@@ -28,10 +29,11 @@ const ALL: u32 = 21;
 
 const SELECT: u32 = 22;
 
-// A form of a rule's body: it ends before row `end` of the rule, and its variables are the first `depth`. Besides, how many types and
-// relationships are used.
+// A form of a rule's body: it ends before row `end` of the rule, and its variables are the first `depth`. Besides, how many types, floors
+// and relationships are used.
 pub struct Place {
     pub types: u32,
+    pub floors: u32,
     pub relationships: u32,
     pub rule: u32,
     pub end: u32,
@@ -69,7 +71,7 @@ fn leaf(
 ) -> bool
     requires { ⌜ (length (now env) ≡ 64) × (at .depth ≤ 64) ⌝ }
     ensures { λ r. ⌜ r ≡ typedLeaf
-        (schemaOf (at .types) (now (types .entry)) (at .relationships) (now (relationships .entry)))
+        (schemaOf (at .types) (now (types .entry)) [] (at .relationships) (now (relationships .entry)))
         (take (at .depth) (now (env .entry))) code x y ⌝ }
 {
     if code == NUM {
@@ -108,7 +110,7 @@ fn summable(
 ) -> bool
     requires { ⌜ (Starts (bodyOf (now bodies) (at .rule)) (now starts) (at .end)) × (code ≡ 17 → T (reads collection (ending (bodyOf (now bodies) (at .rule)) (at .end)))) ⌝ }
     ensures { λ r. ⌜ r ≡ summed
-        (schemaOf (at .types) (now (types .entry)) (at .relationships) (now (relationships .entry)))
+        (schemaOf (at .types) (now (types .entry)) [] (at .relationships) (now (relationships .entry)))
         code x ((ending (bodyOf (now (bodies .entry)) (at .rule)) (at .end)) .form) ⌝ }
 {
     if code != SUM {
@@ -116,6 +118,29 @@ fn summable(
     }
     let member = member_type(relationships, bodies, starts, at);
     x < schema::cells_of(at.types, types, member)
+}
+
+// Whether a row is a sum over a collection's floored cell; what is no sum is none.
+pub fn floored_sum(
+    types: &[u32],
+    floors: &[u32],
+    relationships: &[u32],
+    bodies: &[u32],
+    starts: &[u32; 65],
+    at: Place,
+    code: u32,
+    x: u32,
+) -> bool
+    requires { ⌜ (Starts (bodyOf (now bodies) (at .rule)) (now starts) (at .end)) × (code ≡ 17 → T (reads collection (ending (bodyOf (now bodies) (at .rule)) (at .end)))) ⌝ }
+    ensures { λ r. ⌜ r ≡ flooredAt
+        (schemaOf (at .types) (now (types .entry)) (floorsOf (at .floors) (now (floors .entry))) (at .relationships) (now (relationships .entry)))
+        code x ((ending (bodyOf (now (bodies .entry)) (at .rule)) (at .end)) .form) ⌝ }
+{
+    if code != SUM {
+        return false;
+    }
+    let member = member_type(relationships, bodies, starts, at);
+    schema::floors::floored(at.types, types, at.floors, floors, member, x)
 }
 
 // Whether a form is well typed, by the types of its variables. The types past theirs are room for those of the variables inside it.
@@ -131,7 +156,7 @@ pub fn typed(
         × T ((ending (bodyOf (now bodies) (at .rule)) (at .end)) .sound)
         × (length (now env) ≡ 64) × (at .depth + at .end ≤ 65) ⌝ }
     ensures { λ r. ⌜ (r ≡ typedPart
-        (schemaOf (at .types) (now (types .entry)) (at .relationships) (now (relationships .entry)))
+        (schemaOf (at .types) (now (types .entry)) [] (at .relationships) (now (relationships .entry)))
         (take (at .depth) (now (env .entry))) ((ending (bodyOf (now (bodies .entry)) (at .rule)) (at .end)) .form))
         × (length (now (env .exit)) ≡ 64) × (take (at .depth) (now (env .exit)) ≡ take (at .depth) (now (env .entry))) ⌝ }
 {

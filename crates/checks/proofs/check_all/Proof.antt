@@ -11,7 +11,7 @@ use Rattle.checks.proofs.check_all.Tie as tie
 abbrev sheet : tie.Start → Sheet
 sheet s =
     let a = s .args in
-    sheetOf (a .types .now) (a .relationships .now) (a .rules .now) (a .bodies .now) (a .objects .now) (a .links .now) (a .events .now)
+    sheetOf (a .types .now) (a .floors .now) (a .relationships .now) (a .rules .now) (a .bodies .now) (a .objects .now) (a .links .now) (a .events .now)
 
 cast-too-many : tie.Need-cast-too-many
 cast-too-many c = search needs
@@ -23,7 +23,7 @@ returns : tie.Need-returns
 returns c =
     let at-many = c .before in
     let known = at-many .before .before .before .before in
-    let start = known .before .before .before .before .before in
+    let start = known .before .before .before .before .before .before in
     sym (events-refused (start .args .n) (sheet start) (start .args .scratch-short) (sym (at-many .too-many .ensures) ∙ c .if1 .taken))
 
 not-whole-requires : tie.Need-not-whole-requires
@@ -40,12 +40,12 @@ returns-2 c =
     let at-few = c .before .before .before in
     let at-many = at-few .before in
     let known = at-many .before .before .before .before in
-    let start = known .before .before .before .before .before in
+    let start = known .before .before .before .before .before .before in
     let a = start .args in
     let short = c .before .or .ensures ∙ ap (λ b. b || a .scratch-short) (c .before .before .not-whole .ensures) in
     c .check .ensures
     ∙ ap verdictOf
-    (without-events (a .n) (a .types .now) (a .relationships .now) (a .rules .now) (a .bodies .now) (a .objects .now) (a .links .now) (a .events .now) _
+    (without-events (a .n) (a .types .now) (a .floors .now) (a .relationships .now) (a .rules .now) (a .bodies .now) (a .objects .now) (a .links .now) (a .events .now) _
     ∙ ap (refusalOf bookTables (a .n) (sheet start)) short
     ∙ others-decide (a .n) (sheet start) (a .scratch-short) (sym (at-many .too-many .ensures) ∙ at-few .if1 .left))
 

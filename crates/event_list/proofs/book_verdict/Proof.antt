@@ -14,8 +14,8 @@ check-requires c κs = search needs
 
 returns : tie.Need-returns
 returns c =
-    let a = c .before .before .before .before .before .before .args in
-    c .check .ensures ∙ ap verdictOf (book-alone (a .n) (a .types .now) (a .relationships .now) (a .rules .now) (a .bodies .now))
+    let a = c .before .before .before .before .before .before .before .args in
+    c .check .ensures ∙ ap verdictOf (book-alone (a .n) (a .types .now) (a .floors .now) (a .relationships .now) (a .rules .now) (a .bodies .now))
 
 pub book-verdict-spec : {M : Type 1} → statement M
 book-verdict-spec = tie.close (tie.spec slice-aggregate-none check-requires returns)

@@ -12,7 +12,7 @@ use Rattle.event_list.proofs.list.Tie as tie
 -- ---- places of the code
 
 abbrev start : tie.After-verdict → tie.Start
-start c = c .before .before .before .before .before .before
+start c = c .before .before .before .before .before .before .before
 
 abbrev told : tie.After-rule-marks → tie.After-enum-told
 told c = c .before .before
@@ -24,7 +24,7 @@ counted c = c .before .before .before
 
 -- the marks after a rule's are added
 abbrev marks : tie.After-rule-marks → List Bool
-marks c = c .rule-marks .last .1 .1 .1 .1 .1 .1 .1 .0
+marks c = c .rule-marks .last .1 .1 .1 .1 .1 .1 .1 .1 .1 .0
 
 -- ---- the needs, in the order of the code
 
@@ -45,7 +45,7 @@ rule-marks-requires c κs =
     let at-told = c .before in
     let at-verdict = at-told .before .before in
     let a = start at-verdict .args in
-    (body-whole (a .n) (a .types .now) (a .relationships .now) (a .rules .now) (a .bodies .now) (a .rule) (sym (at-told .enum-told .given .1) ∙ at-verdict .verdict .ensures), refl)
+    (body-whole (a .n) (a .types .now) (a .floors .now) (a .relationships .now) (a .rules .now) (a .bodies .now) (a .rule) (sym (at-told .enum-told .given .1) ∙ at-verdict .verdict .ensures), refl)
 
 count-requires : tie.Need-count-requires
 count-requires c κs = search needs
@@ -62,7 +62,7 @@ returns c =
     let at-told = told at-marks in
     let at-verdict = at-told .before .before in
     let a = start at-verdict .args in
-    list-short (a .n) (a .types .now) (a .relationships .now) (a .rules .now) (a .bodies .now) (a .rule)
+    list-short (a .n) (a .types .now) (a .floors .now) (a .relationships .now) (a .rules .now) (a .bodies .now) (a .rule)
     (sym (at-told .enum-told .given .1) ∙ at-verdict .verdict .ensures) (marks at-marks) (at-marks .rule-marks .ensures) (a .list .now) (omega arith)
 
 write-requires : tie.Need-write-requires
@@ -73,7 +73,7 @@ returns-2 c =
     let number = c .before in
     let at-verdict = number .before .before in
     let a = start at-verdict .args in
-    list-refused (a .n) (a .types .now) (a .relationships .now) (a .rules .now) (a .bodies .now) (a .rule)
+    list-refused (a .n) (a .types .now) (a .floors .now) (a .relationships .now) (a .rules .now) (a .bodies .now) (a .rule)
     (sym (number .number .given .1) ∙ at-verdict .verdict .ensures) (a .list .now)
 
 same-length : tie.Need-same-length
@@ -87,7 +87,7 @@ returns-3 c =
     let at-told = told at-marks in
     let at-verdict = at-told .before .before in
     let a = start at-verdict .args in
-    let whole = list-whole (a .n) (a .types .now) (a .relationships .now) (a .rules .now) (a .bodies .now) (a .rule)
+    let whole = list-whole (a .n) (a .types .now) (a .floors .now) (a .relationships .now) (a .rules .now) (a .bodies .now) (a .rule)
     (sym (at-told .enum-told .given .1) ∙ at-verdict .verdict .ensures) (marks at-marks) (at-marks .rule-marks .ensures) (a .list .now) (omega arith) in
     (ap Types (at-count .count .ensures) ∙ whole .0, at-write .write .ensures ∙ whole .1)
 

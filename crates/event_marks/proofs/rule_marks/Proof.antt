@@ -7,10 +7,9 @@ use lib.Dec.{T}
 use borrow.Author.Needs.{needs}
 use Rattle.meaning.specs.Schema.{Schema}
 use Rattle.tables.specs.Bodies.{BodyRow, wholeBody, readBody, ending}
-use Rattle.tables.specs.Columns.{ruleRow}
+use Rattle.tables.specs.Columns.{ruleRow, floorsOf, schemaOf}
 use Rattle.tables.proofs.Forms.{WholeBody, whole-body}
 use Rattle.body_rows.specs.Marks.{bodyOf}
-use Rattle.typing.proofs.Types.{lent}
 use Rattle.type_marks.proofs.Marks.{added-as, added-then}
 use Rattle.event_marks.proofs.Rules.{rule-marked}
 use Rattle.event_marks.proofs.rule_marks.Statement.{statement}
@@ -19,7 +18,7 @@ use Rattle.event_marks.proofs.rule_marks.Tie as tie
 -- ---- places of the code
 
 abbrev size-start : tie.After-word2 → tie.Start
-size-start c = c .before .before .before .before .before .before .before
+size-start c = c .before .before .before .before .before .before .before .before
 
 abbrev form-scan : tie.After-mark-form → tie.After-scan
 form-scan c = c .before .before .before .before .before
@@ -33,7 +32,8 @@ abbrev rows : tie.Start → ℕ → BodyRow
 rows s = bodyOf (s .args .bodies .now) (s .args .rule)
 
 abbrev schema : tie.Start → Schema
-schema s = lent (s .args .type-count) (s .args .types .now) (s .args .relationship-count) (s .args .relationships .now)
+schema s =
+    schemaOf (s .args .type-count) (s .args .types .now) (floorsOf (s .args .floor-count) (s .args .floors .now)) (s .args .relationship-count) (s .args .relationships .now)
 
 whole : (c : tie.After-word2) → T (wholeBody (rows (size-start c)) (c .word2 .result))
 whole c = let s = size-start c in subst (λ n. T (wholeBody (rows s) n)) (sym (c .word2 .ensures)) (s .pre .0)
@@ -85,7 +85,7 @@ returns c =
     let form = quiet-form still in
     let size = form-scan form .before in
     let s = size-start size in
-    added-as (added-then (form .mark-form .ensures) (listed .put-members .ensures (schema s .relationships)))
+    added-as (added-then (form .mark-form .ensures) (listed .put-members .ensures (schema s .floors) (schema s .relationships)))
     (λ place h.
     rule-marked (schema s) (s .args .rules .now) (s .args .bodies .now) (s .args .rule) (size .before .word .result) (size .word2 .result) (still .quiet .result) (whole size) (rule-is size) (still .quiet .ensures) place)
 

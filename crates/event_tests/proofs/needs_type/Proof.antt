@@ -20,6 +20,7 @@ returns : tie.Need-returns
 unfolding needsType
 returns c =
     let typed = c .before .before in
+    λ fs.
     simp (
       ← typed .before .before .relationship-of .ensures,
       ← typed .before .source-of .ensures,
@@ -42,6 +43,7 @@ unfolding needsType
 returns-2 c =
     let tested = c .before .before .before in
     let typed = tested .before .before in
+    λ fs.
     simp (
       ← typed .before .before .relationship-of .ensures,
       ← typed .before .source-of .ensures,

@@ -1,24 +1,24 @@
 -- `event_tests::type_needed` meets its contract. The invariant: no link before the row needs the object out of the type. The measure is what is left of them.
 use Prim.Native.Nat.{_-_}
 use mathlib.Core.Path.{sym, _∙_}
+use mathlib.Core.List.{List}
 use native.Mathlib.Omega.{arith}
+use Rattle.meaning.specs.Schema.{Floor}
 use Rattle.meaning.specs.Events.{needsType, typeNeeded}
 use Rattle.tables.specs.Columns.{schemaOf, linkRow}
-use Rattle.schema.proofs.Scan.{Passed, passed-none, passed-more}
-use Rattle.register.proofs.Hits.{alone}
-use Rattle.event_tests.proofs.Tests.{some-row, no-row}
+use Rattle.schema.proofs.Scan.{Missed, missed-none, missed-more, missed-hit, missed-all}
 use Rattle.event_tests.proofs.type_needed.Statement.{statement}
 use Rattle.event_tests.proofs.type_needed.Tie as tie
 
 abbrev Inv-loop : tie.InvT-loop
 Inv-loop type-count types relationship-count relationships count links id t row₀ row =
-    Passed (alone (needsType (schemaOf type-count types relationship-count relationships) id t)) (linkRow links) count row
+    (fs : List Floor) → Missed (needsType (schemaOf type-count types fs relationship-count relationships) id t) (linkRow links) count row
 
 abbrev μ-loop : tie.MeasureT-loop
 μ-loop type-count types relationship-count relationships count links id t row₀ row = count - row
 
 loop-holds : tie.Need-loop-holds Inv-loop μ-loop
-loop-holds c = passed-none _ _ _
+loop-holds c = λ fs. missed-none _ _ _
 
 needs-type-requires : tie.Need-needs-type-requires Inv-loop μ-loop
 needs-type-requires c κs = tt
@@ -27,7 +27,7 @@ returns : tie.Need-returns Inv-loop μ-loop
 unfolding typeNeeded
 returns c =
     let turn = c .before .before in
-    λ os. sym (some-row _ _ _ (turn .before .loop .inv) (turn .loop-test .taken) (sym (c .before .needs-type .ensures) ∙ c .if1 .taken))
+    λ fs os. sym (missed-hit _ _ _ (turn .before .loop .inv fs) (turn .loop-test .taken) (sym (c .before .needs-type .ensures fs) ∙ c .if1 .taken))
 
 add-row : tie.Need-add-row Inv-loop μ-loop
 add-row c = omega arith
@@ -38,11 +38,11 @@ loop-less c = omega arith
 loop-again : tie.Need-loop-again Inv-loop μ-loop
 loop-again c =
     let turn = c .before .before in
-    passed-more _ _ _ (turn .before .loop .inv) (turn .loop-test .taken) (sym (c .before .needs-type .ensures) ∙ c .if1 .left)
+    λ fs. missed-more _ _ _ (turn .before .loop .inv fs) (turn .loop-test .taken) (sym (c .before .needs-type .ensures fs) ∙ c .if1 .left)
 
 returns-2 : tie.Need-returns-2 Inv-loop μ-loop
 unfolding typeNeeded
-returns-2 c = λ os. sym (no-row _ _ _ (c .before .loop .inv) (c .loop-test .left))
+returns-2 c = λ fs os. sym (missed-all _ _ _ (c .before .loop .inv fs) (c .loop-test .left))
 
 pub type-needed-spec : {M : Type 1} → statement M
 type-needed-spec =

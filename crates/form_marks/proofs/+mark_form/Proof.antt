@@ -2,7 +2,7 @@
 -- The measure is where the form ends: each part ends before its form's row.
 use Prim.Native.Nat.{ℕ, suc, _-_, _+_, _≤_, _<_}
 use mathlib.Core.Path.{_≡_, sym, ap, ap₂, subst, _∙_}
-use mathlib.Core.Bool.{Bool, _||_}
+use mathlib.Core.Bool.{Bool, true, false, _||_}
 use mathlib.Core.List.{List}
 use mathlib.Core.Option.{some}
 use native.Mathlib.Omega.{arith}
@@ -16,12 +16,13 @@ use Rattle.meaning.specs.Schema.{Schema}
 use Rattle.meaning.specs.Forms.{Sort, collection, bind}
 use Rattle.tables.specs.Codes.{Operator, operatorOf}
 use Rattle.tables.specs.Bodies.{BodyRow, reads, ending, firstPart, secondPart}
+use Rattle.tables.specs.Columns.{floorsOf, schemaOf}
 use Rattle.tables.proofs.Readings.{ending-start, sound-pos}
 use Rattle.directions.proofs.Passes.{pass-small}
 use Rattle.body_rows.specs.Marks.{bodyOf, firstSort, secondSort, Starts}
-use Rattle.typing.specs.Types.{memberOf}
+use Rattle.typing.specs.Types.{memberOf, flooredAt}
 use Rattle.body_rows.proofs.Kept.{starts-less}
-use Rattle.typing.proofs.Types.{lent, operatorHere, partsHere, coded-here, code-here, second-here, first-here, binds-here, sums-here, bind-take}
+use Rattle.typing.proofs.Types.{operatorHere, partsHere, coded-here, code-here, second-here, first-here, binds-here, sums-here, bind-take}
 use Rattle.type_marks.specs.Marks.{places}
 use Rattle.type_marks.specs.Lists.{markedBy, partMarks, leafLists, sumMarks}
 use Rattle.type_marks.proofs.Marks.{added-as, added-then}
@@ -34,19 +35,20 @@ use Rattle.body_rows.proofs.body.shape.Reads as shape-reads
 use Rattle.typing.proofs.member_type.Reads as member-type-reads
 use Rattle.directions.proofs.pass.Reads as pass-reads
 use Rattle.type_marks.proofs.put_leaf.Reads as put-leaf-reads
+use Rattle.form_marks.proofs.to_only.Reads as to-only-reads
 use Rattle.form_marks.proofs.mark_sum.Reads as mark-sum-reads
 use Rattle.form_marks.proofs.+mark_form.{statement}
 use Rattle.form_marks.proofs.+mark_form.Tie.{close}
 
-abbrev μ-form : Measures 6 mark-form-kinds.ps ℕ
-μ-form κs a = a .1 .1 .1 .1 .1 .0 .end
+abbrev μ-form : Measures 7 mark-form-kinds.ps ℕ
+μ-form κs a = a .1 .1 .1 .1 .1 .1 .0 .end
 
 -- what `mark_form` is given at the measure t, and what a call of it asks below t
-abbrev form-at : ℕ → In 6 mark-form-kinds.ps
-form-at t = and 6 mark-form-kinds.ps (is 6 mark-form-kinds.ps μ-form t) mark-form.Pre
+abbrev form-at : ℕ → In 7 mark-form-kinds.ps
+form-at t = and 7 mark-form-kinds.ps (is 7 mark-form-kinds.ps μ-form t) mark-form.Pre
 
-abbrev form-below : ℕ → In 6 mark-form-kinds.ps
-form-below t = and 6 mark-form-kinds.ps (falls 6 mark-form-kinds.ps _<_ μ-form t) mark-form.Pre
+abbrev form-below : ℕ → In 7 mark-form-kinds.ps
+form-below t = and 7 mark-form-kinds.ps (falls 7 mark-form-kinds.ps _<_ μ-form t) mark-form.Pre
 
 abbrev calls : ℕ → lts.Claims
 calls t = (
@@ -56,12 +58,14 @@ calls t = (
   shape-reads.Learnt,
   put-leaf-reads.Asked,
   put-leaf-reads.Learnt,
-  pass-reads.Asked,
-  pass-reads.Learnt,
+  to-only-reads.Asked,
+  to-only-reads.Learnt,
   mark-sum-reads.Asked,
   mark-sum-reads.Learnt,
   form-below t,
   mark-form.Post,
+  pass-reads.Asked,
+  pass-reads.Learnt,
   member-type-reads.Asked,
   member-type-reads.Learnt,
 )
@@ -81,17 +85,20 @@ module _ (t : ℕ) where
   abbrev Parts : Type 0
   Parts = lts.Else1 (calls t) (form-at t) mark-form.Post
 
-  abbrev Pass : Type 0
-  Pass = lts.After-pass (calls t) (form-at t) mark-form.Post
-
   abbrev Shape2 : Type 0
   Shape2 = lts.After-shape2 (calls t) (form-at t) mark-form.Post
 
   abbrev One : Type 0
   One = lts.Then2 (calls t) (form-at t) mark-form.Post
 
+  abbrev Only : Type 0
+  Only = lts.After-to-only (calls t) (form-at t) mark-form.Post
+
   abbrev Two : Type 0
   Two = lts.Else2 (calls t) (form-at t) mark-form.Post
+
+  abbrev Pass : Type 0
+  Pass = lts.After-pass (calls t) (form-at t) mark-form.Post
 
   abbrev Pass2 : Type 0
   Pass2 = lts.After-pass2 (calls t) (form-at t) mark-form.Post
@@ -106,7 +113,7 @@ module _ (t : ℕ) where
   Binds = lts.Else3 (calls t) (form-at t) mark-form.Post
 
   abbrev field-start : Field → Start
-  field-start c = c .before .before .before .before .before .before
+  field-start c = c .before .before .before .before .before .before .before
 
   abbrev shape-start : Shape → Start
   shape-start c = field-start (c .before .before)
@@ -115,7 +122,7 @@ module _ (t : ℕ) where
   parts-start c = shape-start (c .before)
 
   abbrev shape2-start : Shape2 → Start
-  shape2-start c = parts-start (c .before .before)
+  shape2-start c = parts-start (c .before)
 
   abbrev one-start : One → Start
   one-start c = shape2-start (c .before)
@@ -123,11 +130,11 @@ module _ (t : ℕ) where
   abbrev two-start : Two → Start
   two-start c = shape2-start (c .before)
 
-  abbrev pass2-start : Pass2 → Start
-  pass2-start c = two-start (c .before .before)
+  abbrev pass-two : Pass → Two
+  pass-two c = c .before .before
 
   abbrev first-two : First → Two
-  first-two c = c .before .before .before .before
+  first-two c = pass-two (c .before .before .before)
 
   abbrev shape3-first : Shape3 → First
   shape3-first c = c .before .before .before
@@ -144,7 +151,8 @@ module _ (t : ℕ) where
   row s = s .args .at .end - 1
 
   abbrev schema : Start → Schema
-  schema s = lent (s .args .at .types) (s .args .types .now) (s .args .at .relationships) (s .args .relationships .now)
+  schema s =
+      schemaOf (s .args .at .types) (s .args .types .now) (floorsOf (s .args .at .floors) (s .args .floors .now)) (s .args .at .relationships) (s .args .relationships .now)
 
   abbrev scope : Start → List ℕ
   scope s = take (s .args .at .depth) (s .args .env .now)
@@ -186,20 +194,37 @@ module _ (t : ℕ) where
   second-some : (c : Parts) → secondSort (sorts (parts-start c)) ≡ 3 → ⊥
   second-some c q = c .if1 .left (second (c .before) ∙ q)
 
-  to-second : (c : Pass) → c .pass .result ≡ passTo (parts-start (c .before) .args .set) (op (parts-start (c .before))) 1
-  to-second c = c .pass .ensures (op (parts-start (c .before))) (coded (c .before .before .before .before))
-
-  second-set : (c : Pass) → c .pass .result < 4
-  second-set c = let s = parts-start (c .before) in subst (λ k. k < 4) (sym (to-second c)) (pass-small (op s) _)
-
   first : (c : Shape2) → c .shape2 .result ≡ firstSort (sorts (shape2-start c))
-  first c = c .shape2 .ensures (op (shape2-start c)) (coded (c .before .before .before .before .before))
+  first c = c .shape2 .ensures (op (shape2-start c)) (coded (c .before .before .before .before))
 
   first-some : (c : Two) → firstSort (sorts (two-start c)) ≡ 3 → ⊥
   first-some c q = c .if2 .left (first (c .before) ∙ q)
 
-  to-first : (c : Pass2) → c .pass2 .result ≡ passTo (pass2-start c .args .set) (op (pass2-start c)) 0
-  to-first c = c .pass2 .ensures (op (pass2-start c)) (coded (c .before .before .before .before .before .before .before .before))
+  two-coded : (c : Two) → operatorOf (c .before .before .before .before .before .field .result) ≡ some (op (two-start c))
+  two-coded c = coded (c .before .before .before .before .before)
+
+  -- the directions of the only part, of the first and of the second
+  abbrev floor : Start → Bool
+  floor s = flooredAt (schema s) ((rows s (row s)) .code) ((rows s (row s)) .x) ((secondPart (rows s) (row s)) .form)
+
+  to-only : (c : Only) → let s = one-start (c .before) in c .to-only .result ≡ passTo (floor s) (s .args .set) (op s) 1
+  to-only c =
+      let one = c .before in
+      let s = one-start one in
+      let shape = one .before .before .before in
+      let code = shape .before .before .field .ensures in
+      let x = shape .before .field2 .ensures in
+      c .to-only .ensures (op s) (coded (shape .before .before))
+      ∙ (λ j. passTo (flooredAt (schema s) (code j) (x j) ((secondPart (rows s) (row s)) .form)) (s .args .set) (op s) 1)
+
+  to-first : (c : Pass) → let s = two-start (pass-two c) in c .pass .result ≡ passTo false (s .args .set) (op s) 0
+  to-first c = c .pass .ensures (op (two-start (pass-two c))) (two-coded (pass-two c))
+
+  to-second : (c : Pass2) → let s = two-start (pass-two (c .before)) in c .pass2 .result ≡ passTo false (s .args .set) (op s) 1
+  to-second c = let two = pass-two (c .before) in c .pass2 .ensures (op (two-start two)) (two-coded two)
+
+  second-set : (c : Pass2) → c .pass2 .result < 4
+  second-set c = subst (λ k. k < 4) (sym (to-second c)) (pass-small false (op (two-start (pass-two (c .before)))) _)
 
   -- an answer of the form that ends with the row is one of the form at the place
   at-end : (s : Start) (f : ℕ → Bool) → ((place : ℕ) → f place ≡ marks s (suc (row s)) (scope s) (s .args .set) place) → (place : ℕ) → place < places → f place ≡ marks s (s .args .at .end) (scope s) (s .args .set) place
@@ -239,14 +264,14 @@ module _ (t : ℕ) where
 
   -- what is marked of the first part
   first-marked : (c : First) (place : ℕ) → let s = two-start (first-two c) in
-      marks s (getD (s .args .starts .now) (row s) 0) (scope s) (c .before .before .pass2 .result) place
-      ≡ partMarks (schema s) ((firstPart (rows s) (row s)) .form) (scope s) (passTo (s .args .set) (op s) 0) place
-  first-marked c place = let s = two-start (first-two c) in ap₂ (λ n dirs. marks s n (scope s) dirs place) (middle-is s) (to-first (c .before .before))
+      marks s (getD (s .args .starts .now) (row s) 0) (scope s) (c .before .before .before .pass .result) place
+      ≡ partMarks (schema s) ((firstPart (rows s) (row s)) .form) (scope s) (passTo false (s .args .set) (op s) 0) place
+  first-marked c place = let s = two-start (first-two c) in ap₂ (λ n dirs. marks s n (scope s) dirs place) (middle-is s) (to-first (c .before .before .before))
 
   binds : (c : Shape3) → c .shape3 .result ≡ firstSort (sorts (two-start (first-two (shape3-first c))))
   binds c =
       let two = first-two (shape3-first c) in
-      c .shape3 .ensures (op (two-start two)) (coded (two .before .before .before .before .before .before))
+      c .shape3 .ensures (op (two-start two)) (two-coded two)
 
   -- the variables' types in the second part
   plain : (s : Start) → (firstSort (sorts s) ≡ 2 → ⊥) → inner (schema s) (scope s) (firstSort (sorts s)) ((firstPart (rows s) (row s)) .form) ≡ scope s
@@ -258,7 +283,7 @@ module _ (t : ℕ) where
   -- ---- the needs, in the order of the code
 
   sub-row : lts.Need-sub-row (calls t) (form-at t) mark-form.Post
-  sub-row c = positive (c .before .before .before .before .before)
+  sub-row c = positive (c .before .before .before .before .before .before)
 
   field-requires : lts.Need-field-requires (calls t) (form-at t) mark-form.Post
   field-requires c κs = tt
@@ -290,31 +315,41 @@ module _ (t : ℕ) where
       let code = shape .before .before .field .ensures in
       let x = shape .before .field2 .ensures in
       let y = leaf .before .before .field3 .ensures in
-      added-as (leaf .put-leaf .ensures)
+      added-as (leaf .put-leaf .ensures _)
       (at-end s _
       (λ place.
       (λ j. markedBy (s .args .set) (leafLists (schema s) (scope s) (code j) (x j) (y j)) place)
       ∙ leaf-here (rows s) (row s) (sound s) (schema s) (scope s) (s .args .set) (small s) place (sym (second shape) ∙ leaf .before .before .before .if1 .taken)))
 
-  pass-requires : lts.Need-pass-requires (calls t) (form-at t) mark-form.Post
-  pass-requires c κs = (low (c .before .before .before), omega arith, small (parts-start c))
-
   shape-requires-2 : lts.Need-shape-requires-2 (calls t) (form-at t) mark-form.Post
-  shape-requires-2 c κs = (low (c .before .before .before .before), omega arith)
+  shape-requires-2 c κs = (low (c .before .before .before), omega arith)
+
+  -- what a row with one part asks of it: a sum's is a collection
+  one-asks : (c : One) → let s = one-start c in
+      (Starts (rows s) (s .args .starts .now) (row s)) × (c .before .before .before .before .before .field .result ≡ 17 → T (reads collection (ending (rows s) (row s))))
+  one-asks c =
+      let s = one-start c in
+      (starts-less (s .pre .1 .0) (row s) (omega arith), λ q. sums-here (rows s) (row s) (sound s) (sym (c .before .before .before .before .before .field .ensures) ∙ q))
+
+  to-only-requires : lts.Need-to-only-requires (calls t) (form-at t) mark-form.Post
+  to-only-requires c κs = let asks = one-asks c in (asks .0, asks .1, low (c .before .before .before .before .before), small (one-start c))
 
   mark-sum-requires : lts.Need-mark-sum-requires (calls t) (form-at t) mark-form.Post
   mark-sum-requires c κs =
-      let one = c .before in
+      let one = c .before .before in
       let s = one-start one in
-      (starts-less (s .pre .1 .0) (row s) (omega arith), λ q. sums-here (rows s) (row s) (sound s) (sym (one .before .before .before .before .before .before .field .ensures) ∙ q), s .pre .1 .4, small s)
+      let asks = one-asks one in
+      (asks .0, asks .1, s .pre .1 .4, small s)
 
   mark-form-requires : lts.Need-mark-form-requires (calls t) (form-at t) mark-form.Post
   mark-form-requires c κs =
       let sum = c .before .before .before in
-      let one = sum .before .before in
+      let only = sum .before .before in
+      let one = only .before in
       let s = one-start one in
       let h = s .pre .1 .3 in
-      second-asks (one .before .before .before) (s .args .env .now) (s .args .at .depth) _ _ (s .pre .1 .2) (omega arith) (sum .mark-sum .ensures .long ∙ s .pre .1 .4) (second-set (one .before .before))
+      second-asks (one .before .before) (s .args .env .now) (s .args .at .depth) _ _ (s .pre .1 .2) (omega arith) (sum .mark-sum .ensures .long ∙ s .pre .1 .4)
+      (subst (λ k. k < 4) (sym (to-only only)) (pass-small (floor s) (op s) _))
 
   same-length-2 : lts.Need-same-length-2 (calls t) (form-at t) mark-form.Post
   same-length-2 c = search needs
@@ -323,16 +358,17 @@ module _ (t : ℕ) where
   returns-2 c =
       let form = c .before .before in
       let sum = form .before .before .before .before in
-      let one = sum .before .before in
-      let pass = one .before .before in
+      let only = sum .before .before in
+      let one = only .before in
       let s = one-start one in
-      let code = pass .before .before .before .before .field .ensures in
-      let x = pass .before .before .before .field2 .ensures in
+      let shape = one .before .before .before in
+      let code = shape .before .before .field .ensures in
+      let x = shape .before .field2 .ensures in
       added-as (added-then (sum .mark-sum .ensures) (form .mark-form .ensures))
       (at-end s _
       (λ place.
-      (λ j. sumMarks (schema s .relationships) (s .args .set) place (code j) (x j) ((secondPart (rows s) (row s)) .form) || marks s (row s) (scope s) (to-second pass j) place)
-      ∙ one-here (rows s) (row s) (sound s) (schema s) (scope s) (s .args .set) (small s) place (second-some (pass .before)) (sym (first (one .before)) ∙ one .if2 .taken)))
+      (λ j. sumMarks (schema s .relationships) (s .args .set) place (code j) (x j) ((secondPart (rows s) (row s)) .form) || marks s (row s) (scope s) (to-only only j) place)
+      ∙ one-here (rows s) (row s) (sound s) (schema s) (scope s) (s .args .set) (small s) place (second-some (one .before .before)) (sym (first (one .before)) ∙ one .if2 .taken)))
 
   cast-index : lts.Need-cast-index (calls t) (form-at t) mark-form.Post
   cast-index c = let h = inside (two-start c) in omega arith
@@ -343,12 +379,20 @@ module _ (t : ℕ) where
   element-copy-out-first : lts.Need-element-copy-out-first (calls t) (form-at t) mark-form.Post
   element-copy-out-first c = let h = inside (two-start c) in omega arith
 
+  -- what the directions of a part of two ask: no sum has two
+  pass-asks : (c : Two) (which : ℕ) → which < 2 → (c .before .before .before .before .before .field .result < 23) × (false ≡ true → c .before .before .before .before .before .field .result ≡ 17) × (which < 2) × (two-start c .args .set < 4)
+  pass-asks c which h = (low (c .before .before .before .before .before), λ e. absurd (subst T (sym e) tt), h, small (two-start c))
+
+  pass-requires : lts.Need-pass-requires (calls t) (form-at t) mark-form.Post
+  pass-requires c κs = pass-asks (c .before) 0 (omega arith)
+
   pass-requires-2 : lts.Need-pass-requires-2 (calls t) (form-at t) mark-form.Post
-  pass-requires-2 c κs = let pass = c .before .before .before in (low (pass .before .before .before .before), omega arith, small (parts-start (pass .before)))
+  pass-requires-2 c κs = pass-asks (pass-two c) 1 (omega arith)
 
   mark-form-requires-2 : lts.Need-mark-form-requires-2 (calls t) (form-at t) mark-form.Post
   mark-form-requires-2 c κs =
-      let two = c .before .before .before in
+      let passes = c .before in
+      let two = pass-two (passes .before) in
       let s = two-start two in
       let below = middle-low s in
       let k = positive s in
@@ -361,12 +405,12 @@ module _ (t : ℕ) where
           s .pre .1 .2,
           omega arith,
           s .pre .1 .4,
-          subst (λ k. k < 4) (sym (to-first (c .before))) (pass-small (op s) _),
+          subst (λ k. k < 4) (sym (to-first (passes .before))) (pass-small false (op s) _),
         ),
       )
 
   shape-requires-3 : lts.Need-shape-requires-3 (calls t) (form-at t) mark-form.Post
-  shape-requires-3 c κs = (low (first-two (c .before .before) .before .before .before .before .before .before), omega arith)
+  shape-requires-3 c κs = (low (first-two (c .before .before) .before .before .before .before .before), omega arith)
 
   mark-form-requires-3 : lts.Need-mark-form-requires-3 (calls t) (form-at t) mark-form.Post
   mark-form-requires-3 c κs =
@@ -374,7 +418,7 @@ module _ (t : ℕ) where
       let two = first-two form in
       let s = two-start two in
       let h = s .pre .1 .3 in
-      second-asks (two .before .before .before) (s .args .env .now) (s .args .at .depth) _ _ (s .pre .1 .2) (omega arith) (form .mark-form2 .ensures .long ∙ s .pre .1 .4) (second-set (two .before .before))
+      second-asks (two .before .before) (s .args .env .now) (s .args .at .depth) _ _ (s .pre .1 .2) (omega arith) (form .mark-form2 .ensures .long ∙ s .pre .1 .4) (second-set (form .before .before))
 
   same-length-3 : lts.Need-same-length-3 (calls t) (form-at t) mark-form.Post
   same-length-3 c = search needs
@@ -389,12 +433,12 @@ module _ (t : ℕ) where
       added-as (added-then (one .mark-form2 .ensures) (form .mark-form3 .ensures))
       (at-end s _
       (λ place.
-      ap₂ _||_ (first-marked one place) (ap (λ dirs. marks s (row s) (scope s) dirs place) (to-second (two .before .before)))
-      ∙ ap (λ ts. partMarks (schema s) ((firstPart (rows s) (row s)) .form) (scope s) (passTo (s .args .set) (op s) 0) place || marks s (row s) ts (passTo (s .args .set) (op s) 1) place) (sym (plain s (λ q. form .before .before .if3 .taken (binds shape ∙ q))))
-      ∙ two-here (rows s) (row s) (sound s) (schema s) (scope s) (s .args .set) (small s) place (second-some (two .before .before .before)) (first-some two)))
+      ap₂ _||_ (first-marked one place) (ap (λ dirs. marks s (row s) (scope s) dirs place) (to-second (one .before .before)))
+      ∙ ap (λ ts. partMarks (schema s) ((firstPart (rows s) (row s)) .form) (scope s) (passTo false (s .args .set) (op s) 0) place || marks s (row s) ts (passTo false (s .args .set) (op s) 1) place) (sym (plain s (λ q. form .before .before .if3 .taken (binds shape ∙ q))))
+      ∙ two-here (rows s) (row s) (sound s) (schema s) (scope s) (s .args .set) (small s) place (second-some (two .before .before)) (first-some two)))
 
   cast-new : lts.Need-cast-new (calls t) (form-at t) mark-form.Post
-  cast-new c = let h = room (first-two (binds-first (c .before .before)) .before .before .before) in omega arith
+  cast-new c = let h = room (first-two (binds-first (c .before .before)) .before .before) in omega arith
 
   member-type-requires : lts.Need-member-type-requires (calls t) (form-at t) mark-form.Post
   member-type-requires c κs =
@@ -406,13 +450,13 @@ module _ (t : ℕ) where
       )
 
   mul-inner : lts.Need-mul-inner (calls t) (form-at t) mark-form.Post
-  mul-inner c = let h = room (first-two (binds-first (c .before .before .before)) .before .before .before) in omega arith
+  mul-inner c = let h = room (first-two (binds-first (c .before .before .before)) .before .before) in omega arith
 
   array-write-inner : lts.Need-array-write-inner (calls t) (form-at t) mark-form.Post
-  array-write-inner c = let h = room (first-two (binds-first (c .before .before .before)) .before .before .before) in omega arith
+  array-write-inner c = let h = room (first-two (binds-first (c .before .before .before)) .before .before) in omega arith
 
   add-second : lts.Need-add-second (calls t) (form-at t) mark-form.Post
-  add-second c = let h = room (first-two (binds-first (c .before .before .before .before)) .before .before .before) in omega arith
+  add-second c = let h = room (first-two (binds-first (c .before .before .before .before)) .before .before) in omega arith
 
   mark-form-requires-4 : lts.Need-mark-form-requires-4 (calls t) (form-at t) mark-form.Post
   mark-form-requires-4 c κs =
@@ -423,7 +467,7 @@ module _ (t : ℕ) where
       let h = s .pre .1 .3 in
       let k = positive s in
       let m = member .member-type .result in
-      second-asks (two .before .before .before) (set (s .args .env .now) (s .args .at .depth) m) (s .args .at .depth + 1) _ _ (length-set (s .args .env .now) (s .args .at .depth) m ∙ s .pre .1 .2) (omega arith) (form .mark-form2 .ensures .long ∙ s .pre .1 .4) (second-set (two .before .before))
+      second-asks (two .before .before) (set (s .args .env .now) (s .args .at .depth) m) (s .args .at .depth + 1) _ _ (length-set (s .args .env .now) (s .args .at .depth) m ∙ s .pre .1 .2) (omega arith) (form .mark-form2 .ensures .long ∙ s .pre .1 .4) (second-set (form .before .before))
 
   same-length-4 : lts.Need-same-length-4 (calls t) (form-at t) mark-form.Post
   same-length-4 c = search needs
@@ -437,7 +481,7 @@ module _ (t : ℕ) where
       let two = first-two one in
       let s = two-start two in
       let l = s .pre .1 .2 in
-      let k = room (two .before .before .before) in
+      let k = room (two .before .before) in
       let m = member .member-type .result in
       let a = (firstPart (rows s) (row s)) .form in
       let member-is : m ≡ memberOf (schema s .relationships) a =
@@ -447,14 +491,14 @@ module _ (t : ℕ) where
       added-as (added-then (one .mark-form2 .ensures) (form .mark-form4 .ensures))
       (at-end s _
       (λ place.
-      ap₂ _||_ (first-marked one place) (ap₂ (λ ts dirs. marks s (row s) ts dirs place) scope-is (to-second (two .before .before)))
-      ∙ two-here (rows s) (row s) (sound s) (schema s) (scope s) (s .args .set) (small s) place (second-some (two .before .before .before)) (first-some two)))
+      ap₂ _||_ (first-marked one place) (ap₂ (λ ts dirs. marks s (row s) ts dirs place) scope-is (to-second (one .before .before)))
+      ∙ two-here (rows s) (row s) (sound s) (schema s) (scope s) (s .args .set) (small s) place (second-some (two .before .before)) (first-some two)))
 
 pub +mark-form-spec : {M : Type 1} → statement M
 +mark-form-spec =
     close μ-form λ t.
     lts.spec (calls t) (form-at t) mark-form.Post (sub-row t) (field-requires t) (field-requires-2 t) (shape-requires t) (field-requires-3 t) (put-leaf-requires t)
-    (same-length t) (returns t) (pass-requires t) (shape-requires-2 t) (mark-sum-requires t) (mark-form-requires t)
-    (same-length-2 t) (returns-2 t) (cast-index t) (mul-first t) (element-copy-out-first t) (pass-requires-2 t) (mark-form-requires-2 t)
+    (same-length t) (returns t) (shape-requires-2 t) (to-only-requires t) (mark-sum-requires t) (mark-form-requires t)
+    (same-length-2 t) (returns-2 t) (cast-index t) (mul-first t) (element-copy-out-first t) (pass-requires t) (pass-requires-2 t) (mark-form-requires-2 t)
     (shape-requires-3 t) (mark-form-requires-3 t) (same-length-3 t) (returns-3 t) (cast-new t) (member-type-requires t)
     (mul-inner t) (array-write-inner t) (add-second t) (mark-form-requires-4 t) (same-length-4 t) (returns-4 t)

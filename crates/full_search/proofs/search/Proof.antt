@@ -12,18 +12,18 @@ use Rattle.full_search.proofs.search.Statement.{statement}
 use Rattle.full_search.proofs.search.Tie as tie
 
 abbrev Inv-loop : tie.InvT-loop
-Inv-loop n types relationships rules bodies objects links index answer₀ rule context size starts row₀ answer row =
-    (answer ≡ Accepted) × Within n (sheetOf types relationships rules bodies objects links []) rule row
+Inv-loop n types floors relationships rules bodies objects links index answer₀ rule context size starts row₀ answer row =
+    (answer ≡ Accepted) × Within n (sheetOf types floors relationships rules bodies objects links []) rule row
 
 abbrev μ-loop : tie.MeasureT-loop
-μ-loop n types relationships rules bodies objects links index answer₀ rule context size starts row₀ answer row = n .objects - row
+μ-loop n types floors relationships rules bodies objects links index answer₀ rule context size starts row₀ answer row = n .objects - row
 
 abbrev Inv-search : tie.InvT-search
-Inv-search n types relationships rules bodies objects links index answer₀ rule₀ answer rule =
-    (answer ≡ Accepted) × Searching n (sheetOf types relationships rules bodies objects links []) rule
+Inv-search n types floors relationships rules bodies objects links index answer₀ rule₀ answer rule =
+    (answer ≡ Accepted) × Searching n (sheetOf types floors relationships rules bodies objects links []) rule
 
 abbrev μ-search : tie.MeasureT-search
-μ-search n types relationships rules bodies objects links index answer₀ rule₀ answer rule = n .rules - rule
+μ-search n types floors relationships rules bodies objects links index answer₀ rule₀ answer rule = n .rules - rule
 
 search-holds : tie.Need-search-holds Inv-loop μ-loop Inv-search μ-search
 search-holds c =

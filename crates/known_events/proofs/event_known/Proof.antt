@@ -35,55 +35,55 @@ read c S =
     λ j. knownEvent S (eventOf (kind j) (x j) (y j) (z j))
 
 returns : tie.Need-returns
-returns c = λ types relationships.
+returns c = λ types fs relationships.
     let n = c .before .before .before .before .before .before .args .n in
-    unknown-kind (n .types) types (n .relationships) relationships _ _ _ _ (omega arith) ∙ read (c .before) _
+    unknown-kind (n .types) types fs (n .relationships) relationships _ _ _ _ (omega arith) ∙ read (c .before) _
 
 alone-requires : tie.Need-alone-requires
 alone-requires c κs = search needs
 
 returns-2 : tie.Need-returns-2
-returns-2 c = λ types relationships.
+returns-2 c = λ types fs relationships.
     let words = c .before .before .before in
     let n = words .before .before .before .before .before .args .n in
-    c .alone .ensures ∙ known-delete (n .types) types (n .relationships) relationships _ _ _ _ (c .before .if2 .taken) ∙ read words _
+    c .alone .ensures ∙ known-delete (n .types) types fs (n .relationships) relationships _ _ _ _ (c .before .if2 .taken) ∙ read words _
 
 known-cell-requires : tie.Need-known-cell-requires
 known-cell-requires c κs = search needs
 
 returns-3 : tie.Need-returns-3
-returns-3 c = λ types relationships.
+returns-3 c = λ types fs relationships.
     let words = c .before .before .before .before in
     let n = words .before .before .before .before .before .args .n in
-    c .known-cell .ensures (words .word4 .result) ∙ known-set (n .types) types (n .relationships) relationships _ _ _ _ (c .before .if3 .taken) ∙ read words _
+    c .known-cell .ensures (words .word4 .result) ∙ known-set (n .types) types fs (n .relationships) relationships _ _ _ _ (c .before .if3 .taken) ∙ read words _
 
 known-link-requires : tie.Need-known-link-requires
 known-link-requires c κs = search needs
 
 returns-4 : tie.Need-returns-4
-returns-4 c = λ types relationships.
+returns-4 c = λ types fs relationships.
     let words = c .before .before .before .before .before in
     let n = words .before .before .before .before .before .args .n in
-    c .known-link .ensures relationships ∙ known-join (n .types) types (n .relationships) relationships _ _ _ _ (c .before .if4 .taken) ∙ read words _
+    c .known-link .ensures relationships ∙ known-join (n .types) types fs (n .relationships) relationships _ _ _ _ (c .before .if4 .taken) ∙ read words _
 
 known-link-requires-2 : tie.Need-known-link-requires-2
 known-link-requires-2 c κs = search needs
 
 returns-5 : tie.Need-returns-5
-returns-5 c = λ types relationships.
+returns-5 c = λ types fs relationships.
     let words = c .before .before .before .before .before .before in
     let n = words .before .before .before .before .before .args .n in
-    c .known-link2 .ensures relationships ∙ known-part (n .types) types (n .relationships) relationships _ _ _ _ (c .before .if5 .taken) ∙ read words _
+    c .known-link2 .ensures relationships ∙ known-part (n .types) types fs (n .relationships) relationships _ _ _ _ (c .before .if5 .taken) ∙ read words _
 
 with-type-requires : tie.Need-with-type-requires
 with-type-requires c κs = search needs
 
 returns-6 : tie.Need-returns-6
-returns-6 c = λ types relationships.
+returns-6 c = λ types fs relationships.
     let words = c .before .before .before .before .before .before in
     let n = words .before .before .before .before .before .args .n in
     c .with-type .ensures types
-    ∙ known-typed (n .types) types (n .relationships) relationships _ _ _ _ (omega arith)
+    ∙ known-typed (n .types) types fs (n .relationships) relationships _ _ _ _ (omega arith)
     (c .before .before .before .before .if2 .left) (c .before .before .before .if3 .left) (c .before .before .if4 .left) (c .before .if5 .left)
     ∙ read words _
 

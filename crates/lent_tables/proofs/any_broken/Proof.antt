@@ -22,6 +22,9 @@ not-whole-requires-5 c κs = search needs
 not-whole-requires-6 : tie.Need-not-whole-requires-6
 not-whole-requires-6 c κs = search needs
 
+not-whole-requires-7 : tie.Need-not-whole-requires-7
+not-whole-requires-7 c κs = search needs
+
 or-requires : tie.Need-or-requires
 or-requires c κs = search needs
 
@@ -40,6 +43,9 @@ or-requires-5 c κs = search needs
 or-requires-6 : tie.Need-or-requires-6
 or-requires-6 c κs = search needs
 
+or-requires-7 : tie.Need-or-requires-7
+or-requires-7 c κs = search needs
+
 returns : tie.Need-returns
 unfolding bookTables
 returns c = cc
@@ -54,10 +60,12 @@ any-broken-spec =
     not-whole-requires-4
     not-whole-requires-5
     not-whole-requires-6
+    not-whole-requires-7
     or-requires
     or-requires-2
     or-requires-3
     or-requires-4
     or-requires-5
     or-requires-6
+    or-requires-7
     returns)

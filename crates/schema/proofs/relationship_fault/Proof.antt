@@ -24,7 +24,7 @@ faulty-relationship-requires c κs = tt
 
 returns : tie.Need-returns Inv-loop μ-loop
 unfolding relationshipFault
-returns c = λ types. rw (passed-found _ _ _ (c .before .before .before .loop .inv types) (c .before .before .loop-test .taken) (sym (c .before .faulty-relationship .ensures types _) ∙ c .if1 .taken))
+returns c = λ types floors. rw (passed-found _ _ _ (c .before .before .before .loop .inv types) (c .before .before .loop-test .taken) (sym (c .before .faulty-relationship .ensures types _) ∙ c .if1 .taken))
 
 add-relationship : tie.Need-add-relationship Inv-loop μ-loop
 add-relationship c = omega arith
@@ -37,7 +37,7 @@ loop-again c = λ types. passed-more _ _ _ (c .before .before .before .loop .inv
 
 returns-2 : tie.Need-returns-2 Inv-loop μ-loop
 unfolding relationshipFault
-returns-2 c = λ types. rw (passed-all _ _ _ (c .before .loop .inv types) (c .loop-test .left))
+returns-2 c = λ types floors. rw (passed-all _ _ _ (c .before .loop .inv types) (c .loop-test .left))
 
 pub relationship-fault-spec : {M : Type 1} → statement M
 relationship-fault-spec =

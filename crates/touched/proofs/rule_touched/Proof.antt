@@ -10,13 +10,13 @@ use Rattle.touched.proofs.rule_touched.Tie as tie
 -- ---- places of the code
 
 abbrev start : tie.After-marks → tie.Start
-start c = c .before .before .before .before .before
+start c = c .before .before .before .before .before .before
 
 -- ---- what is known there
 
 -- the marks after the rule's are added
 abbrev marks : tie.After-rule-marks → List Bool
-marks c = c .rule-marks .last .1 .1 .1 .1 .1 .1 .1 .0
+marks c = c .rule-marks .last .1 .1 .1 .1 .1 .1 .1 .1 .1 .0
 
 -- ---- the needs, in the order of the code
 
@@ -35,7 +35,7 @@ returns c = λ change same known.
     let s = start (at-marks .before) in
     let a = s .args in
     c .shared .ensures
-    ∙ rule-shared (a .n) (a .types .now) (a .relationships .now) (a .rules .now) (a .bodies .now) (s .pre .0) (a .rule) (s .pre .1) (marks at-marks) (a .occurring .now) (at-marks .rule-marks .ensures) change same known
+    ∙ rule-shared (a .n) (a .types .now) (a .floors .now) (a .relationships .now) (a .rules .now) (a .bodies .now) (s .pre .0) (a .rule) (s .pre .1) (marks at-marks) (a .occurring .now) (at-marks .rule-marks .ensures) change same known
 
 pub rule-touched-spec : {M : Type 1} → statement M
 rule-touched-spec =

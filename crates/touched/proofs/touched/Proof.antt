@@ -6,7 +6,7 @@ use mathlib.Core.Bool.{Bool, true, false, or-false}
 use native.Mathlib.Omega.{arith}
 use Rattle.meaning.specs.Reach.{Change}
 use Rattle.meaning.specs.EventList.{touched}
-use Rattle.tables.specs.Columns.{ruleRow, schemaOf}
+use Rattle.tables.specs.Columns.{ruleRow, floorsOf, schemaOf}
 use Rattle.bits.specs.Bits.{bitAt}
 use Rattle.touched.specs.Shared.{Occurring}
 use Rattle.touched.proofs.Bits.{SetBelow, set-none, set-next, set-all}
@@ -14,17 +14,17 @@ use Rattle.touched.proofs.touched.Statement.{statement}
 use Rattle.touched.proofs.touched.Tie as tie
 
 abbrev Inv-loop : tie.InvT-loop
-Inv-loop n types relationships rules bodies occurring word₀ rule₀ word rule =
+Inv-loop n types floors relationships rules bodies occurring word₀ rule₀ word rule =
     (rule ≤ n .rules)
-    × ((c : Change) → c .schema ≡ schemaOf (n .types) types (n .relationships) relationships → Occurring c occurring → SetBelow (λ i. touched c (ruleRow rules bodies i)) word rule)
+    × ((c : Change) → c .schema ≡ schemaOf (n .types) types (floorsOf (n .floors) floors) (n .relationships) relationships → Occurring c occurring → SetBelow (λ i. touched c (ruleRow rules bodies i)) word rule)
 
 abbrev μ-loop : tie.MeasureT-loop
-μ-loop n types relationships rules bodies occurring word₀ rule₀ word rule = n .rules - rule
+μ-loop n types floors relationships rules bodies occurring word₀ rule₀ word rule = n .rules - rule
 
 -- ---- places of the code
 
 abbrev start : tie.At-loop Inv-loop μ-loop → tie.Start Inv-loop μ-loop
-start c = c .before .before .before .before .before
+start c = c .before .before .before .before .before .before
 
 abbrev head : tie.Then1 Inv-loop μ-loop → tie.At-loop Inv-loop μ-loop
 head c = c .before .before

@@ -6,7 +6,7 @@ use native.Mathlib.Omega.{arith}
 use lib.ListN.{take}
 use denote.Ref.{now}
 use borrow.Author.Tests.{eq-eqb, ne-eqb}
-use Rattle.meaning.specs.Schema.{Schema}
+use Rattle.meaning.specs.Schema.{Floor, Schema}
 use Rattle.meaning.specs.Reach.{Direction}
 use Rattle.meaning.specs.EventList.{EventType, setOf, roleLists}
 use Rattle.tables.specs.Columns.{schemaOf}
@@ -21,11 +21,11 @@ use Rattle.type_marks.proofs.put_leaf.Tie as tie
 abbrev start : tie.After-slice-known → tie.Start
 start c = c .before .before .before
 
-abbrev schema : tie.Start → Schema
-schema s = schemaOf (s .args .at .types) (now (s .args .types)) (s .args .at .relationships) (now (s .args .relationships))
+abbrev schema : tie.Start → List Floor → Schema
+schema s fs = schemaOf (s .args .at .types) (now (s .args .types)) fs (s .args .at .relationships) (now (s .args .relationships))
 
-abbrev leaf : tie.Start → Direction → List EventType
-leaf s = leafLists (schema s) (take (s .args .at .depth) (now (s .args .env))) (s .args .code) (s .args .x) (s .args .y)
+abbrev leaf : tie.Start → List Floor → Direction → List EventType
+leaf s fs = leafLists (schema s fs) (take (s .args .at .depth) (now (s .args .env))) (s .args .code) (s .args .x) (s .args .y)
 
 -- ---- the needs, in the order of the code
 
@@ -41,7 +41,8 @@ returns c =
     let kind = c .before .before in
     let s = start (kind .before .before .before) in
     let a = s .args in
-    added-lists (a .set) (typeLists (schema s) false (a .y)) (leaf s) (kind .put-members .ensures (schema s .relationships)) (λ d. rw (eq-eqb (a .code) 13 (omega arith)))
+    λ fs.
+    added-lists (a .set) (typeLists (schema s fs) false (a .y)) (leaf s fs) (kind .put-members .ensures fs (schema s fs .relationships)) (λ d. rw (eq-eqb (a .code) 13 (omega arith)))
 
 put-members-requires-2 : tie.Need-put-members-requires-2
 put-members-requires-2 c κs = search needs
@@ -55,7 +56,8 @@ returns-2 c =
     let all = c .before .before in
     let s = start (all .before .before .before .before) in
     let a = s .args in
-    added-lists (a .set) (typeLists (schema s) true (a .x)) (leaf s) (all .put-members2 .ensures (schema s .relationships)) (λ d. rw (ne-eqb (a .code) 13 (omega arith), eq-eqb (a .code) 21 (omega arith)))
+    λ fs.
+    added-lists (a .set) (typeLists (schema s fs) true (a .x)) (leaf s fs) (all .put-members2 .ensures fs (schema s fs .relationships)) (λ d. rw (ne-eqb (a .code) 13 (omega arith), eq-eqb (a .code) 21 (omega arith)))
 
 put-role-requires : tie.Need-put-role-requires
 put-role-requires c κs = search needs
@@ -69,7 +71,8 @@ returns-3 c =
     let role = c .before .before in
     let s = start (role .before .before .before .before .before) in
     let a = s .args in
-    added-lists (a .set) (roleLists (schema s) (a .y)) (leaf s) (role .put-role .ensures (schema s .types)) (λ d. rw (ne-eqb (a .code) 13 (omega arith), ne-eqb (a .code) 21 (omega arith), eq-eqb (a .code) 20 (omega arith)))
+    λ fs.
+    added-lists (a .set) (roleLists (schema s fs) (a .y)) (leaf s fs) (role .put-role .ensures (schema s fs .types) fs) (λ d. rw (ne-eqb (a .code) 13 (omega arith), ne-eqb (a .code) 21 (omega arith), eq-eqb (a .code) 20 (omega arith)))
 
 variable-type-requires : tie.Need-variable-type-requires
 variable-type-requires c κs = search needs
@@ -87,7 +90,8 @@ returns-4 c =
     let bound = cell .before .before in
     let s = start (bound .before .before .before .before .before) in
     let a = s .args in
-    added-lists (a .set) (λ d. setOf (bound .variable-type .result) (a .y) ∷ []) (leaf s) (cell .put-cell .ensures)
+    λ fs.
+    added-lists (a .set) (λ d. setOf (bound .variable-type .result) (a .y) ∷ []) (leaf s fs) (cell .put-cell .ensures)
     (λ d. rw (ne-eqb (a .code) 13 (omega arith), ne-eqb (a .code) 21 (omega arith), ne-eqb (a .code) 20 (omega arith), eq-eqb (a .code) 15 (omega arith)) (ap (λ t. setOf t (a .y) ∷ []) (bound .variable-type .ensures)))
 
 returns-5 : tie.Need-returns-5
@@ -95,7 +99,8 @@ unfolding leafLists
 returns-5 c =
     let s = start (c .before .before .before .before) in
     let a = s .args in
-    added-lists (a .set) (λ d. []) (leaf s) (added-as (added-none _) (λ place h. none-listed (a .set))) (λ d. rw (ne-eqb (a .code) 13 (omega arith), ne-eqb (a .code) 21 (omega arith), ne-eqb (a .code) 20 (omega arith), ne-eqb (a .code) 15 (omega arith)))
+    λ fs.
+    added-lists (a .set) (λ d. []) (leaf s fs) (added-as (added-none _) (λ place h. none-listed (a .set))) (λ d. rw (ne-eqb (a .code) 13 (omega arith), ne-eqb (a .code) 21 (omega arith), ne-eqb (a .code) 20 (omega arith), ne-eqb (a .code) 15 (omega arith)))
 
 pub put-leaf-spec : {M : Type 1} → statement M
 put-leaf-spec =

@@ -33,8 +33,8 @@ returns c =
     let start = first .before .before .before .before .before .before in
     let a = start .args in
     let parent = first .before .before .before .has-parent in
-    λ rs.
-    let S : Schema = record { types = typesOf (a .type-count) (now (a .types)); relationships = rs } in
+    λ fs rs.
+    let S : Schema = record { types = typesOf (a .type-count) (now (a .types)); floors = fs; relationships = rs } in
     added-set _ _ (a .set) (typeLists S (a .whole) (a .t)) (first .put-type .ensures) (second .put-type2 .ensures)
     (first .before .before .contains .ensures) (second .before .before .contains2 .ensures)
     (type-up S (a .whole) (parent .result) (a .t) (parent .ensures)) (type-down S (a .whole) (parent .result) (a .t) (parent .ensures))

@@ -46,8 +46,8 @@ returns c =
     let part = wordsMarked 4 (a .role / 2) 0 in
     let gone : ℕ → ℕ → Bool = λ t. wordsMarked 1 t 0 in
     let always = sym (and-true (lost .result)) in
-    λ ts.
-    let S : Schema = record { types = ts; relationships = relationshipsOf (a .relationship-count) (now (a .relationships)) } in
+    λ ts fs.
+    let S : Schema = record { types = ts; floors = fs; relationships = relationshipsOf (a .relationship-count) (now (a .relationships)) } in
     added-set join (λ place. part place || gone (far .far-type .result) place) (a .set) (roleLists S (a .role)) (first .put .ensures)
     (added-both (lost .result) true true part (gone (far .far-type .result)) (second .put2 .ensures) (third .put3 .ensures) always always)
     (gained .ensures) (lost .ensures)

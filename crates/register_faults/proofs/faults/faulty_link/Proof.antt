@@ -12,11 +12,11 @@ link-fits-requires c κs = search needs
 
 returns : tie.Need-returns
 unfolding faultyLink
-returns c = λ ls. rw (← c .before .before .link-ascends .ensures, c .before .if1 .taken, ← c .link-fits .ensures ls)
+returns c = λ fs ls. rw (← c .before .before .link-ascends .ensures, c .before .if1 .taken, ← c .link-fits .ensures fs ls)
 
 returns-2 : tie.Need-returns-2
 unfolding faultyLink
-returns-2 c = λ ls. rw (← c .before .link-ascends .ensures, c .if1 .left)
+returns-2 c = λ fs ls. rw (← c .before .link-ascends .ensures, c .if1 .left)
 
 pub faulty-link-spec : {M : Type 1} → statement M
 faulty-link-spec = tie.close (tie.spec link-ascends-requires link-fits-requires returns returns-2)

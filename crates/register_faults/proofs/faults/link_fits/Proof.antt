@@ -11,7 +11,7 @@ relationship-of-requires c κs = search needs
 
 returns : tie.Need-returns
 unfolding linkFits
-returns c = λ ls. simp (← c .before .relationship-of .ensures, relationship-known, le-ltb _ _ (c .if1 .taken))
+returns c = λ fs ls. simp (← c .before .relationship-of .ensures, relationship-known, le-ltb _ _ (c .if1 .taken))
 
 source-type-requires : tie.Need-source-type-requires
 source-type-requires c κs = search needs
@@ -38,7 +38,7 @@ returns-2 c =
     let under = target .before .before .before in
     let source = under .before in
     let known = source .before .before in
-    λ ls.
+    λ fs ls.
     simp (
       ← known .before .relationship-of .ensures,
       relationship-known,
@@ -55,7 +55,7 @@ unfolding linkFits
 returns-3 c =
     let source = c .before .before in
     let known = source .before .before in
-    λ ls.
+    λ fs ls.
     simp (
       ← known .before .relationship-of .ensures,
       relationship-known,

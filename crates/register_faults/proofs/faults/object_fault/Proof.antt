@@ -3,17 +3,17 @@ use Prim.Native.Nat.{_-_}
 use mathlib.Core.Path.{sym, _∙_}
 use native.Mathlib.Omega.{arith}
 use Rattle.meaning.specs.Register.{faultyObject, objectFault}
-use Rattle.tables.specs.Columns.{objectRow, typesOf}
+use Rattle.tables.specs.Columns.{objectRow, typesOf, floorsOf}
 use Rattle.schema.proofs.Scan.{Passed, passed-none, passed-more, passed-found, passed-all}
 use Rattle.register_faults.proofs.faults.object_fault.Statement.{statement}
 use Rattle.register_faults.proofs.faults.object_fault.Tie as tie
 
 abbrev Inv-loop : tie.InvT-loop
-Inv-loop type-count types object-count objects row₀ row =
-    Passed (faultyObject (typesOf type-count types)) (objectRow objects) object-count row
+Inv-loop type-count types floor-count floors object-count objects row₀ row =
+    Passed (faultyObject (typesOf type-count types) (floorsOf floor-count floors)) (objectRow objects) object-count row
 
 abbrev μ-loop : tie.MeasureT-loop
-μ-loop type-count types object-count objects row₀ row = object-count - row
+μ-loop type-count types floor-count floors object-count objects row₀ row = object-count - row
 
 loop-holds : tie.Need-loop-holds Inv-loop μ-loop
 loop-holds c = passed-none _ _ _
