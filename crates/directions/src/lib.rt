@@ -1,8 +1,9 @@
 // Which way a movement passes from a part to its form: one table, and nothing else says a direction.
 ghost use mathlib.Core.Path.{_≡_};
-ghost use mathlib.Core.Bool.{true, _&&_};
+ghost use mathlib.Core.Bool.{_&&_, cond};
 ghost use mathlib.Core.Option.{some};
 ghost use Prim.Native.Nat.{_+_, _*_, _<_};
+ghost use lib.Dec.{eqb};
 ghost use lib.ListN.{getD};
 ghost use Rattle.tables.specs.Codes.{Operator, operatorOf};
 ghost use Rattle.directions.specs.Sets.{holdsOne};
@@ -18,8 +19,13 @@ pub const FIRST: u32 = 0;
 
 pub const SECOND: u32 = 1;
 
+// A sum's code, and the row of one over a floored cell, which is a form of its own after the operators.
+const SUM: u32 = 17;
+
+const FLOORED_SUM: u32 = 23;
+
 // For each operator, by its code: which directions of its first part, and then of its second, move the form in a direction of
-// the set {}, {up}, {down}, {up, down}. A sum over a floored cell is a form of its own, after the operators.
+// the set {}, {up}, {down}, {up, down}.
 const PASSES: [[u32; 8]; 24] = [
     [0, 2, 1, 3, 0, 1, 2, 3], // le
     [0, 2, 1, 3, 0, 1, 2, 3], // lt
@@ -68,15 +74,24 @@ pub fn shared(a: u32, b: u32, direction: u32) -> bool
     }
 }
 
-// The directions of a part that move its form in a direction of the set; `floored` of a sum over a floored cell.
+// The row of the table: the operator's, by its code, but for a sum over a floored cell.
+fn row_of(code: u32, floored: bool) -> u32
+    ensures { λ r. ⌜ r ≡ cond (floored && eqb code 17) 23 code ⌝ }
+{
+    if floored {
+        if code == SUM {
+            return FLOORED_SUM;
+        }
+    }
+    code
+}
+
+// The directions of a part that move its form in a direction of the set. `floored` says of a sum that its cell is floored, and nothing of another form.
 pub fn pass(code: u32, floored: bool, part: u32, set: u32) -> u32
-    requires { ⌜ (code < 23) × (floored ≡ true → code ≡ 17) × (part < 2) × (set < 4) ⌝ }
+    requires { ⌜ (code < 23) × (part < 2) × (set < 4) ⌝ }
     ensures { λ r. ⌜ ((o : Operator) → operatorOf code ≡ some o → r ≡ getD (passRow floored o) (part * 4 + set) 0) ⌝ }
 {
+    let row = row_of(code, floored) as usize;
     let at = (part * 4 + set) as usize;
-    if floored {
-        return PASSES[23][at];
-    }
-    let row = code as usize;
     PASSES[row][at]
 }

@@ -21,7 +21,7 @@ use Rattle.trace_places.specs.Traces.{Traced}
 use Rattle.reach.specs.Moves.{movedBy, leafMoves, movesAt, movesOver}
 use Rattle.reach.specs.Able.{Able}
 use Rattle.reach.proofs.Abilities.{whole, last-sound, op, sorts}
-use Rattle.reach.proofs.Nodes.{membersIn, sumMoves, secondMoves, leaf-here, one-here, two-here}
+use Rattle.reach.proofs.Nodes.{membersIn, sumMoves, secondMoves, toSecond, leaf-here, one-here, two-here}
 
 -- no direction, no movement
 pub none-asked : (c : Change) (w : Site) (e : ℕ) (vars : List ℕ) (depth : ℕ) → false ≡ movesAt c w e vars depth 0
@@ -44,7 +44,7 @@ module _ {S : Schema} {w : Site} {starts : List ℕ} {e : ℕ} {vars : List ℕ}
   leaf-made p q z h a =
       a ∙ (λ i. someOf set (leafMoves c ids (p i) (q i) (z i))) ∙ leaf-here (rowsAt w) (e - 1) (last-sound able) c ids set some-set small h ∙ at-end
 
-  module _ (n : secondSort (sorts able) ≡ 3 → ⊥) {dirs : ℕ} (to : dirs ≡ passTo set (op able) 1) where
+  module _ (n : secondSort (sorts able) ≡ 3 → ⊥) {dirs : ℕ} (to : dirs ≡ toSecond c ids set (op able) (codeAt w e) (rowsAt w (e - 1)) (formAt w (e - 1))) where
     -- ---- one part
 
     module _ (f : firstSort (sorts able) ≡ 3) {r : Bool} (part : r ≡ asks (e - 1) dirs) where
@@ -66,7 +66,7 @@ module _ {S : Schema} {w : Site} {starts : List ℕ} {e : ℕ} {vars : List ℕ}
 
     -- ---- two parts
 
-    module _ (m : firstSort (sorts able) ≡ 3 → ⊥) {first to-first : ℕ} (at : first ≡ getD starts (e - 1) 0) (passed : to-first ≡ passTo set (op able) 0) {r : Bool} (part : r ≡ asks first to-first) where
+    module _ (m : firstSort (sorts able) ≡ 3 → ⊥) {first to-first : ℕ} (at : first ≡ getD starts (e - 1) 0) (passed : to-first ≡ passTo false set (op able) 0) {r : Bool} (part : r ≡ asks first to-first) where
       -- the first part ends where the second starts
       first-is : formAt w first ≡ (firstPart (rowsAt w) (e - 1)) .form
       first-is = ap (formAt w) (at ∙ able .right (e - 1) (omega arith))
@@ -75,7 +75,7 @@ module _ {S : Schema} {w : Site} {starts : List ℕ} {e : ℕ} {vars : List ℕ}
       unfolding movesAt
       two-is =
           ap (λ b. b || secondMoves c ids set (firstSort (sorts able)) dirs (formAt w first) (formAt w (e - 1))) (part ∙ ap₂ (λ k d. movedBy c k ids d) first-is passed)
-          ∙ ap₂ (λ d k. movedBy c ((firstPart (rowsAt w) (e - 1)) .form) ids (passTo set (op able) 0) || secondMoves c ids set (firstSort (sorts able)) d k (formAt w (e - 1))) to first-is
+          ∙ ap₂ (λ d k. movedBy c ((firstPart (rowsAt w) (e - 1)) .form) ids (passTo false set (op able) 0) || secondMoves c ids set (firstSort (sorts able)) d k (formAt w (e - 1))) to first-is
           ∙ two-here (rowsAt w) (e - 1) (last-sound able) c ids set some-set small n m
           ∙ at-end
 

@@ -11,7 +11,7 @@ use borrow.Author.Tests.{eq-eqb, ne-eqb}
 use Rattle.meaning.specs.Lists.{any}
 use Rattle.meaning.specs.Forms.{Sort, truth, number, collection, Form, bind, variable}
 use Rattle.meaning.specs.Meaning.{meaning}
-use Rattle.meaning.specs.Reach.{Change, Direction, up, down, Passing, same, reversed, either, through, leftOf, rightOf, firstTruth, secondTruth, sourceOf, secondTerm, cellMoves, moves}
+use Rattle.meaning.specs.Reach.{Change, Direction, up, down, Passing, same, reversed, through, leftOf, rightOf, firstTruth, secondTruth, sourceOf, secondTerm, sumSource, flooredSum, cellMoves, moves}
 use Rattle.tables.specs.Codes.{Operator, comparing, negating, connecting, quantifying, kindOf, literal, cellOf, sizeOf, sumOf, combining, roleOf, allOf, selecting, codeOf, shapeOf}
 use Rattle.tables.specs.Bodies.{BodyRow, Part, part, asTruth, asNumber, asCollection, formOf, ending, firstPart, secondPart}
 use Rattle.tables.proofs.Readings.{node, code-of, sorted, sorted-parts, is-truth, is-number, is-collection}
@@ -20,6 +20,7 @@ use Rattle.directions.specs.Passes.{firstPassing, secondPassing, passRow}
 use Rattle.directions.proofs.Sets.{through-some, some-or, some-same}
 use Rattle.directions.proofs.Passes.{first-passed, second-passed}
 use Rattle.body_rows.specs.Marks.{firstSort, secondSort}
+use Rattle.typing.specs.Types.{memberOf, flooredAt}
 use Rattle.typing.proofs.Types.{operatorHere, partsHere}
 use Rattle.form_marks.proofs.Nodes.{passTo}
 use Rattle.reach.specs.Moves.{partMoves, movedBy, leafMoves}
@@ -59,34 +60,42 @@ module _ (c : Change) (ids : List ℕ) (set : ℕ) where
   abbrev pub secondMoves : ℕ → ℕ → Part → Part → Bool
   secondMoves first dirs a b = cond (eqb first 2) (any (λ m. movedBy c b (bind ids m) dirs) (membersIn a)) (movedBy c b ids dirs)
 
+  -- of an operator's row, whether it is a sum over a floored cell
+  abbrev floors : Operator → BodyRow → Part → Bool
+  floors o r b = flooredAt (c .schema) (codeOf o) (r .x) b
+
+  -- the directions of the second part
+  abbrev pub toSecond : Operator → ℕ → BodyRow → Part → ℕ
+  toSecond o code r b = passTo (flooredAt (c .schema) code (r .x) b) set o 1
+
   abbrev pub nodeMoves : List Sort → Operator → ℕ → BodyRow → Part → Part → Bool
   nodeMoves parts o code r a b =
       cond (eqb (secondSort parts) 3) (someOf set (leafMoves c ids code (r .x) (r .y)))
-      (cond (eqb (firstSort parts) 3) (movedBy c b ids (passTo set o 1) || sumMoves code (r .x) b)
-      (movedBy c a ids (passTo set o 0) || secondMoves (firstSort parts) (passTo set o 1) a b))
+      (cond (eqb (firstSort parts) 3) (movedBy c b ids (toSecond o code r b) || sumMoves code (r .x) b)
+      (movedBy c a ids (passTo false set o 0) || secondMoves (firstSort parts) (toSecond o code r b) a b))
 
   module _ (some-set : 0 < set) (small : set < 4) where
-    second : {s : Sort} (o : Operator) (p : Passing) (vs : List ℕ) (b : Part) (f : Form s) → secondPassing o ≡ some p → b ≡ part s f → movedBy c b vs (passTo set o 1) ≡ someOf set (through _||_ p (moves c f vs))
+    second : {s : Sort} (floored : Bool) (o : Operator) (p : Passing) (vs : List ℕ) (b : Part) (f : Form s) → secondPassing floored o ≡ some p → b ≡ part s f → movedBy c b vs (passTo floored set o 1) ≡ someOf set (through _||_ p (moves c f vs))
     unfolding partMoves
-    second o p vs b f e q = ap₂ (λ x k. movedBy c x vs k) q (second-passed o set small p e) ∙ sym (through-some (moves c f vs) p set small)
+    second floored o p vs b f e q = ap₂ (λ x k. movedBy c x vs k) q (second-passed floored o set small p e) ∙ sym (through-some (moves c f vs) p set small)
 
-    first : {s : Sort} (o : Operator) (p : Passing) (a : Part) (f : Form s) → firstPassing o ≡ some p → a ≡ part s f → movedBy c a ids (passTo set o 0) ≡ someOf set (through _||_ p (moves c f ids))
+    first : {s : Sort} (o : Operator) (p : Passing) (a : Part) (f : Form s) → firstPassing o ≡ some p → a ≡ part s f → movedBy c a ids (passTo false set o 0) ≡ someOf set (through _||_ p (moves c f ids))
     unfolding partMoves
-    first o p a f e q = ap₂ (λ x k. movedBy c x ids k) q (first-passed o set small p e) ∙ sym (through-some (moves c f ids) p set small)
+    first o p a f e q = ap₂ (λ x k. movedBy c x ids k) q (first-passed false o set small p e) ∙ sym (through-some (moves c f ids) p set small)
 
-    two : {s u : Sort} (o : Operator) (p q : Passing) (a b : Part) (f : Form s) (g : Form u) → firstPassing o ≡ some p → secondPassing o ≡ some q → a ≡ part s f → b ≡ part u g
-        → (movedBy c a ids (passTo set o 0) || movedBy c b ids (passTo set o 1)) ≡ someOf set (λ d. through _||_ p (moves c f ids) d || through _||_ q (moves c g ids) d)
-    two o p q a b f g e h x y = ap₂ _||_ (first o p a f e x) (second o q ids b g h y) ∙ sym (some-or (through _||_ p (moves c f ids)) (through _||_ q (moves c g ids)) set small)
+    two : {s u : Sort} (floored : Bool) (o : Operator) (p q : Passing) (a b : Part) (f : Form s) (g : Form u) → firstPassing o ≡ some p → secondPassing floored o ≡ some q → a ≡ part s f → b ≡ part u g
+        → (movedBy c a ids (passTo false set o 0) || movedBy c b ids (passTo floored set o 1)) ≡ someOf set (λ d. through _||_ p (moves c f ids) d || through _||_ q (moves c g ids) d)
+    two floored o p q a b f g e h x y = ap₂ _||_ (first o p a f e x) (second floored o q ids b g h y) ∙ sym (some-or (through _||_ p (moves c f ids)) (through _||_ q (moves c g ids)) set small)
 
     -- a collection, and a truth at its members
-    over : (o : Operator) (p : Passing) (a b : Part) (f : Form collection) (g : Form truth) → firstPassing o ≡ some p → secondPassing o ≡ some same → a ≡ part collection f → b ≡ part truth g
-        → (movedBy c a ids (passTo set o 0) || any (λ m. movedBy c b (bind ids m) (passTo set o 1)) (membersIn a))
+    over : (floored : Bool) (o : Operator) (p : Passing) (a b : Part) (f : Form collection) (g : Form truth) → firstPassing o ≡ some p → secondPassing floored o ≡ some same → a ≡ part collection f → b ≡ part truth g
+        → (movedBy c a ids (passTo false set o 0) || any (λ m. movedBy c b (bind ids m) (passTo floored set o 1)) (membersIn a))
         ≡ someOf set (λ d. through _||_ p (moves c f ids) d || any (λ m. moves c g (bind ids m) d) (meaning (c .schema .types) (c .end) f ids))
     unfolding asCollection
-    over o p a b f g e h x y =
+    over floored o p a b f g e h x y =
         ap₂ _||_ (first o p a f e x)
-        (ap (λ k. any (λ m. movedBy c b (bind ids m) (passTo set o 1)) (membersIn k)) x
-        ∙ any-same (λ m. movedBy c b (bind ids m) (passTo set o 1)) (λ m. someOf set (moves c g (bind ids m))) (λ m. second o same (bind ids m) b g h y) (meaning (c .schema .types) (c .end) f ids)
+        (ap (λ k. any (λ m. movedBy c b (bind ids m) (passTo floored set o 1)) (membersIn k)) x
+        ∙ any-same (λ m. movedBy c b (bind ids m) (passTo floored set o 1)) (λ m. someOf set (moves c g (bind ids m))) (λ m. second floored o same (bind ids m) b g h y) (meaning (c .schema .types) (c .end) f ids)
         ∙ sym (any-some set small (λ m. moves c g (bind ids m)) (meaning (c .schema .types) (c .end) f ids)))
         ∙ sym (some-or (through _||_ p (moves c f ids)) (λ d. any (λ m. moves c g (bind ids m) d) (meaning (c .schema .types) (c .end) f ids)) set small)
       where
@@ -95,24 +104,25 @@ module _ (c : Change) (ids : List ℕ) (set : ℕ) where
         any-same p q h (x ∷ l) = ap₂ _||_ (h x) (any-same p q h l)
 
     node-moves : (o : Operator) (r : BodyRow) (a b : Part) → sorted ((shapeOf o) .parts) a b → nodeMoves ((shapeOf o) .parts) o (codeOf o) r a b ≡ movedBy c (formOf o r a b) ids set
-    unfolding shapeOf codeOf formOf partMoves leafMoves moves firstPassing secondPassing
-    node-moves (comparing o) r a b t = two (comparing o) (leftOf o) (rightOf o) a b (asNumber a) (asNumber b) refl refl (is-number a (t .0)) (is-number b (t .1))
-    node-moves negating r a b t = or-false _ ∙ second negating reversed ids b (asTruth b) refl (is-truth b t)
-    node-moves (connecting o) r a b t = two (connecting o) (firstTruth o) (secondTruth o) a b (asTruth a) (asTruth b) refl refl (is-truth a (t .0)) (is-truth b (t .1))
-    node-moves (quantifying q) r a b t = over (quantifying q) (sourceOf q) a b (asCollection a) (asTruth b) refl refl (is-collection a (t .0)) (is-truth b (t .1))
+    unfolding shapeOf codeOf formOf memberOf partMoves leafMoves moves firstPassing secondPassing
+    node-moves (comparing o) r a b t = two (floors (comparing o) r b) (comparing o) (leftOf o) (rightOf o) a b (asNumber a) (asNumber b) refl refl (is-number a (t .0)) (is-number b (t .1))
+    node-moves negating r a b t = or-false _ ∙ second (floors negating r b) negating reversed ids b (asTruth b) refl (is-truth b t)
+    node-moves (connecting o) r a b t = two (floors (connecting o) r b) (connecting o) (firstTruth o) (secondTruth o) a b (asTruth a) (asTruth b) refl refl (is-truth a (t .0)) (is-truth b (t .1))
+    node-moves (quantifying q) r a b t = over (floors (quantifying q) r b) (quantifying q) (sourceOf q) a b (asCollection a) (asTruth b) refl refl (is-collection a (t .0)) (is-truth b (t .1))
     node-moves kindOf r a b t = refl
     node-moves literal r a b t = refl
     node-moves cellOf r a b t = refl
-    node-moves sizeOf r a b t = or-false _ ∙ second sizeOf same ids b (asCollection b) refl (is-collection b t)
+    node-moves sizeOf r a b t = or-false _ ∙ second (floors sizeOf r b) sizeOf same ids b (asCollection b) refl (is-collection b t)
     node-moves sumOf r a b t =
         let f = asCollection b in
+        let floored = flooredSum (c .schema) f (r .x) in
         let cells = any (λ m. cellMoves c m (r .x)) (meaning (c .schema .types) (c .end) f ids) in
-        ap₂ _||_ (second sumOf either ids b f refl (is-collection b t)) (sym (always set cells some-set small))
-        ∙ sym (some-or (through _||_ either (moves c f ids)) (λ d. cells) set small)
-    node-moves (combining o) r a b t = two (combining o) same (secondTerm o) a b (asNumber a) (asNumber b) refl refl (is-number a (t .0)) (is-number b (t .1))
+        ap₂ _||_ (second floored sumOf (sumSource floored) ids b f refl (is-collection b t)) (sym (always set cells some-set small))
+        ∙ sym (some-or (through _||_ (sumSource floored) (moves c f ids)) (λ d. cells) set small)
+    node-moves (combining o) r a b t = two (floors (combining o) r b) (combining o) same (secondTerm o) a b (asNumber a) (asNumber b) refl refl (is-number a (t .0)) (is-number b (t .1))
     node-moves roleOf r a b t = refl
     node-moves allOf r a b t = refl
-    node-moves selecting r a b t = over selecting same a b (asCollection a) (asTruth b) refl refl (is-collection a (t .0)) (is-truth b (t .1))
+    node-moves selecting r a b t = over (floors selecting r b) selecting same a b (asCollection a) (asTruth b) refl refl (is-collection a (t .0)) (is-truth b (t .1))
 
 -- ---- the form that ends with a row, by what the code reads of the row
 
@@ -143,8 +153,8 @@ module _ (rows : ℕ → BodyRow) (i : ℕ) (sound : T ((ending rows (suc i)) .s
   leaf-here e = simp (eq-eqb (secondSort sorts) 3 e) at moves-here
 
   module _ (n : secondSort sorts ≡ 3 → ⊥) where
-    pub one-here : firstSort sorts ≡ 3 → (movedBy c b ids (passTo set op 1) || sumMoves c ids set ((rows i) .code) ((rows i) .x) b) ≡ moved
+    pub one-here : firstSort sorts ≡ 3 → (movedBy c b ids (toSecond c ids set op ((rows i) .code) (rows i) b) || sumMoves c ids set ((rows i) .code) ((rows i) .x) b) ≡ moved
     one-here e = simp (ne-eqb (secondSort sorts) 3 n, eq-eqb (firstSort sorts) 3 e) at moves-here
 
-    pub two-here : (firstSort sorts ≡ 3 → ⊥) → (movedBy c a ids (passTo set op 0) || secondMoves c ids set (firstSort sorts) (passTo set op 1) a b) ≡ moved
+    pub two-here : (firstSort sorts ≡ 3 → ⊥) → (movedBy c a ids (passTo false set op 0) || secondMoves c ids set (firstSort sorts) (toSecond c ids set op ((rows i) .code) (rows i) b) a b) ≡ moved
     two-here m = simp (ne-eqb (secondSort sorts) 3 n, ne-eqb (firstSort sorts) 3 m) at moves-here

@@ -20,6 +20,8 @@ ghost use Rattle.meaning.specs.Schema.{Schema};
 ghost use Rattle.meaning.specs.Forms.{collection};
 ghost use Rattle.meaning.specs.Reach.{Change, roleMoves, allMoves, cellMoves, kindMoves};
 ghost use Rattle.directions.specs.Sets.{someOf};
+ghost use Rattle.body_rows.specs.Marks.{bodyOf};
+ghost use Rattle.typing.specs.Types.{FlooredRows};
 ghost use Rattle.walks.specs.Site.{siteOf, idIn};
 ghost use Rattle.walks.specs.Values.{membersOf};
 ghost use Rattle.ocl.specs.Ready.{Ready};
@@ -250,7 +252,7 @@ fn member_set(
     }
 }
 
-// Whether some direction of the set moves the form that ends before the place.
+// Whether some direction of the set moves the form that ends before the place; `floored` marks the sums over floored cells.
 pub fn moved(
     n: Counts,
     types: &[u32],
@@ -259,6 +261,7 @@ pub fn moved(
     index: &[u16; 81920],
     bodies: &[u32],
     spans: &[u32; 65],
+    floored: &[bool; 64],
     events: &[u32],
     trace: &[u16; 16675],
     vs: &[u32; 64],
@@ -268,6 +271,7 @@ pub fn moved(
     requires { ⌜ ((S : Schema) × Able S (siteOf n (now types) (now objects) (now links) (now index) (now bodies) (at .0)) (now spans) (at .1) (now vs) (at .2))
         × (Traces n (now types) (now objects) (now links) (now events) (now trace)) × (set < 4) ⌝ }
     ensures { λ r. ⌜ ((c : Change) → Traced c n (now (types .entry)) (now (objects .entry)) (now (links .entry)) (now (events .entry)) (now (trace .entry))
+        → FlooredRows (c .schema) (bodyOf (now (bodies .entry)) (at .0)) (at .1) (now (floored .entry))
         → r ≡ movesAt c
         (siteOf n (now (types .entry)) (now (objects .entry)) (now (links .entry)) (now (index .entry)) (now (bodies .entry)) (at .0))
         (at .1) (now (vs .entry)) (at .2) set) ⌝ }
@@ -297,7 +301,8 @@ pub fn moved(
             set,
         );
     }
-    let to = directions::pass(code, directions::SECOND, set);
+    let from = row as usize;
+    let to = directions::pass(code, floored[from], directions::SECOND, set);
     let second = Place(rule, row, depth);
     if shape(code, FIRST) == NONE {
         if moved(
@@ -308,6 +313,7 @@ pub fn moved(
             index,
             bodies,
             spans,
+            floored,
             events,
             trace,
             vs,
@@ -334,9 +340,8 @@ pub fn moved(
             x,
         );
     }
-    let from = row as usize;
     let first = Place(rule, spans[from], depth);
-    let to_first = directions::pass(code, directions::FIRST, set);
+    let to_first = directions::pass(code, false, directions::FIRST, set);
     if moved(
         n,
         types,
@@ -345,6 +350,7 @@ pub fn moved(
         index,
         bodies,
         spans,
+        floored,
         events,
         trace,
         vs,
@@ -362,6 +368,7 @@ pub fn moved(
             index,
             bodies,
             spans,
+            floored,
             events,
             trace,
             vs,
@@ -377,6 +384,7 @@ pub fn moved(
         index,
         bodies,
         spans,
+        floored,
         events,
         trace,
         vs,
@@ -394,6 +402,7 @@ fn over(
     index: &[u16; 81920],
     bodies: &[u32],
     spans: &[u32; 65],
+    floored: &[bool; 64],
     events: &[u32],
     trace: &[u16; 16675],
     vs: &[u32; 64],
@@ -403,6 +412,7 @@ fn over(
     requires { ⌜ ((S : Schema) × OverAble S (siteOf n (now types) (now objects) (now links) (now index) (now bodies) (at .0)) (now spans) (at .1) (now vs) (at .2))
         × (Traces n (now types) (now objects) (now links) (now events) (now trace)) × (set < 4) ⌝ }
     ensures { λ r. ⌜ ((c : Change) → Traced c n (now (types .entry)) (now (objects .entry)) (now (links .entry)) (now (events .entry)) (now (trace .entry))
+        → FlooredRows (c .schema) (bodyOf (now (bodies .entry)) (at .0)) (at .1) (now (floored .entry))
         → r ≡ movesOver c
         (siteOf n (now (types .entry)) (now (objects .entry)) (now (links .entry)) (now (index .entry)) (now (bodies .entry)) (at .0))
         (at .1 - 1) (now (vs .entry)) (at .2)
@@ -433,6 +443,7 @@ fn over(
             index,
             bodies,
             spans,
+            floored,
             events,
             trace,
             &inner,

@@ -1,12 +1,13 @@
 -- What the check of a rule asks of its body's forms.
-use Prim.Native.Nat.{ℕ}
+use Prim.Native.Nat.{ℕ, _<_}
+use mathlib.Core.Path.{_≡_}
 use mathlib.Core.Bool.{Bool, true, false, _&&_, cond}
 use mathlib.Core.List.{List}
 use lib.Dec.{ltb, leb, eqb}
-use lib.ListN.{length}
+use lib.ListN.{length, getD}
 use Rattle.meaning.specs.Schema.{Relationship, Schema, knownType, knownRole, cellsOf, under, floored, nearType}
 use Rattle.meaning.specs.Forms.{variable, memberType, wellTyped}
-use Rattle.tables.specs.Bodies.{Part, part, asCollection}
+use Rattle.tables.specs.Bodies.{BodyRow, Part, part, asCollection, ending}
 
 -- of a form of any sort: whether it is well typed, and the type of its members
 unfoldable pub typedPart : Schema → List ℕ → Part → Bool
@@ -22,6 +23,10 @@ summed S code x p = cond (eqb code 17) (ltb x (cellsOf (S .types) (memberOf (S .
 -- a sum is over a floored cell; what is no sum is over none
 abbrev pub flooredAt : Schema → ℕ → ℕ → Part → Bool
 flooredAt S code x p = eqb code 17 && floored (S .types) (S .floors) (memberOf (S .relationships) p) x
+
+-- of the first e rows of a body, the marks say which are sums over a floored cell
+pub record FlooredRows (S : Schema) (rows : ℕ → BodyRow) (e : ℕ) (floored : List Bool) : Type 0 where
+  pub each : (k : ℕ) → k < e → getD floored k false ≡ flooredAt S ((rows k) .code) ((rows k) .x) ((ending rows k) .form)
 
 -- a row without parts, by its code and its first two fields: num, all, and then kind, cell and role, which name a variable
 unfoldable pub typedLeaf : Schema → List ℕ → ℕ → ℕ → ℕ → Bool

@@ -11,10 +11,10 @@ ghost use lib.Dec.{T};
 ghost use lib.ListN.{length, take};
 ghost use mathlib.Core.List.{[]};
 ghost use Rattle.meaning.specs.Forms.{collection};
-ghost use Rattle.tables.specs.Bodies.{reads, ending};
+ghost use Rattle.tables.specs.Bodies.{reads, ending, wholeBody};
 ghost use Rattle.tables.specs.Columns.{floorsOf, relationshipsOf, schemaOf};
 ghost use Rattle.body_rows.specs.Marks.{bodyOf, Starts};
-ghost use Rattle.typing.specs.Types.{typedPart, memberOf, summed, flooredAt, typedLeaf};
+ghost use Rattle.typing.specs.Types.{typedPart, memberOf, summed, flooredAt, FlooredRows, typedLeaf};
 
 // The codes of operators.
 const KIND: u32 = 13;
@@ -141,6 +141,35 @@ pub fn floored_sum(
     }
     let member = member_type(relationships, bodies, starts, at);
     schema::floors::floored(at.types, types, at.floors, floors, member, x)
+}
+
+// Which rows of a whole body are sums over a floored cell.
+pub fn floored_rows(
+    types: &[u32],
+    floors: &[u32],
+    relationships: &[u32],
+    bodies: &[u32],
+    starts: &[u32; 65],
+    at: Place,
+) -> [bool; 64]
+    requires { ⌜ (Starts (bodyOf (now bodies) (at .rule)) (now starts) (at .end)) × T (wholeBody (bodyOf (now bodies) (at .rule)) (at .end)) ⌝ }
+    ensures { λ r. ⌜ FlooredRows
+        (schemaOf (at .types) (now (types .entry)) (floorsOf (at .floors) (now (floors .entry))) (at .relationships) (now (relationships .entry)))
+        (bodyOf (now (bodies .entry)) (at .rule)) (at .end) r ⌝ }
+{
+    let mut floored = [false; 64];
+    let mut row: u32 = 0;
+    while row < at.end {
+        let mut part = at;
+        part.end = row;
+        let code = field(bodies, at.rule, row, 0);
+        let x = field(bodies, at.rule, row, 1);
+        let sum = floored_sum(types, floors, relationships, bodies, starts, part, code, x);
+        let index = row as usize;
+        floored[index] = sum;
+        row += 1;
+    }
+    floored
 }
 
 // Whether a form is well typed, by the types of its variables. The types past theirs are room for those of the variables inside it.

@@ -379,15 +379,11 @@ module _ (t : ℕ) where
   element-copy-out-first : lts.Need-element-copy-out-first (calls t) (form-at t) mark-form.Post
   element-copy-out-first c = let h = inside (two-start c) in omega arith
 
-  -- what the directions of a part of two ask: no sum has two
-  pass-asks : (c : Two) (which : ℕ) → which < 2 → (c .before .before .before .before .before .field .result < 23) × (false ≡ true → c .before .before .before .before .before .field .result ≡ 17) × (which < 2) × (two-start c .args .set < 4)
-  pass-asks c which h = (low (c .before .before .before .before .before), λ e. absurd (subst T (sym e) tt), h, small (two-start c))
-
   pass-requires : lts.Need-pass-requires (calls t) (form-at t) mark-form.Post
-  pass-requires c κs = pass-asks (c .before) 0 (omega arith)
+  pass-requires c κs = let two = c .before in (low (two .before .before .before .before .before), omega arith, small (two-start two))
 
   pass-requires-2 : lts.Need-pass-requires-2 (calls t) (form-at t) mark-form.Post
-  pass-requires-2 c κs = pass-asks (pass-two c) 1 (omega arith)
+  pass-requires-2 c κs = let two = pass-two c in (low (two .before .before .before .before .before), omega arith, small (two-start two))
 
   mark-form-requires-2 : lts.Need-mark-form-requires-2 (calls t) (form-at t) mark-form.Post
   mark-form-requires-2 c κs =

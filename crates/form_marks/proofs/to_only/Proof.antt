@@ -1,11 +1,8 @@
--- `form_marks::to_only` meets its contract. A sum alone is over a floored cell.
-use mathlib.Core.Path.{_≡_, sym, ap, subst, _∙_}
-use mathlib.Core.Bool.{Bool, true, _&&_}
+-- `form_marks::to_only` meets its contract.
+use mathlib.Core.Path.{ap, _∙_}
 use native.Mathlib.Omega.{arith}
-use lib.Dec.{T, eqb}
 use lib.ListN.{getD}
-use mir.Facts.{and-yes, eqb-yes}
-use Prim.Native.Nat.{ℕ, _+_, _*_}
+use Prim.Native.Nat.{_+_, _*_}
 use Rattle.directions.specs.Passes.{passRow}
 use Rattle.form_marks.proofs.to_only.Statement.{statement}
 use Rattle.form_marks.proofs.to_only.Tie as tie
@@ -13,13 +10,10 @@ use Rattle.form_marks.proofs.to_only.Tie as tie
 floored-sum-requires : tie.Need-floored-sum-requires
 floored-sum-requires c κs = let s = c .before .before .before .before in (s .pre .0, s .pre .1)
 
-sum-alone : (code : ℕ) (b r : Bool) → r ≡ (eqb code 17 && b) → r ≡ true → code ≡ 17
-sum-alone code b r e t = eqb-yes (and-yes (eqb code 17) b (subst T (sym t ∙ e) tt) .0)
-
 pass-requires : tie.Need-pass-requires
 pass-requires c κs =
     let s = c .before .before .before .before .before in
-    (s .pre .2, sum-alone (s .args .code) _ (c .floored-sum .result) (c .floored-sum .ensures), omega arith, s .pre .3)
+    (s .pre .2, omega arith, s .pre .3)
 
 returns : tie.Need-returns
 returns c =

@@ -2,7 +2,7 @@
 -- calls it; every other call is of a part, which ends before.
 use Prim.Native.Nat.{ℕ, _+_, _-_, _≤_, _<_}
 use mathlib.Core.Path.{_≡_, refl, sym, ap, subst, _∙_}
-use mathlib.Core.Bool.{Bool}
+use mathlib.Core.Bool.{Bool, false}
 use mathlib.Core.List.{List}
 use mathlib.Core.Option.{some}
 use native.Mathlib.Omega.{arith}
@@ -19,7 +19,9 @@ use Rattle.meaning.specs.Reach.{Change, cellMoves}
 use Rattle.tables.specs.Codes.{Operator, operatorOf}
 use Rattle.tables.specs.Bodies.{reads, ending}
 use Rattle.body_rows.specs.Marks.{firstSort, secondSort}
+use Rattle.typing.specs.Types.{FlooredRows}
 use Rattle.typing.proofs.Types.{code-here, sums-here}
+use Rattle.typing.proofs.Floors.{rows-less}
 use Rattle.directions.proofs.Passes.{pass-small}
 use Rattle.form_marks.proofs.Nodes.{passTo}
 use Rattle.walks.specs.Site.{Site, siteOf, rowsAt, formAt, codeAt, idIn, idsOf}
@@ -32,6 +34,7 @@ use Rattle.reach.specs.Moves.{movedBy, movesAt, movesOver}
 use Rattle.reach.specs.Able.{Able, LeafAble, OverAble}
 use Rattle.reach.proofs.Abilities.{positive, whole, last-sound, op, sorts, coded, ready, leaf-able, deep, one-able, first-low, first-able, plain-able, over-able}
 use Rattle.reach.proofs.Members.{Left, any-starts, any-ends, any-stops, any-goes-on}
+use Rattle.reach.proofs.Nodes.{toSecond}
 use Rattle.reach.proofs.Answers.{none-asked, leaf-made, one-moves, one-still, one-sums, first-moves, plain-moves, over-moves, members-end}
 use Rattle.reach.proofs.moved.Reads as moved
 use Rattle.reach.proofs.moved.Kinds as moved-kinds
@@ -51,23 +54,23 @@ use Rattle.reach.proofs.+moved+over.Tie.{close}
 
 -- ---- measures, what each is given at the measure t, and what a call of it asks below t
 
-abbrev μ-moved : Measures 9 moved-kinds.ps ℕ
-μ-moved κs a = a .1 .1 .1 .1 .1 .1 .1 .1 .1 .1 .0 .1 + a .1 .1 .1 .1 .1 .1 .1 .1 .1 .1 .0 .1 + 1
+abbrev μ-moved : Measures 10 moved-kinds.ps ℕ
+μ-moved κs a = a .1 .1 .1 .1 .1 .1 .1 .1 .1 .1 .1 .0 .1 + a .1 .1 .1 .1 .1 .1 .1 .1 .1 .1 .1 .0 .1 + 1
 
-abbrev μ-over : Measures 9 over-kinds.ps ℕ
-μ-over κs a = a .1 .1 .1 .1 .1 .1 .1 .1 .1 .1 .0 .1 + a .1 .1 .1 .1 .1 .1 .1 .1 .1 .1 .0 .1
+abbrev μ-over : Measures 10 over-kinds.ps ℕ
+μ-over κs a = a .1 .1 .1 .1 .1 .1 .1 .1 .1 .1 .1 .0 .1 + a .1 .1 .1 .1 .1 .1 .1 .1 .1 .1 .1 .0 .1
 
-abbrev moved-at : ℕ → In 9 moved-kinds.ps
-moved-at t = and 9 moved-kinds.ps (is 9 moved-kinds.ps μ-moved t) moved.Pre
+abbrev moved-at : ℕ → In 10 moved-kinds.ps
+moved-at t = and 10 moved-kinds.ps (is 10 moved-kinds.ps μ-moved t) moved.Pre
 
-abbrev moved-below : ℕ → In 9 moved-kinds.ps
-moved-below t = and 9 moved-kinds.ps (falls 9 moved-kinds.ps _<_ μ-moved t) moved.Pre
+abbrev moved-below : ℕ → In 10 moved-kinds.ps
+moved-below t = and 10 moved-kinds.ps (falls 10 moved-kinds.ps _<_ μ-moved t) moved.Pre
 
-abbrev over-at : ℕ → In 9 over-kinds.ps
-over-at t = and 9 over-kinds.ps (is 9 over-kinds.ps μ-over t) over.Pre
+abbrev over-at : ℕ → In 10 over-kinds.ps
+over-at t = and 10 over-kinds.ps (is 10 over-kinds.ps μ-over t) over.Pre
 
-abbrev over-below : ℕ → In 9 over-kinds.ps
-over-below t = and 9 over-kinds.ps (falls 9 over-kinds.ps _<_ μ-over t) over.Pre
+abbrev over-below : ℕ → In 10 over-kinds.ps
+over-below t = and 10 over-kinds.ps (falls 10 over-kinds.ps _<_ μ-over t) over.Pre
 
 abbrev moved-calls : ℕ → moved-lts.Claims
 moved-calls t = (
@@ -97,14 +100,15 @@ abbrev atMember : Change → Site → ℕ → List ℕ → ℕ → ℕ → ℕ �
 atMember c w e vars depth dirs m = movedBy c (formAt w e) (bind (idsOf w depth vars) m) dirs
 
 abbrev over-Inv-loop : over-lts.InvT-loop
-over-Inv-loop n types objects links index bodies spans events trace vs dirs rule row depth from of inner₀ new word₀ inner word =
+over-Inv-loop n types objects links index bodies spans floored events trace vs dirs rule row depth from of inner₀ new word₀ inner word =
     let w = siteOf n types objects links index bodies rule in
     (Stands w (getD spans row 0) vs word)
-    × ((c : Change) → Traced c n types objects links events trace → Left w (getD spans row 0) vs depth (atMember c w row vs depth dirs) word)
+    × ((c : Change) → Traced c n types objects links events trace → FlooredRows (c .schema) (rowsAt w) row floored
+    → Left w (getD spans row 0) vs depth (atMember c w row vs depth dirs) word)
     × ((object : ℕ) → set inner depth object ≡ set vs depth object)
 
 abbrev over-μ-loop : over-lts.MeasureT-loop
-over-μ-loop n types objects links index bodies spans events trace vs dirs rule row depth from of inner₀ new word₀ inner word =
+over-μ-loop n types objects links index bodies spans floored events trace vs dirs rule row depth from of inner₀ new word₀ inner word =
     length (leftAt (siteOf n types objects links index bodies rule) (getD spans row 0) vs depth word)
 
 module _ (t : ℕ) where
@@ -158,8 +162,17 @@ module _ (t : ℕ) where
   abbrev parts-start : Parts → Start
   parts-start c = shape-start (c .before)
 
+  abbrev pass-parts : Pass → Parts
+  pass-parts c = c .before .before
+
+  abbrev pass-field2 : (c : Pass) → moved-lts.After-field2 (moved-calls t) (moved-at t) moved.Post
+  pass-field2 c = pass-parts c .before .before
+
+  abbrev pass-field : Pass → Field
+  pass-field c = pass-field2 c .before
+
   abbrev pass-start : Pass → Start
-  pass-start c = parts-start (c .before)
+  pass-start c = parts-start (pass-parts c)
 
   abbrev shape2-start : Shape2 → Start
   shape2-start c = pass-start (c .before)
@@ -183,7 +196,7 @@ module _ (t : ℕ) where
   shape3-first c = c .before .before
 
   abbrev asked-of : Pass → Asked
-  asked-of c = c .before .before .before .before .before .before
+  asked-of c = pass-field c .before .before
 
   -- ---- what is read of the row
 
@@ -217,35 +230,56 @@ module _ (t : ℕ) where
   second-some : (c : Parts) → secondSort (sorts (able (parts-start c))) ≡ 3 → ⊥
   second-some c q = c .if2 .left (second (c .before) ∙ q)
 
-  to-second : (c : Pass) → c .pass .result ≡ passTo (pass-start c .args .set) (op (able (pass-start c))) 1
-  to-second c = c .pass .ensures (op (able (pass-start c))) (coded-field (c .before .before .before .before))
+  -- the marks of floored sums, by a schema
+  abbrev Marks : Start → Change → Type 0
+  Marks s k = FlooredRows (k .schema) (rowsAt (site s)) (s .args .at .1) (now (s .args .floored))
+
+  abbrev floored-here : Start → Bool
+  floored-here s = getD (now (s .args .floored)) (s .args .at .1 - 1) false
+
+  passed-second : (c : Pass) → c .pass .result ≡ passTo (floored-here (pass-start c)) (pass-start c .args .set) (op (able (pass-start c))) 1
+  passed-second c = c .pass .ensures (op (able (pass-start c))) (coded-field (pass-field c))
+
+  to-second : (c : Pass) (k : Change) → Marks (pass-start c) k → let s = pass-start c in
+      c .pass .result ≡ toSecond k (idsOf (site s) (s .args .at .2) (now (s .args .vs))) (s .args .set) (op (able s)) (codeAt (site s) (s .args .at .1)) (rowsAt (site s) (s .args .at .1 - 1)) (formAt (site s) (s .args .at .1 - 1))
+  to-second c k marks =
+      let s = pass-start c in
+      let h = positive (able s) in
+      passed-second c ∙ ap (λ floored. passTo floored (s .args .set) (op (able s)) 1) (marks .each (s .args .at .1 - 1) (omega arith))
 
   second-set : (c : Pass) → c .pass .result < 4
-  second-set c = subst (λ k. k < 4) (sym (to-second c)) (pass-small (op (able (pass-start c))) _)
+  second-set c = subst (λ k. k < 4) (sym (passed-second c)) (pass-small (floored-here (pass-start c)) (op (able (pass-start c))) _)
 
   first : (c : Shape2) → c .shape2 .result ≡ firstSort (sorts (able (shape2-start c)))
-  first c = c .shape2 .ensures (op (able (shape2-start c))) (coded-field (c .before .before .before .before .before))
+  first c = c .shape2 .ensures (op (able (shape2-start c))) (coded-field (pass-field (c .before)))
 
   first-some : (c : Two) → firstSort (sorts (able (two-start c))) ≡ 3 → ⊥
   first-some c q = c .if3 .left (first (c .before) ∙ q)
 
-  to-first : (c : Pass2) → c .pass2 .result ≡ passTo (two-start (pass2-two c) .args .set) (op (able (two-start (pass2-two c)))) 0
-  to-first c = c .pass2 .ensures (op (able (two-start (pass2-two c)))) (coded-field (two-pass (pass2-two c) .before .before .before .before))
+  to-first : (c : Pass2) → c .pass2 .result ≡ passTo false (two-start (pass2-two c) .args .set) (op (able (two-start (pass2-two c)))) 0
+  to-first c = c .pass2 .ensures (op (able (two-start (pass2-two c)))) (coded-field (pass-field (two-pass (pass2-two c))))
 
   binds : (c : Shape3) → c .shape3 .result ≡ firstSort (sorts (able (two-start (first-two (shape3-first c)))))
-  binds c = let two = first-two (shape3-first c) in c .shape3 .ensures (op (able (two-start two))) (coded-field (two-pass two .before .before .before .before))
+  binds c = let two = first-two (shape3-first c) in c .shape3 .ensures (op (able (two-start two))) (coded-field (pass-field (two-pass two)))
 
   -- the parts of the code's field, as it was read
-  code-is : (c : Pass) → c .before .before .before .before .field .result ≡ codeAt (site (pass-start c)) (pass-start c .args .at .1)
-  code-is c = c .before .before .before .before .field .ensures
+  code-is : (c : Pass) → pass-field c .field .result ≡ codeAt (site (pass-start c)) (pass-start c .args .at .1)
+  code-is c = pass-field c .field .ensures
 
-  x-is : (c : Pass) → c .before .before .before .field2 .result ≡ (rowsAt (site (pass-start c)) (pass-start c .args .at .1 - 1)) .x
-  x-is c = c .before .before .before .field2 .ensures
+  x-is : (c : Pass) → pass-field2 c .field2 .result ≡ (rowsAt (site (pass-start c)) (pass-start c .args .at .1 - 1)) .x
+  x-is c = pass-field2 c .field2 .ensures
+
+  -- the marks of the parts' rows
+  part-marks : (s : Start) (k : Change) → Marks s k → FlooredRows (k .schema) (rowsAt (site s)) (s .args .at .1 - 1) (now (s .args .floored))
+  part-marks s k marks = rows-less (omega arith) marks
+
+  first-marks : (c : Two) (k : Change) → let s = two-start c in Marks s k → FlooredRows (k .schema) (rowsAt (site s)) (getD (now (s .args .spans)) (s .args .at .1 - 1) 0) (now (s .args .floored))
+  first-marks c k marks = let below = first-low (able (two-start c)) (second-some (pass-parts (two-pass c))) (first-some c) in rows-less (omega arith) marks
 
   -- ---- the needs of `moved`, in the order of the code
 
   moved-returns : moved-lts.Need-returns (moved-calls t) (moved-at t) moved.Post
-  moved-returns c = let s = c .before .before .before .before .before .before in λ k traced. none-asked k (site s) (s .args .at .1) (now (s .args .vs)) (s .args .at .2) ∙ ap (movesAt k (site s) (s .args .at .1) (now (s .args .vs)) (s .args .at .2)) (sym (c .if1 .taken))
+  moved-returns c = let s = c .before .before .before .before .before .before in λ k traced marks. none-asked k (site s) (s .args .at .1) (now (s .args .vs)) (s .args .at .2) ∙ ap (movesAt k (site s) (s .args .at .1) (now (s .args .vs)) (s .args .at .2)) (sym (c .if1 .taken))
 
   moved-sub-row : moved-lts.Need-sub-row (moved-calls t) (moved-at t) moved.Post
   moved-sub-row c = positive (able (asked-start (c .before)))
@@ -278,30 +312,36 @@ module _ (t : ℕ) where
   moved-returns-2 c =
       let shape = c .before .before .before in
       let s = shape-start shape in
-      λ k traced.
+      λ k traced marks.
       leaf-made (able s) k (s .args .set) (some-set (shape .before .before .before .before)) (small s) (shape .before .before .field .ensures) (shape .before .field2 .ensures) (c .before .field3 .ensures)
       (sym (second shape) ∙ c .before .before .if2 .taken) (c .leaf .ensures k traced)
 
+  moved-cast-from : moved-lts.Need-cast-from (moved-calls t) (moved-at t) moved.Post
+  moved-cast-from c = let h = inside (parts-start c) in omega arith
+
+  moved-element-copy-out-pass : moved-lts.Need-element-copy-out-pass (moved-calls t) (moved-at t) moved.Post
+  moved-element-copy-out-pass c = let h = inside (parts-start c) in omega arith
+
   moved-pass-requires : moved-lts.Need-pass-requires (moved-calls t) (moved-at t) moved.Post
-  moved-pass-requires c κs = (low (c .before .before .before), omega arith, small (parts-start c))
+  moved-pass-requires c κs = let parts = c .before in (low (parts .before .before .before), omega arith, small (parts-start parts))
 
   moved-shape-requires-2 : moved-lts.Need-shape-requires-2 (moved-calls t) (moved-at t) moved.Post
-  moved-shape-requires-2 c κs = (low (c .before .before .before .before), omega arith)
+  moved-shape-requires-2 c κs = (low (pass-field c), omega arith)
 
   moved-moved-requires : moved-lts.Need-moved-requires (moved-calls t) (moved-at t) moved.Post
   moved-moved-requires c κs =
       let pass = one-pass c in
       let s = pass-start pass in
       let h = positive (able s) in
-      (omega (arith, s .pre .0), ((schema s, one-able (able s) (second-some (pass .before)) (sym (first (c .before)) ∙ c .if3 .taken)), s .pre .1 .1, second-set pass))
+      (omega (arith, s .pre .0), ((schema s, one-able (able s) (second-some (pass-parts pass)) (sym (first (c .before)) ∙ c .if3 .taken)), s .pre .1 .1, second-set pass))
 
   moved-returns-3 : moved-lts.Need-returns-3 (moved-calls t) (moved-at t) moved.Post
   moved-returns-3 c =
       let one = c .before .before in
       let pass = one-pass one in
       let s = pass-start pass in
-      λ k traced.
-      one-moves (able s) k (s .args .set) (some-set (asked-of pass)) (small s) (second-some (pass .before)) (to-second pass) (sym (first (one .before)) ∙ one .if3 .taken) (c .before .moved .ensures k traced) (c .if4 .taken)
+      λ k traced marks.
+      one-moves (able s) k (s .args .set) (some-set (asked-of pass)) (small s) (second-some (pass-parts pass)) (to-second pass k marks) (sym (first (one .before)) ∙ one .if3 .taken) (c .before .moved .ensures k traced (part-marks s k marks)) (c .if4 .taken)
 
   moved-returns-4 : moved-lts.Need-returns-4 (moved-calls t) (moved-at t) moved.Post
   moved-returns-4 c =
@@ -309,15 +349,15 @@ module _ (t : ℕ) where
       let one = call .before in
       let pass = one-pass one in
       let s = pass-start pass in
-      λ k traced.
-      one-still (able s) k (s .args .set) (some-set (asked-of pass)) (small s) (second-some (pass .before)) (to-second pass) (sym (first (one .before)) ∙ one .if3 .taken) (call .moved .ensures k traced) (c .before .if4 .left) (code-is pass) (c .if5 .taken)
+      λ k traced marks.
+      one-still (able s) k (s .args .set) (some-set (asked-of pass)) (small s) (second-some (pass-parts pass)) (to-second pass k marks) (sym (first (one .before)) ∙ one .if3 .taken) (call .moved .ensures k traced (part-marks s k marks)) (c .before .if4 .left) (code-is pass) (c .if5 .taken)
 
   moved-member-set-requires : moved-lts.Need-member-set-requires (moved-calls t) (moved-at t) moved.Post
   moved-member-set-requires c κs =
       let one = c .before .before .before in
       let pass = one-pass one in
       let s = pass-start pass in
-      let only = one-able (able s) (second-some (pass .before)) (sym (first (one .before)) ∙ one .if3 .taken) in
+      let only = one-able (able s) (second-some (pass-parts pass)) (sym (first (one .before)) ∙ one .if3 .taken) in
       (ready only collection (sums-here (rowsAt (site s)) (s .args .at .1 - 1) (last-sound (able s)) (sym (code-is pass) ∙ c .if5 .left)), s .pre .1 .1)
 
   moved-returns-5 : moved-lts.Need-returns-5 (moved-calls t) (moved-at t) moved.Post
@@ -326,12 +366,9 @@ module _ (t : ℕ) where
       let one = call .before in
       let pass = one-pass one in
       let s = pass-start pass in
-      λ k traced.
-      one-sums (able s) k (s .args .set) (some-set (asked-of pass)) (small s) (second-some (pass .before)) (to-second pass) (sym (first (one .before)) ∙ one .if3 .taken) (call .moved .ensures k traced) (c .before .before .if4 .left) (code-is pass) (c .before .if5 .left) (x-is pass)
-      (c .member-set .ensures k traced ∙ ap (any (λ m. cellMoves k m (pass .before .before .before .field2 .result))) (members-end (site s) traced (s .args .at .1 - 1) (now (s .args .vs)) (s .args .at .2) (s .args .set)))
-
-  moved-cast-from : moved-lts.Need-cast-from (moved-calls t) (moved-at t) moved.Post
-  moved-cast-from c = let h = inside (two-start c) in omega arith
+      λ k traced marks.
+      one-sums (able s) k (s .args .set) (some-set (asked-of pass)) (small s) (second-some (pass-parts pass)) (to-second pass k marks) (sym (first (one .before)) ∙ one .if3 .taken) (call .moved .ensures k traced (part-marks s k marks)) (c .before .before .if4 .left) (code-is pass) (c .before .if5 .left) (x-is pass)
+      (c .member-set .ensures k traced ∙ ap (any (λ m. cellMoves k m (pass-field2 pass .field2 .result))) (members-end (site s) traced (s .args .at .1 - 1) (now (s .args .vs)) (s .args .at .2) (s .args .set)))
 
   moved-mul-if7 : moved-lts.Need-mul-if7 (moved-calls t) (moved-at t) moved.Post
   moved-mul-if7 c = let h = inside (two-start c) in omega arith
@@ -340,15 +377,15 @@ module _ (t : ℕ) where
   moved-element-copy-out-if7 c = let h = inside (two-start c) in omega arith
 
   moved-pass-requires-2 : moved-lts.Need-pass-requires-2 (moved-calls t) (moved-at t) moved.Post
-  moved-pass-requires-2 c κs = let two = c .before in (low (two-pass two .before .before .before .before), omega arith, small (two-start two))
+  moved-pass-requires-2 c κs = let two = c .before in (low (pass-field (two-pass two)), omega arith, small (two-start two))
 
   moved-moved-requires-2 : moved-lts.Need-moved-requires-2 (moved-calls t) (moved-at t) moved.Post
   moved-moved-requires-2 c κs =
       let two = pass2-two c in
       let s = two-start two in
-      let below = first-low (able s) (second-some (two-pass two .before)) (first-some two) in (
+      let below = first-low (able s) (second-some (pass-parts (two-pass two))) (first-some two) in (
         omega (arith, s .pre .0),
-        ((schema s, first-able (able s) (second-some (two-pass two .before)) (first-some two)), s .pre .1 .1, subst (λ k. k < 4) (sym (to-first c)) (pass-small (op (able s)) _)),
+        ((schema s, first-able (able s) (second-some (pass-parts (two-pass two))) (first-some two)), s .pre .1 .1, subst (λ k. k < 4) (sym (to-first c)) (pass-small false (op (able s)) _)),
       )
 
   moved-returns-6 : moved-lts.Need-returns-6 (moved-calls t) (moved-at t) moved.Post
@@ -356,11 +393,11 @@ module _ (t : ℕ) where
       let call = c .before in
       let two = first-two call in
       let s = two-start two in
-      λ k traced.
-      first-moves (able s) k (s .args .set) (some-set (asked-of (two-pass two))) (small s) (second-some (two-pass two .before)) (to-second (two-pass two)) (first-some two) refl (to-first (call .before)) (call .moved2 .ensures k traced) (c .if6 .taken)
+      λ k traced marks.
+      first-moves (able s) k (s .args .set) (some-set (asked-of (two-pass two))) (small s) (second-some (pass-parts (two-pass two))) (to-second (two-pass two) k marks) (first-some two) refl (to-first (call .before)) (call .moved2 .ensures k traced (first-marks two k marks)) (c .if6 .taken)
 
   moved-shape-requires-3 : moved-lts.Need-shape-requires-3 (moved-calls t) (moved-at t) moved.Post
-  moved-shape-requires-3 c κs = (low (two-pass (first-two (c .before)) .before .before .before .before), omega arith)
+  moved-shape-requires-3 c κs = (low (pass-field (two-pass (first-two (c .before)))), omega arith)
 
   moved-moved-requires-3 : moved-lts.Need-moved-requires-3 (moved-calls t) (moved-at t) moved.Post
   moved-moved-requires-3 c κs =
@@ -369,7 +406,7 @@ module _ (t : ℕ) where
       let s = two-start two in
       let h = positive (able s) in (
         omega (arith, s .pre .0),
-        ((schema s, plain-able (able s) (second-some (two-pass two .before)) (first-some two) (λ q. c .if7 .taken (binds shape ∙ q))), s .pre .1 .1, second-set (two-pass two)),
+        ((schema s, plain-able (able s) (second-some (pass-parts (two-pass two))) (first-some two) (λ q. c .if7 .taken (binds shape ∙ q))), s .pre .1 .1, second-set (two-pass two)),
       )
 
   moved-returns-7 : moved-lts.Need-returns-7 (moved-calls t) (moved-at t) moved.Post
@@ -378,8 +415,8 @@ module _ (t : ℕ) where
       let call = shape3-first shape in
       let two = first-two call in
       let s = two-start two in
-      λ k traced.
-      plain-moves (able s) k (s .args .set) (some-set (asked-of (two-pass two))) (small s) (second-some (two-pass two .before)) (to-second (two-pass two)) (first-some two) refl (to-first (call .before)) (call .moved2 .ensures k traced) (shape .before .if6 .left) (λ q. c .before .if7 .taken (binds shape ∙ q)) (c .moved3 .ensures k traced)
+      λ k traced marks.
+      plain-moves (able s) k (s .args .set) (some-set (asked-of (two-pass two))) (small s) (second-some (pass-parts (two-pass two))) (to-second (two-pass two) k marks) (first-some two) refl (to-first (call .before)) (call .moved2 .ensures k traced (first-marks two k marks)) (shape .before .if6 .left) (λ q. c .before .if7 .taken (binds shape ∙ q)) (c .moved3 .ensures k traced (part-marks s k marks))
 
   moved-over-requires : moved-lts.Need-over-requires (moved-calls t) (moved-at t) moved.Post
   moved-over-requires c κs =
@@ -387,7 +424,7 @@ module _ (t : ℕ) where
       let two = first-two (shape3-first shape) in
       let s = two-start two in (
         omega (arith, s .pre .0),
-        ((schema s, over-able (able s) (second-some (two-pass two .before)) (first-some two) (sym (binds shape) ∙ c .if7 .left)), s .pre .1 .1, second-set (two-pass two)),
+        ((schema s, over-able (able s) (second-some (pass-parts (two-pass two))) (first-some two) (sym (binds shape) ∙ c .if7 .left)), s .pre .1 .1, second-set (two-pass two)),
       )
 
   moved-returns-8 : moved-lts.Need-returns-8 (moved-calls t) (moved-at t) moved.Post
@@ -397,9 +434,9 @@ module _ (t : ℕ) where
       let two = first-two call in
       let s = two-start two in
       let start = getD (now (s .args .spans)) (s .args .at .1 - 1) 0 in
-      λ k traced.
-      over-moves (able s) k (s .args .set) (some-set (asked-of (two-pass two))) (small s) (second-some (two-pass two .before)) (to-second (two-pass two)) (first-some two) refl (to-first (call .before)) (call .moved2 .ensures k traced) (shape .before .if6 .left) (sym (binds shape) ∙ c .before .if7 .left)
-      (c .over .ensures k traced ∙ ap (λ l. movesOver k (site s) (s .args .at .1 - 1) (now (s .args .vs)) (s .args .at .2) l (two-pass two .pass .result)) (members-end (site s) traced start (now (s .args .vs)) (s .args .at .2) (s .args .set)))
+      λ k traced marks.
+      over-moves (able s) k (s .args .set) (some-set (asked-of (two-pass two))) (small s) (second-some (pass-parts (two-pass two))) (to-second (two-pass two) k marks) (first-some two) refl (to-first (call .before)) (call .moved2 .ensures k traced (first-marks two k marks)) (shape .before .if6 .left) (sym (binds shape) ∙ c .before .if7 .left)
+      (c .over .ensures k traced marks ∙ ap (λ l. movesOver k (site s) (s .args .at .1 - 1) (now (s .args .vs)) (s .args .at .2) l (two-pass two .pass .result)) (members-end (site s) traced start (now (s .args .vs)) (s .args .at .2) (s .args .set)))
 
   -- ---- places of `over`
 
@@ -442,6 +479,9 @@ module _ (t : ℕ) where
   orow : (s : Begin) → opart s < 64
   orow s = let h = oable s .positive in omega (arith, oable s .few)
 
+  omarks : (s : Begin) (k : Change) → FlooredRows (k .schema) (rowsAt (osite s)) (s .args .at .1) (now (s .args .floored)) → FlooredRows (k .schema) (rowsAt (osite s)) (opart s) (now (s .args .floored))
+  omarks s k marks = rows-less (omega arith) marks
+
   -- the second part with the member as one more variable
   at-member : (s : Begin) (k : Change) (object : ℕ) (inner : List ℕ) → inner ≡ set (now (s .args .vs)) (s .args .at .2) object → movesAt k (osite s) (opart s) inner (s .args .at .2 + 1) (s .args .set) ≡ test s k (idIn (now (s .args .objects)) object)
   unfolding movesAt
@@ -457,11 +497,11 @@ module _ (t : ℕ) where
   over-cast-from : over-lts.Need-cast-from (over-calls t) (over-at t) over.Post over-Inv-loop over-μ-loop
   over-cast-from c = let h = orow (known-begin c) in omega arith
 
-  over-mul-t26 : over-lts.Need-mul-t26 (over-calls t) (over-at t) over.Post over-Inv-loop over-μ-loop
-  over-mul-t26 c = let h = orow (known-begin c) in omega arith
+  over-mul-t27 : over-lts.Need-mul-t27 (over-calls t) (over-at t) over.Post over-Inv-loop over-μ-loop
+  over-mul-t27 c = let h = orow (known-begin c) in omega arith
 
-  over-element-copy-out-t29 : over-lts.Need-element-copy-out-t29 (over-calls t) (over-at t) over.Post over-Inv-loop over-μ-loop
-  over-element-copy-out-t29 c = let h = orow (known-begin c) in omega arith
+  over-element-copy-out-t30 : over-lts.Need-element-copy-out-t30 (over-calls t) (over-at t) over.Post over-Inv-loop over-μ-loop
+  over-element-copy-out-t30 c = let h = orow (known-begin c) in omega arith
 
   over-cast-new : over-lts.Need-cast-new (over-calls t) (over-at t) over.Post over-Inv-loop over-μ-loop
   over-cast-new c = let h = oable (known-begin (c .before .before)) .deep in omega arith
@@ -472,7 +512,7 @@ module _ (t : ℕ) where
   over-loop-holds : over-lts.Need-loop-holds (over-calls t) (over-at t) over.Post over-Inv-loop over-μ-loop
   over-loop-holds c =
       let s = known-begin (c .before .before .before) in
-      (c .begin .ensures .stands, (λ k traced. any-starts (osite s) (from-row s) (now (s .args .vs)) (s .args .at .2) (test s k) (c .begin .ensures)), λ object. refl)
+      (c .begin .ensures .stands, (λ k traced marks. any-starts (osite s) (from-row s) (now (s .args .vs)) (s .args .at .2) (test s k) (c .begin .ensures)), λ object. refl)
 
   over-next-requires : over-lts.Need-next-requires (over-calls t) (over-at t) over.Post over-Inv-loop over-μ-loop
   over-next-requires c κs = (oable (loop-begin c) .first, c .loop .inv .0)
@@ -487,7 +527,7 @@ module _ (t : ℕ) where
   over-returns c =
       let at-loop = c .before .before .before in
       let s = loop-begin at-loop in
-      λ k traced. any-ends (osite s) (from-row s) (now (s .args .vs)) (s .args .at .2) (test s k) (at-loop .loop .word) (at-loop .loop .inv .1 k traced) (c .before .before .next .ensures .done (c .enum-told .given .1))
+      λ k traced marks. any-ends (osite s) (from-row s) (now (s .args .vs)) (s .args .at .2) (test s k) (at-loop .loop .word) (at-loop .loop .inv .1 k traced (omarks s k marks)) (c .before .before .next .ensures .done (c .enum-told .given .1))
 
   over-mul-inner : over-lts.Need-mul-inner (over-calls t) (over-at t) over.Post over-Inv-loop over-μ-loop
   over-mul-inner c = let h = oable (loop-begin (turn c)) .deep in omega arith
@@ -512,7 +552,9 @@ module _ (t : ℕ) where
       let at-loop = turn told in
       let s = loop-begin at-loop in
       let went = told .before .before .before .next .ensures .went _ _ (told .before .step .given .1) in
-      λ k traced. any-stops (osite s) (from-row s) (now (s .args .vs)) (s .args .at .2) (test s k) (at-loop .loop .word) (at-loop .loop .inv .1 k traced) went (c .before .moved .ensures k traced ∙ at-member s k _ _ (at-loop .loop .inv .2 _)) (c .if1 .taken)
+      λ k traced marks.
+      any-stops (osite s) (from-row s) (now (s .args .vs)) (s .args .at .2) (test s k) (at-loop .loop .word) (at-loop .loop .inv .1 k traced (omarks s k marks)) went
+      (c .before .moved .ensures k traced (omarks s k marks) ∙ at-member s k _ _ (at-loop .loop .inv .2 _)) (c .if1 .taken)
 
   over-loop-less : over-lts.Need-loop-less (over-calls t) (over-at t) over.Post over-Inv-loop over-μ-loop
   over-loop-less c =
@@ -525,19 +567,19 @@ module _ (t : ℕ) where
       let at-loop = turn told in
       let s = loop-begin at-loop in
       let went = told .before .before .before .next .ensures .went _ _ (told .before .step .given .1) in
-      (went .stands, (λ k traced. any-goes-on (osite s) (from-row s) (now (s .args .vs)) (s .args .at .2) (test s k) (at-loop .loop .word) (at-loop .loop .inv .1 k traced) went (c .before .moved .ensures k traced ∙ at-member s k _ _ (at-loop .loop .inv .2 _)) (c .if1 .left)), λ object. set-set (at-loop .loop .inner) (s .args .at .2) _ object ∙ at-loop .loop .inv .2 object)
+      (went .stands, (λ k traced marks. any-goes-on (osite s) (from-row s) (now (s .args .vs)) (s .args .at .2) (test s k) (at-loop .loop .word) (at-loop .loop .inv .1 k traced marks) went (c .before .moved .ensures k traced marks ∙ at-member s k _ _ (at-loop .loop .inv .2 _)) (c .if1 .left)), λ object. set-set (at-loop .loop .inner) (s .args .at .2) _ object ∙ at-loop .loop .inv .2 object)
 
 pub +moved+over-spec : {M : Type 1} → statement M
 +moved+over-spec =
     close μ-moved μ-over
     (λ t. moved-lts.spec (moved-calls t) (moved-at t) moved.Post
     (moved-returns t) (moved-sub-row t) (moved-field-requires t) (moved-field-requires-2 t) (moved-shape-requires t) (moved-field-requires-3 t)
-    (moved-leaf-requires t) (moved-returns-2 t) (moved-pass-requires t) (moved-shape-requires-2 t) (moved-moved-requires t)
-    (moved-returns-3 t) (moved-returns-4 t) (moved-member-set-requires t) (moved-returns-5 t) (moved-cast-from t) (moved-mul-if7 t)
+    (moved-leaf-requires t) (moved-returns-2 t) (moved-cast-from t) (moved-element-copy-out-pass t) (moved-pass-requires t) (moved-shape-requires-2 t) (moved-moved-requires t)
+    (moved-returns-3 t) (moved-returns-4 t) (moved-member-set-requires t) (moved-returns-5 t) (moved-mul-if7 t)
     (moved-element-copy-out-if7 t) (moved-pass-requires-2 t) (moved-moved-requires-2 t) (moved-returns-6 t) (moved-shape-requires-3 t)
     (moved-moved-requires-3 t) (moved-returns-7 t) (moved-over-requires t) (moved-returns-8 t))
     (λ t. over-lts.spec (over-calls t) (over-at t) over.Post over-Inv-loop over-μ-loop
-    (over-sub-row t) (over-cast-from t) (over-mul-t26 t) (over-element-copy-out-t29 t) (over-cast-new t) (over-begin-requires t)
+    (over-sub-row t) (over-cast-from t) (over-mul-t27 t) (over-element-copy-out-t30 t) (over-cast-new t) (over-begin-requires t)
     (over-loop-holds t) (over-next-requires t) (over-enum-known-step t) (over-enum-told t) (over-returns t) (over-mul-inner t)
     (over-array-write-inner t) (over-add-deeper t) (over-moved-requires t) (over-returns-2 t) (over-loop-less t) (over-loop-again t)
     )
