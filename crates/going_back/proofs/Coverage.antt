@@ -15,7 +15,7 @@ use Rattle.meaning.specs.Schema.{Schema, knownRole}
 use Rattle.meaning.specs.Register.{isUnder, farEnds}
 use Rattle.meaning.specs.Forms.{Sort, truth, collection, Form, compare, negate, connect, quantify, kind, num, cell, size, sum, combine, role, all, select, bind, variable, memberType, wellTyped, Rule}
 use Rattle.meaning.specs.Meaning.{meaning}
-use Rattle.meaning.specs.Reach.{Change, Direction, up, down, opposite, Passing, same, reversed, either, through, leftOf, rightOf, firstTruth, secondTruth, sourceOf, secondTerm, roleMoves, cellMoves, kindMoves, moves, broughtIn, selected}
+use Rattle.meaning.specs.Reach.{Change, Direction, up, down, opposite, Passing, same, reversed, either, through, leftOf, rightOf, firstTruth, secondTruth, sourceOf, secondTerm, sumSource, flooredSum, roleMoves, cellMoves, kindMoves, moves, broughtIn, selected}
 use Rattle.meaning.proofs.Lists.{or-left, or-right, any-of, any-cases, keep-from}
 use Rattle.going_back.specs.Back.{leadsInto, throughMembers, reached, candidate}
 
@@ -107,7 +107,7 @@ module _ (c : Change) where
   covered (size k) ts vs n w i d t = covered k ts vs n w i d t
   covered (sum k j) ts vs n w i d t =
       let h = and-yes (wellTyped S ts k) _ w .0 in
-      members-found vs n either (moves c k vs) (reached c k n) (λ x. cellMoves c x j) (meaning (S .types) (c .end) k vs) (leadsInto c k (λ x. cellMoves c x j)) d (covered k ts vs n h i) (led k ts vs n h i (λ x. cellMoves c x j)) t
+      members-found vs n (sumSource (flooredSum S k j)) (moves c k vs) (reached c k n) (λ x. cellMoves c x j) (meaning (S .types) (c .end) k vs) (leadsInto c k (λ x. cellMoves c x j)) d (covered k ts vs n h i) (led k ts vs n h i (λ x. cellMoves c x j)) t
   covered (combine o a b) ts vs n w i d t =
       let ws = and-yes (wellTyped S ts a) (wellTyped S ts b) w in
       two-found vs n same (secondTerm o) (moves c a vs) (moves c b vs) (reached c a n) (reached c b n) d (covered a ts vs n (ws .0) i) (covered b ts vs n (ws .1) i) t

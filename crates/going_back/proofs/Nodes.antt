@@ -9,7 +9,7 @@ use borrow.Author.Tests.{eq-eqb, ne-eqb}
 use Rattle.meaning.specs.Lists.{any}
 use Rattle.meaning.specs.Register.{instances, farEnds}
 use Rattle.meaning.specs.Forms.{Sort, truth, collection, Form, role, all, select}
-use Rattle.meaning.specs.Reach.{Change, Direction, Passing, same, reversed, either, through, leftOf, rightOf, firstTruth, secondTruth, sourceOf, secondTerm, cellMoves}
+use Rattle.meaning.specs.Reach.{Change, Direction, Passing, same, reversed, through, leftOf, rightOf, firstTruth, secondTruth, sourceOf, secondTerm, sumSource, flooredSum, cellMoves}
 use Rattle.tables.specs.Codes.{Operator, comparing, negating, connecting, quantifying, kindOf, literal, cellOf, sizeOf, sumOf, combining, roleOf, allOf, selecting, codeOf, shapeOf}
 use Rattle.tables.specs.Bodies.{BodyRow, Part, part, asTruth, asNumber, asCollection, formOf, ending, firstPart, secondPart}
 use Rattle.tables.proofs.Readings.{node, code-of, sorted, sorted-parts, is-truth, is-number, is-collection}
@@ -18,9 +18,10 @@ use Rattle.directions.specs.Passes.{firstPassing, secondPassing}
 use Rattle.directions.proofs.Sets.{through-some, some-or}
 use Rattle.directions.proofs.Passes.{first-passed, second-passed}
 use Rattle.body_rows.specs.Marks.{firstSort, secondSort}
+use Rattle.typing.specs.Types.{memberOf}
 use Rattle.typing.proofs.Types.{operatorHere, partsHere}
 use Rattle.form_marks.proofs.Nodes.{passTo}
-use Rattle.reach.proofs.Nodes.{any-some, always}
+use Rattle.reach.proofs.Nodes.{any-some, always, floors, toSecond}
 use Rattle.going_back.specs.Back.{leadsInto, throughMembers, reached, partReached, reachedBy, leafReached}
 
 module _ (c : Change) (set : ℕ) (small : set < 4) where
@@ -50,55 +51,56 @@ module _ (c : Change) (n set v u : ℕ) where
   abbrev pub nodeReached : List Sort → Operator → ℕ → BodyRow → Part → Part → Bool
   nodeReached parts o code r a b =
       cond (eqb (secondSort parts) 3) (someOf set (leafReached c code (r .x) (r .y) v u))
-      (cond (eqb (firstSort parts) 3) (reachedBy c b n (passTo set o 1) v u || sumReached code (r .x) b)
-      (reachedBy c a n (passTo set o 0) v u || secondReached (firstSort parts) (passTo set o 1) a b))
+      (cond (eqb (firstSort parts) 3) (reachedBy c b n (toSecond c set o code r b) v u || sumReached code (r .x) b)
+      (reachedBy c a n (passTo false set o 0) v u || secondReached (firstSort parts) (toSecond c set o code r b) a b))
 
   module _ (some-set : 0 < set) (small : set < 4) where
     -- a part of whichever depth, at whichever variable and id
-    second : {s : Sort} (o : Operator) (p : Passing) (m w x : ℕ) (b : Part) (f : Form s) → secondPassing o ≡ some p → b ≡ part s f → reachedBy c b m (passTo set o 1) w x ≡ someOf set (through _||_ p (reached c f m w x))
+    second : {s : Sort} (floored : Bool) (o : Operator) (p : Passing) (m w x : ℕ) (b : Part) (f : Form s) → secondPassing floored o ≡ some p → b ≡ part s f → reachedBy c b m (passTo floored set o 1) w x ≡ someOf set (through _||_ p (reached c f m w x))
     unfolding partReached
-    second o p m w x b f e q = ap₂ (λ y k. reachedBy c y m k w x) q (second-passed o set small p e) ∙ sym (through-some (reached c f m w x) p set small)
+    second floored o p m w x b f e q = ap₂ (λ y k. reachedBy c y m k w x) q (second-passed floored o set small p e) ∙ sym (through-some (reached c f m w x) p set small)
 
-    first : {s : Sort} (o : Operator) (p : Passing) (a : Part) (f : Form s) → firstPassing o ≡ some p → a ≡ part s f → reachedBy c a n (passTo set o 0) v u ≡ someOf set (through _||_ p (reached c f n v u))
+    first : {s : Sort} (o : Operator) (p : Passing) (a : Part) (f : Form s) → firstPassing o ≡ some p → a ≡ part s f → reachedBy c a n (passTo false set o 0) v u ≡ someOf set (through _||_ p (reached c f n v u))
     unfolding partReached
-    first o p a f e q = ap₂ (λ y k. reachedBy c y n k v u) q (first-passed o set small p e) ∙ sym (through-some (reached c f n v u) p set small)
+    first o p a f e q = ap₂ (λ y k. reachedBy c y n k v u) q (first-passed false o set small p e) ∙ sym (through-some (reached c f n v u) p set small)
 
-    two : {s t : Sort} (o : Operator) (p q : Passing) (a b : Part) (f : Form s) (g : Form t) → firstPassing o ≡ some p → secondPassing o ≡ some q → a ≡ part s f → b ≡ part t g
-        → (reachedBy c a n (passTo set o 0) v u || reachedBy c b n (passTo set o 1) v u) ≡ someOf set (λ d. through _||_ p (reached c f n v u) d || through _||_ q (reached c g n v u) d)
-    two o p q a b f g e h x y = ap₂ _||_ (first o p a f e x) (second o q n v u b g h y) ∙ sym (some-or (through _||_ p (reached c f n v u)) (through _||_ q (reached c g n v u)) set small)
+    two : {s t : Sort} (floored : Bool) (o : Operator) (p q : Passing) (a b : Part) (f : Form s) (g : Form t) → firstPassing o ≡ some p → secondPassing floored o ≡ some q → a ≡ part s f → b ≡ part t g
+        → (reachedBy c a n (passTo false set o 0) v u || reachedBy c b n (passTo floored set o 1) v u) ≡ someOf set (λ d. through _||_ p (reached c f n v u) d || through _||_ q (reached c g n v u) d)
+    two floored o p q a b f g e h x y = ap₂ _||_ (first o p a f e x) (second floored o q n v u b g h y) ∙ sym (some-or (through _||_ p (reached c f n v u)) (through _||_ q (reached c g n v u)) set small)
 
     -- a collection, and a truth at its members
-    over : (o : Operator) (p : Passing) (a b : Part) (f : Form collection) (g : Form truth) → firstPassing o ≡ some p → secondPassing o ≡ some same → a ≡ part collection f → b ≡ part truth g
-        → (reachedBy c a n (passTo set o 0) v u || throughMembers c (asCollection a) n (reachedBy c b (suc n) (passTo set o 1)) v u)
+    over : (floored : Bool) (o : Operator) (p : Passing) (a b : Part) (f : Form collection) (g : Form truth) → firstPassing o ≡ some p → secondPassing floored o ≡ some same → a ≡ part collection f → b ≡ part truth g
+        → (reachedBy c a n (passTo false set o 0) v u || throughMembers c (asCollection a) n (reachedBy c b (suc n) (passTo floored set o 1)) v u)
         ≡ someOf set (λ d. through _||_ p (reached c f n v u) d || throughMembers c f n (λ w x. reached c g (suc n) w x d) v u)
     unfolding asCollection
-    over o p a b f g e h x y =
+    over floored o p a b f g e h x y =
         let body : Direction → ℕ → ℕ → Bool = λ d w z. reached c g (suc n) w z d in
         ap₂ _||_ (first o p a f e x)
-        (ap₂ (λ k r. throughMembers c k n r v u) (ap asCollection x) (λ i w z. second o same (suc n) w z b g h y i)
+        (ap₂ (λ k r. throughMembers c k n r v u) (ap asCollection x) (λ i w z. second floored o same (suc n) w z b g h y i)
         ∙ ap (λ k. someOf set (reached c g (suc n) v u) || k) (sym (leads-some c set small f (λ z d. body d n z) v u))
         ∙ sym (some-or (λ d. body d v u) (λ d. leadsInto c f (body d n) v u) set small))
         ∙ sym (some-or (through _||_ p (reached c f n v u)) (λ d. throughMembers c f n (body d) v u) set small)
 
     node-reached : (o : Operator) (r : BodyRow) (a b : Part) → sorted ((shapeOf o) .parts) a b → nodeReached ((shapeOf o) .parts) o (codeOf o) r a b ≡ reachedBy c (formOf o r a b) n set v u
-    unfolding shapeOf codeOf formOf partReached leafReached reached firstPassing secondPassing
-    node-reached (comparing o) r a b t = two (comparing o) (leftOf o) (rightOf o) a b (asNumber a) (asNumber b) refl refl (is-number a (t .0)) (is-number b (t .1))
-    node-reached negating r a b t = or-false _ ∙ second negating reversed n v u b (asTruth b) refl (is-truth b t)
-    node-reached (connecting o) r a b t = two (connecting o) (firstTruth o) (secondTruth o) a b (asTruth a) (asTruth b) refl refl (is-truth a (t .0)) (is-truth b (t .1))
-    node-reached (quantifying q) r a b t = over (quantifying q) (sourceOf q) a b (asCollection a) (asTruth b) refl refl (is-collection a (t .0)) (is-truth b (t .1))
+    unfolding shapeOf codeOf formOf memberOf partReached leafReached reached firstPassing secondPassing
+    node-reached (comparing o) r a b t = two (floors c (comparing o) r b) (comparing o) (leftOf o) (rightOf o) a b (asNumber a) (asNumber b) refl refl (is-number a (t .0)) (is-number b (t .1))
+    node-reached negating r a b t = or-false _ ∙ second (floors c negating r b) negating reversed n v u b (asTruth b) refl (is-truth b t)
+    node-reached (connecting o) r a b t = two (floors c (connecting o) r b) (connecting o) (firstTruth o) (secondTruth o) a b (asTruth a) (asTruth b) refl refl (is-truth a (t .0)) (is-truth b (t .1))
+    node-reached (quantifying q) r a b t = over (floors c (quantifying q) r b) (quantifying q) (sourceOf q) a b (asCollection a) (asTruth b) refl refl (is-collection a (t .0)) (is-truth b (t .1))
     node-reached kindOf r a b t = refl
     node-reached literal r a b t = refl
     node-reached cellOf r a b t = refl
-    node-reached sizeOf r a b t = or-false _ ∙ second sizeOf same n v u b (asCollection b) refl (is-collection b t)
+    node-reached sizeOf r a b t = or-false _ ∙ second (floors c sizeOf r b) sizeOf same n v u b (asCollection b) refl (is-collection b t)
     node-reached sumOf r a b t =
         let f = asCollection b in
+        let floored = flooredSum (c .schema) f (r .x) in
         let cells = leadsInto c f (λ y. cellMoves c y (r .x)) v u in
-        ap₂ _||_ (second sumOf either n v u b f refl (is-collection b t)) (sym (always set cells some-set small))
-        ∙ sym (some-or (through _||_ either (reached c f n v u)) (λ d. cells) set small)
-    node-reached (combining o) r a b t = two (combining o) same (secondTerm o) a b (asNumber a) (asNumber b) refl refl (is-number a (t .0)) (is-number b (t .1))
+        ap₂ _||_ (second floored sumOf (sumSource floored) n v u b f refl (is-collection b t)) (sym (always set cells some-set small))
+        ∙ sym (some-or (through _||_ (sumSource floored) (reached c f n v u)) (λ d. cells) set small)
+    node-reached (combining o) r a b t = two (floors c (combining o) r b) (combining o) same (secondTerm o) a b (asNumber a) (asNumber b) refl refl (is-number a (t .0)) (is-number b (t .1))
     node-reached roleOf r a b t = refl
     node-reached allOf r a b t = refl
-    node-reached selecting r a b t = over selecting same a b (asCollection a) (asTruth b) refl refl (is-collection a (t .0)) (is-truth b (t .1))
+    node-reached selecting r a b t = over (floors c selecting r b) selecting same a b (asCollection a) (asTruth b) refl refl (is-collection a (t .0)) (is-truth b (t .1))
 
 -- ---- the form that ends with a row, by what the code reads of the row
 
@@ -129,8 +131,8 @@ module _ (rows : ℕ → BodyRow) (i : ℕ) (sound : T ((ending rows (suc i)) .s
   leaf-here e = simp (eq-eqb (secondSort sorts) 3 e) at reached-here
 
   module _ (m : secondSort sorts ≡ 3 → ⊥) where
-    pub one-here : firstSort sorts ≡ 3 → (reachedBy c b n (passTo set op 1) v u || sumReached c n set v u ((rows i) .code) ((rows i) .x) b) ≡ whole
+    pub one-here : firstSort sorts ≡ 3 → (reachedBy c b n (toSecond c set op ((rows i) .code) (rows i) b) v u || sumReached c n set v u ((rows i) .code) ((rows i) .x) b) ≡ whole
     one-here e = simp (ne-eqb (secondSort sorts) 3 m, eq-eqb (firstSort sorts) 3 e) at reached-here
 
-    pub two-here : (firstSort sorts ≡ 3 → ⊥) → (reachedBy c a n (passTo set op 0) v u || secondReached c n set v u (firstSort sorts) (passTo set op 1) a b) ≡ whole
+    pub two-here : (firstSort sorts ≡ 3 → ⊥) → (reachedBy c a n (passTo false set op 0) v u || secondReached c n set v u (firstSort sorts) (toSecond c set op ((rows i) .code) (rows i) b) a b) ≡ whole
     two-here k = simp (ne-eqb (secondSort sorts) 3 m, ne-eqb (firstSort sorts) 3 k) at reached-here

@@ -16,6 +16,7 @@ use Rattle.body_rows.specs.Marks.{firstSort, secondSort}
 use Rattle.form_marks.proofs.Nodes.{passTo}
 use Rattle.walks.specs.Site.{Site, rowsAt, formAt, codeAt}
 use Rattle.reach.specs.Able.{Able}
+use Rattle.reach.proofs.Nodes.{toSecond}
 use Rattle.reach.proofs.Abilities.{whole, last-sound, op, sorts}
 use Rattle.going_back.specs.Back.{leadsInto, throughMembers, reachedBy, leafReached, Covered}
 use Rattle.row_sets.specs.Sets.{GrownBelow}
@@ -44,7 +45,7 @@ module _ {S : Schema} {w : Site} {starts : List ℕ} {e : ℕ} {vars : List ℕ}
   leaf-covers p q z h =
       covered-as (λ v u. (λ i. someOf set (leafReached c (p i) (q i) (z i) v u)) ∙ leaf-here (rowsAt w) (e - 1) (last-sound able) c depth set some-set small v u h ∙ at-end v u)
 
-  module _ (n : secondSort (sorts able) ≡ 3 → ⊥) {dirs : ℕ} (to : dirs ≡ passTo set (op able) 1) where
+  module _ (n : secondSort (sorts able) ≡ 3 → ⊥) {dirs : ℕ} (to : dirs ≡ toSecond c set (op able) (codeAt w e) (rowsAt w (e - 1)) (formAt w (e - 1))) where
     -- ---- one part
 
     module _ (f : firstSort (sorts able) ≡ 3) {r : Bool} {s : List Bool} (still : r ≡ false) (part : Cover (reach (e - 1) dirs) r s) where
@@ -69,7 +70,7 @@ module _ {S : Schema} {w : Site} {starts : List ℕ} {e : ℕ} {vars : List ℕ}
 
     -- ---- two parts
 
-    module _ (m : firstSort (sorts able) ≡ 3 → ⊥) {first to-first : ℕ} (at : first ≡ getD starts (e - 1) 0) (passed : to-first ≡ passTo set (op able) 0) {r : Bool} {s t : List Bool}
+    module _ (m : firstSort (sorts able) ≡ 3 → ⊥) {first to-first : ℕ} (at : first ≡ getD starts (e - 1) 0) (passed : to-first ≡ passTo false set (op able) 0) {r : Bool} {s t : List Bool}
         (few : rows ≤ 1024) (still : r ≡ false) (part : Cover (reach first to-first) r s) (grown : GrownBelow depth s t) where
       -- the first part ends where the second starts
       first-is : formAt w first ≡ (firstPart (rowsAt w) (e - 1)) .form

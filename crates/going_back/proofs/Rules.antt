@@ -9,7 +9,7 @@ use lib.Dec.{T}
 use lib.ListN.{length, getD}
 use mir.Facts.{and-yes}
 use Rattle.meaning.specs.Limits.{maxTypes, maxRelationships}
-use Rattle.meaning.specs.Schema.{Schema}
+use Rattle.meaning.specs.Schema.{Floor, Schema}
 use Rattle.meaning.specs.Forms.{truth, wellTyped, Rule}
 use Rattle.meaning.specs.Reach.{Change, down, quiet, inserted, specialised, broughtIn}
 use Rattle.meaning.proofs.Registers.{RegisterFits}
@@ -43,7 +43,7 @@ module _ (n : Counts) (types rules bodies objects links index : List ℕ) (rule 
   body-form = ap (part truth) (body-ending (rowsAt w) size whole) ∙ sym (is-truth (formAt w size) (whole-body (rowsAt w) size whole .isTruth))
 
   -- what no refusal of a book and a register gives is enough
-  pub rule-able : (relationships : List ℕ) {starts : List ℕ} → let S = schemaOf (n .types) types (n .relationships) relationships in
+  pub rule-able : (fs : List Floor) (relationships : List ℕ) {starts : List ℕ} → let S = schemaOf (n .types) types fs (n .relationships) relationships in
       n .types ≤ maxTypes
       → n .relationships ≤ maxRelationships
       → T (wellTyped S (r .context ∷ []) (r .body))
@@ -53,8 +53,8 @@ module _ (n : Counts) (types rules bodies objects links index : List ℕ) (rule 
       → Starts (bodyOf bodies rule) starts size
       → BodyAble S w starts size
   unfolding ruleRow typedPart
-  rule-able relationships few-types few typed fits indexed words starts row there vars held self =
-      let S : Schema = schemaOf (n .types) types (n .relationships) relationships in
+  rule-able fs relationships few-types few typed fits indexed words starts row there vars held self =
+      let S : Schema = schemaOf (n .types) types fs (n .relationships) relationships in
       let few-roles : length (S .relationships) ≤ maxRelationships = omega (arith, length-rows (relationshipRow relationships) (n .relationships)) in
       let ready = body-ready S w size (wordAt rules 2 rule 0) typed few-roles fits indexed words starts there vars held self in
       record {

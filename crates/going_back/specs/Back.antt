@@ -13,7 +13,7 @@ use Rattle.meaning.specs.Forms.{Sort, collection, Form, compare, negate, connec
 use Rattle.tables.specs.Bodies.{BodyRow, Part, part, asCollection, ending}
 use Rattle.directions.specs.Sets.{someOf}
 use Rattle.walks.specs.Site.{idIn}
-use Rattle.meaning.specs.Reach.{Change, Direction, down, same, reversed, either, through, leftOf, rightOf, firstTruth, secondTruth, sourceOf, secondTerm, roleMoves, allMoves, cellMoves, kindMoves, broughtIn}
+use Rattle.meaning.specs.Reach.{Change, Direction, down, same, reversed, through, leftOf, rightOf, firstTruth, secondTruth, sourceOf, secondTerm, sumSource, flooredSum, roleMoves, allMoves, cellMoves, kindMoves, broughtIn}
 
 -- With u for variable v, the collection below its selects has a member in the set. Over all objects of a type this does not depend on v and u.
 unfoldable pub leadsInto : Change → Form collection → (ℕ → Bool) → (v u : ℕ) → Bool
@@ -36,7 +36,8 @@ reached c (kind w t) n v u d = eqb v w && kindMoves c u t d
 reached c (num z) n v u d = false
 reached c (cell w k) n v u d = eqb v w && cellMoves c u k
 reached c (size k) n v u d = through _||_ same (reached c k n v u) d
-reached c (sum k j) n v u d = through _||_ either (reached c k n v u) d || leadsInto c k (λ x. cellMoves c x j) v u
+reached c (sum k j) n v u d =
+    through _||_ (sumSource (flooredSum (c .schema) k j)) (reached c k n v u) d || leadsInto c k (λ x. cellMoves c x j) v u
 reached c (combine o a b) n v u d = through _||_ same (reached c a n v u) d || through _||_ (secondTerm o) (reached c b n v u) d
 reached c (role w r) n v u d = eqb v w && roleMoves c r u d
 reached c (all t) n v u d = allMoves c t d

@@ -24,6 +24,7 @@ ghost use Rattle.tables.specs.Columns.{registerOf};
 ghost use Rattle.tables.specs.Bodies.{reads, ending, asCollection};
 ghost use Rattle.body_rows.specs.Marks.{bodyOf, Starts};
 ghost use Rattle.directions.specs.Sets.{someOf};
+ghost use Rattle.typing.specs.Types.{FlooredRows};
 ghost use Rattle.walks.specs.Site.{siteOf, formAt, idIn};
 ghost use Rattle.ocl.specs.Ready.{Ready};
 ghost use Rattle.trace_places.specs.Traces.{Traced, Traces};
@@ -215,7 +216,8 @@ fn leaf(
     false
 }
 
-// Goes back from a movement, in some direction of the set, of the form that ends before the place. It answers whether everything is reached.
+// Goes back from a movement, in some direction of the set, of the form that ends before the place. `floored` marks the
+// sums over floored cells. It answers whether everything is reached.
 pub fn back(
     n: Counts,
     types: &[u32],
@@ -224,6 +226,7 @@ pub fn back(
     index: &[u16; 81920],
     bodies: &[u32],
     spans: &[u32; 65],
+    floored: &[bool; 64],
     events: &[u32],
     trace: &[u16; 16675],
     at: Place,
@@ -234,6 +237,7 @@ pub fn back(
         × (Traces n (now types) (now objects) (now links) (now events) (now trace)) × (set < 4) × (length (now sets) ≡ 65536) ⌝ }
     ensures { λ r. ⌜ (GrownBelow (at .2) (now (sets .entry)) (now (sets .exit)))
         × ((c : Change) → Traced c n (now (types .entry)) (now (objects .entry)) (now (links .entry)) (now (events .entry)) (now (trace .entry))
+        → FlooredRows (c .schema) (bodyOf (now (bodies .entry)) (at .0)) (at .1) (now (floored .entry))
         → Covered (reachedBy c (formAt (siteOf n (now (types .entry)) (now (objects .entry)) (now (links .entry)) (now (index .entry)) (now (bodies .entry)) (at .0)) (at .1)) (at .2) set)
         (now (objects .entry)) (n .objects) (at .2) r (now (sets .exit))) ⌝ }
 {
@@ -262,7 +266,8 @@ pub fn back(
             sets,
         );
     }
-    let to = directions::pass(code, directions::SECOND, set);
+    let from = row as usize;
+    let to = directions::pass(code, floored[from], directions::SECOND, set);
     let second = Place(rule, row, depth);
     if shape(code, FIRST) == NONE {
         if back(
@@ -273,6 +278,7 @@ pub fn back(
             index,
             bodies,
             spans,
+            floored,
             events,
             trace,
             second,
@@ -299,9 +305,8 @@ pub fn back(
             sets,
         );
     }
-    let from = row as usize;
     let first = Place(rule, spans[from], depth);
-    let to_first = directions::pass(code, directions::FIRST, set);
+    let to_first = directions::pass(code, false, directions::FIRST, set);
     if back(
         n,
         types,
@@ -310,6 +315,7 @@ pub fn back(
         index,
         bodies,
         spans,
+        floored,
         events,
         trace,
         first,
@@ -327,6 +333,7 @@ pub fn back(
             index,
             bodies,
             spans,
+            floored,
             events,
             trace,
             second,
@@ -342,6 +349,7 @@ pub fn back(
         index,
         bodies,
         spans,
+        floored,
         events,
         trace,
         at,
@@ -359,6 +367,7 @@ fn over(
     index: &[u16; 81920],
     bodies: &[u32],
     spans: &[u32; 65],
+    floored: &[bool; 64],
     events: &[u32],
     trace: &[u16; 16675],
     at: Place,
@@ -369,6 +378,7 @@ fn over(
         × (Traces n (now types) (now objects) (now links) (now events) (now trace)) × (dirs < 4) × (length (now sets) ≡ 65536) ⌝ }
     ensures { λ r. ⌜ (GrownBelow (at .2) (now (sets .entry)) (now (sets .exit)))
         × ((c : Change) → Traced c n (now (types .entry)) (now (objects .entry)) (now (links .entry)) (now (events .entry)) (now (trace .entry))
+        → FlooredRows (c .schema) (bodyOf (now (bodies .entry)) (at .0)) (at .1) (now (floored .entry))
         → Covered (throughMembers c
         (asCollection (formAt (siteOf n (now (types .entry)) (now (objects .entry)) (now (links .entry)) (now (index .entry)) (now (bodies .entry)) (at .0)) (getD (now (spans .entry)) (at .1 - 1) 0)))
         (at .2) (reachedBy c (formAt (siteOf n (now (types .entry)) (now (objects .entry)) (now (links .entry)) (now (index .entry)) (now (bodies .entry)) (at .0)) (at .1 - 1)) (at .2 + 1) dirs))
@@ -387,6 +397,7 @@ fn over(
         index,
         bodies,
         spans,
+        floored,
         events,
         trace,
         inner,

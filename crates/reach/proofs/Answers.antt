@@ -44,7 +44,7 @@ module _ {S : Schema} {w : Site} {starts : List ℕ} {e : ℕ} {vars : List ℕ}
   leaf-made p q z h a =
       a ∙ (λ i. someOf set (leafMoves c ids (p i) (q i) (z i))) ∙ leaf-here (rowsAt w) (e - 1) (last-sound able) c ids set some-set small h ∙ at-end
 
-  module _ (n : secondSort (sorts able) ≡ 3 → ⊥) {dirs : ℕ} (to : dirs ≡ toSecond c ids set (op able) (codeAt w e) (rowsAt w (e - 1)) (formAt w (e - 1))) where
+  module _ (n : secondSort (sorts able) ≡ 3 → ⊥) {dirs : ℕ} (to : dirs ≡ toSecond c set (op able) (codeAt w e) (rowsAt w (e - 1)) (formAt w (e - 1))) where
     -- ---- one part
 
     module _ (f : firstSort (sorts able) ≡ 3) {r : Bool} (part : r ≡ asks (e - 1) dirs) where

@@ -2,6 +2,7 @@
 -- other call is of a part, which ends before.
 use Prim.Native.Nat.{ℕ, _+_, _-_, _≤_, _<_}
 use mathlib.Core.Path.{_≡_, refl, sym, ap, subst, _∙_}
+use mathlib.Core.Bool.{Bool, false}
 use mathlib.Core.Option.{some}
 use native.Mathlib.Omega.{arith}
 use lib.ListN.{getD, set}
@@ -10,13 +11,17 @@ use borrow.Author.Needs.{needs}
 use borrow.Fn.Kinds.{In}
 use borrow.Fn.PlainCycle.{Measures, is, falls, and}
 use Rattle.meaning.specs.Forms.{collection}
+use Rattle.meaning.specs.Reach.{Change}
 use Rattle.tables.specs.Codes.{operatorOf}
 use Rattle.body_rows.specs.Marks.{firstSort, secondSort}
+use Rattle.typing.specs.Types.{FlooredRows}
 use Rattle.typing.proofs.Types.{code-here, sums-here}
+use Rattle.typing.proofs.Floors.{rows-less}
 use Rattle.directions.proofs.Passes.{pass-small}
 use Rattle.form_marks.proofs.Nodes.{passTo}
 use Rattle.walks.specs.Site.{Site, siteOf, rowsAt, formAt, codeAt}
 use Rattle.reach.specs.Able.{Able, LeafAble, OverAble}
+use Rattle.reach.proofs.Nodes.{toSecond}
 use Rattle.reach.proofs.Abilities.{positive, last-sound, op, sorts, coded, ready, leaf-able, deep, one-able, first-low, first-able, plain-able, over-able}
 use Rattle.going_back.specs.Back.{reachedBy}
 use Rattle.going_back.specs.Walkable.{Walkable, OverWalkable}
@@ -41,23 +46,23 @@ use Rattle.going_back.proofs.+back+over.Tie.{close}
 
 -- ---- measures, what each is given at the measure t, and what a call of it asks below t
 
-abbrev μ-back : Measures 9 back-kinds.ps ℕ
-μ-back κs a = a .1 .1 .1 .1 .1 .1 .1 .1 .1 .0 .1 + a .1 .1 .1 .1 .1 .1 .1 .1 .1 .0 .1 + 1
+abbrev μ-back : Measures 10 back-kinds.ps ℕ
+μ-back κs a = a .1 .1 .1 .1 .1 .1 .1 .1 .1 .1 .0 .1 + a .1 .1 .1 .1 .1 .1 .1 .1 .1 .1 .0 .1 + 1
 
-abbrev μ-over : Measures 9 over-kinds.ps ℕ
-μ-over κs a = a .1 .1 .1 .1 .1 .1 .1 .1 .1 .0 .1 + a .1 .1 .1 .1 .1 .1 .1 .1 .1 .0 .1
+abbrev μ-over : Measures 10 over-kinds.ps ℕ
+μ-over κs a = a .1 .1 .1 .1 .1 .1 .1 .1 .1 .1 .0 .1 + a .1 .1 .1 .1 .1 .1 .1 .1 .1 .1 .0 .1
 
-abbrev back-at : ℕ → In 9 back-kinds.ps
-back-at t = and 9 back-kinds.ps (is 9 back-kinds.ps μ-back t) back.Pre
+abbrev back-at : ℕ → In 10 back-kinds.ps
+back-at t = and 10 back-kinds.ps (is 10 back-kinds.ps μ-back t) back.Pre
 
-abbrev back-below : ℕ → In 9 back-kinds.ps
-back-below t = and 9 back-kinds.ps (falls 9 back-kinds.ps _<_ μ-back t) back.Pre
+abbrev back-below : ℕ → In 10 back-kinds.ps
+back-below t = and 10 back-kinds.ps (falls 10 back-kinds.ps _<_ μ-back t) back.Pre
 
-abbrev over-at : ℕ → In 9 over-kinds.ps
-over-at t = and 9 over-kinds.ps (is 9 over-kinds.ps μ-over t) over.Pre
+abbrev over-at : ℕ → In 10 over-kinds.ps
+over-at t = and 10 over-kinds.ps (is 10 over-kinds.ps μ-over t) over.Pre
 
-abbrev over-below : ℕ → In 9 over-kinds.ps
-over-below t = and 9 over-kinds.ps (falls 9 over-kinds.ps _<_ μ-over t) over.Pre
+abbrev over-below : ℕ → In 10 over-kinds.ps
+over-below t = and 10 over-kinds.ps (falls 10 over-kinds.ps _<_ μ-over t) over.Pre
 
 abbrev back-calls : ℕ → back-lts.Claims
 back-calls t = (
@@ -134,8 +139,17 @@ module _ (t : ℕ) where
   abbrev parts-start : Parts → Start
   parts-start c = shape-start (c .before)
 
+  abbrev pass-parts : Pass → Parts
+  pass-parts c = c .before .before
+
+  abbrev pass-field2 : (c : Pass) → back-lts.After-field2 (back-calls t) (back-at t) back.Post
+  pass-field2 c = pass-parts c .before .before
+
+  abbrev pass-field : Pass → Field
+  pass-field c = pass-field2 c .before
+
   abbrev pass-start : Pass → Start
-  pass-start c = parts-start (c .before)
+  pass-start c = parts-start (pass-parts c)
 
   abbrev shape2-start : Shape2 → Start
   shape2-start c = pass-start (c .before)
@@ -162,7 +176,7 @@ module _ (t : ℕ) where
   shape3-first c = c .before .before .before .before
 
   abbrev asked-of : Pass → Asked
-  asked-of c = c .before .before .before .before .before .before
+  asked-of c = pass-field c .before .before
 
   -- ---- what is read of the row
 
@@ -200,14 +214,28 @@ module _ (t : ℕ) where
   second-some : (c : Parts) → secondSort (sorts (able (parts-start c))) ≡ 3 → ⊥
   second-some c q = c .if2 .left (second (c .before) ∙ q)
 
-  to-second : (c : Pass) → c .pass .result ≡ passTo (pass-start c .args .set) (op (able (pass-start c))) 1
-  to-second c = c .pass .ensures (op (able (pass-start c))) (coded-field (c .before .before .before .before))
+  -- the marks of floored sums, by a schema
+  abbrev Marks : Start → Change → Type 0
+  Marks s k = FlooredRows (k .schema) (rowsAt (site s)) (s .args .at .1) (now (s .args .floored))
+
+  abbrev floored-here : Start → Bool
+  floored-here s = getD (now (s .args .floored)) (s .args .at .1 - 1) false
+
+  passed-second : (c : Pass) → c .pass .result ≡ passTo (floored-here (pass-start c)) (pass-start c .args .set) (op (able (pass-start c))) 1
+  passed-second c = c .pass .ensures (op (able (pass-start c))) (coded-field (pass-field c))
+
+  to-second : (c : Pass) (k : Change) → Marks (pass-start c) k → let s = pass-start c in
+      c .pass .result ≡ toSecond k (s .args .set) (op (able s)) (codeAt (site s) (s .args .at .1)) (rowsAt (site s) (s .args .at .1 - 1)) (formAt (site s) (s .args .at .1 - 1))
+  to-second c k marks =
+      let s = pass-start c in
+      let h = positive (able s) in
+      passed-second c ∙ ap (λ floored. passTo floored (s .args .set) (op (able s)) 1) (marks .each (s .args .at .1 - 1) (omega arith))
 
   second-set : (c : Pass) → c .pass .result < 4
-  second-set c = subst (λ k. k < 4) (sym (to-second c)) (pass-small (op (able (pass-start c))) _)
+  second-set c = subst (λ k. k < 4) (sym (passed-second c)) (pass-small (floored-here (pass-start c)) (op (able (pass-start c))) _)
 
   first : (c : Shape2) → c .shape2 .result ≡ firstSort (sorts (able (shape2-start c)))
-  first c = c .shape2 .ensures (op (able (shape2-start c))) (coded-field (c .before .before .before .before .before))
+  first c = c .shape2 .ensures (op (able (shape2-start c))) (coded-field (pass-field (c .before)))
 
   first-none : (c : One) → firstSort (sorts (able (pass-start (one-pass c)))) ≡ 3
   first-none c = sym (first (c .before)) ∙ c .if3 .taken
@@ -215,29 +243,36 @@ module _ (t : ℕ) where
   first-some : (c : Two) → firstSort (sorts (able (two-start c))) ≡ 3 → ⊥
   first-some c q = c .if3 .left (first (c .before) ∙ q)
 
-  to-first : (c : Pass2) → c .pass2 .result ≡ passTo (two-start (pass2-two c) .args .set) (op (able (two-start (pass2-two c)))) 0
-  to-first c = c .pass2 .ensures (op (able (two-start (pass2-two c)))) (coded-field (two-pass (pass2-two c) .before .before .before .before))
+  to-first : (c : Pass2) → c .pass2 .result ≡ passTo false (two-start (pass2-two c) .args .set) (op (able (two-start (pass2-two c)))) 0
+  to-first c = c .pass2 .ensures (op (able (two-start (pass2-two c)))) (coded-field (pass-field (two-pass (pass2-two c))))
 
   binds : (c : Shape3) → c .shape3 .result ≡ firstSort (sorts (able (two-start (first-two (shape3-first c)))))
-  binds c = let two = first-two (shape3-first c) in c .shape3 .ensures (op (able (two-start two))) (coded-field (two-pass two .before .before .before .before))
+  binds c = let two = first-two (shape3-first c) in c .shape3 .ensures (op (able (two-start two))) (coded-field (pass-field (two-pass two)))
 
   -- the fields, as they were read
-  code-is : (c : Pass) → c .before .before .before .before .field .result ≡ codeAt (site (pass-start c)) (pass-start c .args .at .1)
-  code-is c = c .before .before .before .before .field .ensures
+  code-is : (c : Pass) → pass-field c .field .result ≡ codeAt (site (pass-start c)) (pass-start c .args .at .1)
+  code-is c = pass-field c .field .ensures
 
-  x-is : (c : Pass) → c .before .before .before .field2 .result ≡ (rowsAt (site (pass-start c)) (pass-start c .args .at .1 - 1)) .x
-  x-is c = c .before .before .before .field2 .ensures
+  x-is : (c : Pass) → pass-field2 c .field2 .result ≡ (rowsAt (site (pass-start c)) (pass-start c .args .at .1 - 1)) .x
+  x-is c = pass-field2 c .field2 .ensures
 
   -- the only part, which ends before the row
   only : (c : One) → let s = pass-start (one-pass c) in Able (s .pre .1 .0 .schema) (site s) (now (s .args .spans)) (s .args .at .1 - 1) (s .pre .1 .0 .vars) (s .args .at .2)
-  only c = one-able (able (pass-start (one-pass c))) (second-some (one-pass c .before)) (first-none c)
+  only c = one-able (able (pass-start (one-pass c))) (second-some (pass-parts (one-pass c))) (first-none c)
+
+  -- the marks of the parts' rows
+  part-marks : (s : Start) (k : Change) → Marks s k → FlooredRows (k .schema) (rowsAt (site s)) (s .args .at .1 - 1) (now (s .args .floored))
+  part-marks s k marks = rows-less (omega arith) marks
+
+  first-marks : (c : Two) (k : Change) → let s = two-start c in Marks s k → FlooredRows (k .schema) (rowsAt (site s)) (getD (now (s .args .spans)) (s .args .at .1 - 1) 0) (now (s .args .floored))
+  first-marks c k marks = let below = first-low (able (two-start c)) (second-some (pass-parts (two-pass c))) (first-some c) in rows-less (omega arith) marks
 
   -- ---- the needs of `back`, in the order of the code
 
   back-returns : back-lts.Need-returns (back-calls t) (back-at t) back.Post
   back-returns c =
       let s = c .before .before .before .before .before .before .before in
-      (grown-below _ (grown-none _), λ k traced. none-covers k (site s) (s .args .at .1) (s .args .at .2) (c .if1 .taken))
+      (grown-below _ (grown-none _), λ k traced marks. none-covers k (site s) (s .args .at .1) (s .args .at .2) (c .if1 .taken))
 
   back-sub-row : back-lts.Need-sub-row (back-calls t) (back-at t) back.Post
   back-sub-row c = positive (able (asked-start (c .before)))
@@ -274,16 +309,22 @@ module _ (t : ℕ) where
       let shape = leaf .before .before .before .before in
       let s = shape-start shape in (
         grown-below _ (leaf .leaf .ensures .0),
-        λ k traced.
+        λ k traced marks.
             leaf-covers (able s) k (s .args .set) (some-set (shape .before .before .before .before)) (small s) (now (s .args .objects)) (s .args .n .objects) (shape .before .before .field .ensures) (shape .before .field2 .ensures) (leaf .before .before .field3 .ensures)
             (sym (second shape) ∙ leaf .before .before .before .if2 .taken) (leaf .leaf .ensures .1 k traced),
       )
 
+  back-cast-from : back-lts.Need-cast-from (back-calls t) (back-at t) back.Post
+  back-cast-from c = let h = inside (parts-start c) in omega arith
+
+  back-element-copy-out-pass : back-lts.Need-element-copy-out-pass (back-calls t) (back-at t) back.Post
+  back-element-copy-out-pass c = let h = inside (parts-start c) in omega arith
+
   back-pass-requires : back-lts.Need-pass-requires (back-calls t) (back-at t) back.Post
-  back-pass-requires c κs = (low (c .before .before .before), omega arith, small (parts-start c))
+  back-pass-requires c κs = let parts = c .before in (low (parts .before .before .before), omega arith, small (parts-start parts))
 
   back-shape-requires-2 : back-lts.Need-shape-requires-2 (back-calls t) (back-at t) back.Post
-  back-shape-requires-2 c κs = (low (c .before .before .before .before), omega arith)
+  back-shape-requires-2 c κs = (low (pass-field c), omega arith)
 
   back-back-requires : back-lts.Need-back-requires (back-calls t) (back-at t) back.Post
   back-back-requires c κs =
@@ -297,7 +338,7 @@ module _ (t : ℕ) where
   back-same-length-2 c = search needs
 
   back-returns-3 : back-lts.Need-returns-3 (back-calls t) (back-at t) back.Post
-  back-returns-3 c = (c .before .before .before .back .ensures .0, λ k traced. covered-all)
+  back-returns-3 c = (c .before .before .before .back .ensures .0, λ k traced marks. covered-all)
 
   back-same-length-3 : back-lts.Need-same-length-3 (back-calls t) (back-at t) back.Post
   back-same-length-3 c = search needs
@@ -309,8 +350,8 @@ module _ (t : ℕ) where
       let pass = one-pass one in
       let s = pass-start pass in (
         call .back .ensures .0,
-        λ k traced.
-            one-covers (able s) k (s .args .set) (some-set (asked-of pass)) (small s) (now (s .args .objects)) (s .args .n .objects) (second-some (pass .before)) (to-second pass) (first-none one) (c .before .if4 .left) (call .back .ensures .1 k traced) (code-is pass) (c .if5 .taken),
+        λ k traced marks.
+            one-covers (able s) k (s .args .set) (some-set (asked-of pass)) (small s) (now (s .args .objects)) (s .args .n .objects) (second-some (pass-parts pass)) (to-second pass k marks) (first-none one) (c .before .if4 .left) (call .back .ensures .1 k traced (part-marks s k marks)) (code-is pass) (c .if5 .taken),
       )
 
   back-members-requires : back-lts.Need-members-requires (back-calls t) (back-at t) back.Post
@@ -320,7 +361,7 @@ module _ (t : ℕ) where
       let pass = one-pass one in
       let s = pass-start pass in
       let reads = sums-here (rowsAt (site s)) (s .args .at .1 - 1) (last-sound (able s)) (sym (code-is pass) ∙ c .before .if5 .left) in
-      ((s .pre .1 .0 .vars, ready (only one) collection reads), s .pre .1 .1, deep (able s) (second-some (pass .before)), call .back .ensures .0 .long ∙ s .pre .1 .3)
+      ((s .pre .1 .0 .vars, ready (only one) collection reads), s .pre .1 .1, deep (able s) (second-some (pass-parts pass)), call .back .ensures .0 .long ∙ s .pre .1 .3)
 
   back-same-length-4 : back-lts.Need-same-length-4 (back-calls t) (back-at t) back.Post
   back-same-length-4 c = search needs
@@ -334,12 +375,9 @@ module _ (t : ℕ) where
       let pass = one-pass one in
       let s = pass-start pass in (
         below-then (call .back .ensures .0) (sum .members .ensures .0),
-        λ k traced.
-            sum-covers (able s) k (s .args .set) (some-set (asked-of pass)) (small s) (now (s .args .objects)) (s .args .n .objects) (second-some (pass .before)) (to-second pass) (first-none one) (is-sum .before .if4 .left) (call .back .ensures .1 k traced) (few s) (code-is pass) (is-sum .if5 .left) (x-is pass) (sum .members .ensures .0) (sum .members .ensures .1 k traced),
+        λ k traced marks.
+            sum-covers (able s) k (s .args .set) (some-set (asked-of pass)) (small s) (now (s .args .objects)) (s .args .n .objects) (second-some (pass-parts pass)) (to-second pass k marks) (first-none one) (is-sum .before .if4 .left) (call .back .ensures .1 k traced (part-marks s k marks)) (few s) (code-is pass) (is-sum .if5 .left) (x-is pass) (sum .members .ensures .0) (sum .members .ensures .1 k traced),
       )
-
-  back-cast-from : back-lts.Need-cast-from (back-calls t) (back-at t) back.Post
-  back-cast-from c = let h = inside (two-start c) in omega arith
 
   back-mul-if7 : back-lts.Need-mul-if7 (back-calls t) (back-at t) back.Post
   back-mul-if7 c = let h = inside (two-start c) in omega arith
@@ -348,25 +386,25 @@ module _ (t : ℕ) where
   back-element-copy-out-if7 c = let h = inside (two-start c) in omega arith
 
   back-pass-requires-2 : back-lts.Need-pass-requires-2 (back-calls t) (back-at t) back.Post
-  back-pass-requires-2 c κs = let two = c .before in (low (two-pass two .before .before .before .before), omega arith, small (two-start two))
+  back-pass-requires-2 c κs = let two = c .before in (low (pass-field (two-pass two)), omega arith, small (two-start two))
 
   back-back-requires-2 : back-lts.Need-back-requires-2 (back-calls t) (back-at t) back.Post
   back-back-requires-2 c κs =
       let two = pass2-two (c .before) in
       let s = two-start two in
-      let below = first-low (able s) (second-some (two-pass two .before)) (first-some two) in (
+      let below = first-low (able s) (second-some (pass-parts (two-pass two))) (first-some two) in (
         omega (arith, s .pre .0),
-        (walk s _ (first-able (able s) (second-some (two-pass two .before)) (first-some two)), s .pre .1 .1, subst (λ k. k < 4) (sym (to-first (c .before))) (pass-small (op (able s)) _), s .pre .1 .3),
+        (walk s _ (first-able (able s) (second-some (pass-parts (two-pass two))) (first-some two)), s .pre .1 .1, subst (λ k. k < 4) (sym (to-first (c .before))) (pass-small false (op (able s)) _), s .pre .1 .3),
       )
 
   back-same-length-5 : back-lts.Need-same-length-5 (back-calls t) (back-at t) back.Post
   back-same-length-5 c = search needs
 
   back-returns-6 : back-lts.Need-returns-6 (back-calls t) (back-at t) back.Post
-  back-returns-6 c = (c .before .before .before .back2 .ensures .0, λ k traced. covered-all)
+  back-returns-6 c = (c .before .before .before .back2 .ensures .0, λ k traced marks. covered-all)
 
   back-shape-requires-3 : back-lts.Need-shape-requires-3 (back-calls t) (back-at t) back.Post
-  back-shape-requires-3 c κs = (low (two-pass (first-two (c .before .before .before)) .before .before .before .before), omega arith)
+  back-shape-requires-3 c κs = (low (pass-field (two-pass (first-two (c .before .before .before)))), omega arith)
 
   back-back-requires-3 : back-lts.Need-back-requires-3 (back-calls t) (back-at t) back.Post
   back-back-requires-3 c κs =
@@ -376,7 +414,7 @@ module _ (t : ℕ) where
       let s = two-start two in
       let h = positive (able s) in (
         omega (arith, s .pre .0),
-        (walk s _ (plain-able (able s) (second-some (two-pass two .before)) (first-some two) (λ q. c .before .if7 .taken (binds shape ∙ q))), s .pre .1 .1, second-set (two-pass two), call .back2 .ensures .0 .long ∙ s .pre .1 .3),
+        (walk s _ (plain-able (able s) (second-some (pass-parts (two-pass two))) (first-some two) (λ q. c .before .if7 .taken (binds shape ∙ q))), s .pre .1 .1, second-set (two-pass two), call .back2 .ensures .0 .long ∙ s .pre .1 .3),
       )
 
   back-same-length-6 : back-lts.Need-same-length-6 (back-calls t) (back-at t) back.Post
@@ -390,9 +428,9 @@ module _ (t : ℕ) where
       let two = first-two call in
       let s = two-start two in (
         below-then (call .back2 .ensures .0) (last .back3 .ensures .0),
-        λ k traced.
+        λ k traced marks.
             plain-covers (able s) k (s .args .set) (some-set (asked-of (two-pass two))) (small s) (now (s .args .objects)) (s .args .n .objects)
-            (second-some (two-pass two .before)) (to-second (two-pass two)) (first-some two) refl (to-first (call .before .before)) (few s) (shape .before .if6 .left) (call .back2 .ensures .1 k traced) (last .back3 .ensures .0) (λ q. last .before .before .if7 .taken (binds shape ∙ q)) (last .back3 .ensures .1 k traced),
+            (second-some (pass-parts (two-pass two))) (to-second (two-pass two) k marks) (first-some two) refl (to-first (call .before .before)) (few s) (shape .before .if6 .left) (call .back2 .ensures .1 k traced (first-marks two k marks)) (last .back3 .ensures .0) (λ q. last .before .before .if7 .taken (binds shape ∙ q)) (last .back3 .ensures .1 k traced (part-marks s k marks)),
       )
 
   back-over-requires : back-lts.Need-over-requires (back-calls t) (back-at t) back.Post
@@ -401,7 +439,7 @@ module _ (t : ℕ) where
       let call = shape3-first shape in
       let two = first-two call in
       let s = two-start two in
-      let parts = over-able (able s) (second-some (two-pass two .before)) (first-some two) (sym (binds shape) ∙ c .before .if7 .left) in
+      let parts = over-able (able s) (second-some (pass-parts (two-pass two))) (first-some two) (sym (binds shape) ∙ c .before .if7 .left) in
       let walkable : OverWalkable (site s) (now (s .args .spans)) (s .args .at .1) (s .args .at .2) = record { schema = s .pre .1 .0 .schema; vars = s .pre .1 .0 .vars; able = parts; self = s .pre .1 .0 .self } in
       (omega (arith, s .pre .0), (walkable, s .pre .1 .1, second-set (two-pass two), call .back2 .ensures .0 .long ∙ s .pre .1 .3))
 
@@ -416,9 +454,9 @@ module _ (t : ℕ) where
       let two = first-two call in
       let s = two-start two in (
         below-then (call .back2 .ensures .0) (last .over .ensures .0),
-        λ k traced.
+        λ k traced marks.
             over-covers (able s) k (s .args .set) (some-set (asked-of (two-pass two))) (small s) (now (s .args .objects)) (s .args .n .objects)
-            (second-some (two-pass two .before)) (to-second (two-pass two)) (first-some two) refl (to-first (call .before .before)) (few s) (shape .before .if6 .left) (call .back2 .ensures .1 k traced) (last .over .ensures .0) (sym (binds shape) ∙ last .before .before .if7 .left) (last .over .ensures .1 k traced),
+            (second-some (pass-parts (two-pass two))) (to-second (two-pass two) k marks) (first-some two) refl (to-first (call .before .before)) (few s) (shape .before .if6 .left) (call .back2 .ensures .1 k traced (first-marks two k marks)) (last .over .ensures .0) (sym (binds shape) ∙ last .before .before .if7 .left) (last .over .ensures .1 k traced marks),
       )
 
   -- ---- places of `over`
@@ -461,8 +499,8 @@ module _ (t : ℕ) where
   over-clear-requires : over-lts.Need-clear-requires (over-calls t) (over-at t) over.Post
   over-clear-requires c κs = let s = c .before .before .before .before .before .before .before .before in (oable s .deep, ofew s, s .pre .1 .3)
 
-  over-add-t22 : over-lts.Need-add-t22 (over-calls t) (over-at t) over.Post
-  over-add-t22 c = let h = oable (emptied-begin (c .before .before)) .deep in omega arith
+  over-add-t23 : over-lts.Need-add-t23 (over-calls t) (over-at t) over.Post
+  over-add-t23 c = let h = oable (emptied-begin (c .before .before)) .deep in omega arith
 
   over-back-requires : over-lts.Need-back-requires (over-calls t) (over-at t) over.Post
   over-back-requires c κs =
@@ -481,16 +519,16 @@ module _ (t : ℕ) where
   over-returns : over-lts.Need-returns (over-calls t) (over-at t) over.Post
   over-returns c =
       let call = c .before .before .before in
-      (below-then (cleared-below (inner-emptied call .clear .ensures)) (below-less (call .back .ensures .0)), λ k traced. covered-all)
+      (below-then (cleared-below (inner-emptied call .clear .ensures)) (below-less (call .back .ensures .0)), λ k traced marks. covered-all)
 
   over-cast-from : over-lts.Need-cast-from (over-calls t) (over-at t) over.Post
   over-cast-from c = let h = orow (inner-begin (c .before .before .before)) in omega arith
 
-  over-mul-t26 : over-lts.Need-mul-t26 (over-calls t) (over-at t) over.Post
-  over-mul-t26 c = let h = orow (inner-begin (c .before .before .before)) in omega arith
+  over-mul-t27 : over-lts.Need-mul-t27 (over-calls t) (over-at t) over.Post
+  over-mul-t27 c = let h = orow (inner-begin (c .before .before .before)) in omega arith
 
-  over-element-copy-out-t22 : over-lts.Need-element-copy-out-t22 (over-calls t) (over-at t) over.Post
-  over-element-copy-out-t22 c = let h = orow (inner-begin (c .before .before .before)) in omega arith
+  over-element-copy-out-t23 : over-lts.Need-element-copy-out-t23 (over-calls t) (over-at t) over.Post
+  over-element-copy-out-t23 c = let h = orow (inner-begin (c .before .before .before)) in omega arith
 
   over-image-requires : over-lts.Need-image-requires (over-calls t) (over-at t) over.Post
   over-image-requires c κs =
@@ -510,8 +548,8 @@ module _ (t : ℕ) where
       let depth = s .args .at .2 in
       let grown = grown-below depth (led .image .ensures .0) in (
         below-then (cleared-below (inner-emptied call .clear .ensures)) (below-then (below-less (call .back .ensures .0)) grown),
-        λ k traced.
-            let inner = call .back .ensures .1 k traced in
+        λ k traced marks.
+            let inner = call .back .ensures .1 k traced (rows-less (omega arith) marks) in
             covered-then (ofew s) (left .if1 .left) (covered-less inner) grown
             (led .image .ensures .1 k (traced .seen .end-is) (reachedBy k (formAt (osite s) (s .args .at .1 - 1)) (depth + 1) (s .args .dirs) depth) (λ row h e. inner .each (left .if1 .left) depth (omega arith) row h e)),
       )
@@ -521,11 +559,11 @@ pub +back+over-spec : {M : Type 1} → statement M
     close μ-back μ-over
     (λ t. back-lts.spec (back-calls t) (back-at t) back.Post
     (back-returns t) (back-sub-row t) (back-field-requires t) (back-field-requires-2 t) (back-shape-requires t) (back-field-requires-3 t)
-    (back-leaf-requires t) (back-same-length t) (back-returns-2 t) (back-pass-requires t) (back-shape-requires-2 t) (back-back-requires t)
+    (back-leaf-requires t) (back-same-length t) (back-returns-2 t) (back-cast-from t) (back-element-copy-out-pass t) (back-pass-requires t) (back-shape-requires-2 t) (back-back-requires t)
     (back-same-length-2 t) (back-returns-3 t) (back-same-length-3 t) (back-returns-4 t) (back-members-requires t) (back-same-length-4 t)
-    (back-returns-5 t) (back-cast-from t) (back-mul-if7 t) (back-element-copy-out-if7 t) (back-pass-requires-2 t) (back-back-requires-2 t)
+    (back-returns-5 t) (back-mul-if7 t) (back-element-copy-out-if7 t) (back-pass-requires-2 t) (back-back-requires-2 t)
     (back-same-length-5 t) (back-returns-6 t) (back-shape-requires-3 t) (back-back-requires-3 t) (back-same-length-6 t) (back-returns-7 t)
     (back-over-requires t) (back-same-length-7 t) (back-returns-8 t))
     (λ t. over-lts.spec (over-calls t) (over-at t) over.Post
-    (over-sub-row t) (over-clear-requires t) (over-add-t22 t) (over-back-requires t) (over-same-length t) (over-returns t) (over-cast-from t)
-    (over-mul-t26 t) (over-element-copy-out-t22 t) (over-image-requires t) (over-same-length-2 t) (over-returns-2 t))
+    (over-sub-row t) (over-clear-requires t) (over-add-t23 t) (over-back-requires t) (over-same-length t) (over-returns t) (over-cast-from t)
+    (over-mul-t27 t) (over-element-copy-out-t23 t) (over-image-requires t) (over-same-length-2 t) (over-returns-2 t))

@@ -241,7 +241,7 @@ module _ (t : ℕ) where
   passed-second c = c .pass .ensures (op (able (pass-start c))) (coded-field (pass-field c))
 
   to-second : (c : Pass) (k : Change) → Marks (pass-start c) k → let s = pass-start c in
-      c .pass .result ≡ toSecond k (idsOf (site s) (s .args .at .2) (now (s .args .vs))) (s .args .set) (op (able s)) (codeAt (site s) (s .args .at .1)) (rowsAt (site s) (s .args .at .1 - 1)) (formAt (site s) (s .args .at .1 - 1))
+      c .pass .result ≡ toSecond k (s .args .set) (op (able s)) (codeAt (site s) (s .args .at .1)) (rowsAt (site s) (s .args .at .1 - 1)) (formAt (site s) (s .args .at .1 - 1))
   to-second c k marks =
       let s = pass-start c in
       let h = positive (able s) in
