@@ -1,4 +1,4 @@
-// A lent batch: every refusal of the tables and the events in its order, 15 of Req 02 with them, else the events on a copy of the register.
+// A lent batch: every refusal of its tables and its events, each in its place, else the events on a copy of the register.
 use event_effects::Held;
 use events::Ran;
 use tables::Counts;
