@@ -4,7 +4,7 @@ use crate::deletes::take_links;
 use tables::Found;
 ghost use Prim.Native.Nat.{_≤_, _<_};
 ghost use Rattle.meaning.specs.Limits.{cellCount};
-ghost use Rattle.meaning.specs.Schema.{Schema, Relationship, cellsOf};
+ghost use Rattle.meaning.specs.Schema.{Schema, Floor, Relationship, cellsOf};
 ghost use Rattle.meaning.specs.Events.{insert, delete, set, join, part, special, general, linkOf};
 ghost use mathlib.Core.List.{List};
 ghost use Rattle.rows.specs.Rows.{signed};
@@ -64,8 +64,8 @@ fn put_type(count: u32, objects: &mut [u32], id: u32, t: u32)
 // General: the type in the object's row, and 0 in the cells that it lacks.
 fn put_higher_type(type_count: u32, types: &[u32], count: u32, objects: &mut [u32], id: u32, t: u32)
     requires { ⌜ (CanChange count (now objects) id) × (cellsOf (typesOf «type_count» (now types)) t ≤ cellCount) ⌝ }
-    ensures { λ _. ⌜ ((rs : List Relationship) →
-        ObjectsApplied (record { types = typesOf «type_count» (now (types .entry)); relationships = rs })
+    ensures { λ _. ⌜ ((fs : List Floor) (rs : List Relationship) →
+        ObjectsApplied (record { types = typesOf «type_count» (now (types .entry)); floors = fs; relationships = rs })
         (general id t) count (now (objects .entry)) count (now (objects .exit))) ⌝ }
 {
     match register::object_row(count, &*objects, id) {
@@ -140,8 +140,8 @@ pub fn effect(
 ) -> Held
     requires { ⌜ (Can (typesOf «type_count» (now types)) (held .objects) (now objects) (held .links) (now links) (eventOf kind x y z))
         × (eventOf kind x y z ≡ noEvent → ⊥) × (LossRoom (held .links) (held .losses) (now losses)) ⌝ }
-    ensures { λ h. ⌜ ((rs : List Relationship) →
-        Applied (record { types = typesOf «type_count» (now (types .entry)); relationships = rs }) (eventOf kind x y z)
+    ensures { λ h. ⌜ ((fs : List Floor) (rs : List Relationship) →
+        Applied (record { types = typesOf «type_count» (now (types .entry)); floors = fs; relationships = rs }) (eventOf kind x y z)
         (held .objects) (now (objects .entry)) (held .links) (now (links .entry))
         (h .objects) (now (objects .exit)) (h .links) (now (links .exit)))
         × (LossesKept (registerOf (held .objects) (now (objects .entry)) (held .links) (now (links .entry))) (eventOf kind x y z)
@@ -174,8 +174,8 @@ pub fn row_effect(
 ) -> Held
     requires { ⌜ (Can (typesOf «type_count» (now types)) (held .objects) (now objects) (held .links) (now links) (eventRow (now events) row))
         × (eventRow (now events) row ≡ noEvent → ⊥) × (LossRoom (held .links) (held .losses) (now losses)) ⌝ }
-    ensures { λ h. ⌜ ((rs : List Relationship) →
-        Applied (record { types = typesOf «type_count» (now (types .entry)); relationships = rs }) (eventRow (now (events .entry)) row)
+    ensures { λ h. ⌜ ((fs : List Floor) (rs : List Relationship) →
+        Applied (record { types = typesOf «type_count» (now (types .entry)); floors = fs; relationships = rs }) (eventRow (now (events .entry)) row)
         (held .objects) (now (objects .entry)) (held .links) (now (links .entry))
         (h .objects) (now (objects .exit)) (h .links) (now (links .exit)))
         × (LossesKept (registerOf (held .objects) (now (objects .entry)) (held .links) (now (links .entry))) (eventRow (now (events .entry)) row)

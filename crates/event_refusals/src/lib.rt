@@ -1,10 +1,12 @@
-// Document 01's refusals 7 to 13 of one event, on the register that it meets.
+// Document 01's refusals 7 to 13 of one event, and 15 of Req 02, on the register that it meets.
 use event_tests::both_present;
 use event_tests::both_under;
+use event_tests::brought_below;
 use event_tests::full;
 use event_tests::has_cell;
 use event_tests::has_link;
 use event_tests::is_present;
+use event_tests::set_below;
 use event_tests::strictly_above;
 use event_tests::strictly_under;
 use event_tests::type_needed;
@@ -16,10 +18,10 @@ use tables::Found;
 ghost use mathlib.Core.Path.{_≡_};
 ghost use mathlib.Core.List.{List};
 ghost use Prim.Native.Nat.{ℕ, _≤_};
-ghost use Rattle.meaning.specs.Schema.{ObjectType, Relationship, Schema};
+ghost use Rattle.meaning.specs.Schema.{ObjectType, Floor, Relationship, Schema};
 ghost use Rattle.meaning.specs.Register.{Link};
 ghost use Rattle.meaning.specs.Events.{Lent, eventRefusal, insert, delete, set, join, part, special, general};
-ghost use Rattle.tables.specs.Columns.{typesOf, relationshipsOf, schemaOf, registerOf, eventOf, eventRow};
+ghost use Rattle.tables.specs.Columns.{typesOf, floorsOf, relationshipsOf, schemaOf, registerOf, eventOf, eventRow};
 ghost use Rattle.rows.specs.Rows.{signed};
 ghost use Rattle.tables.specs.Refusals.{foundOf};
 ghost use Rattle.register.specs.Tables.{objectsWith, ObjectsAscend, LinksAscend};
@@ -27,8 +29,8 @@ ghost use Rattle.register.specs.Tables.{objectsWith, ObjectsAscend, LinksAscend
 // The first refusal that an insert meets.
 fn of_insert(type_count: u32, lent: usize, count: u32, objects: &[u32], id: u32, t: u32) -> Found
     requires { ⌜ ObjectsAscend count (now objects) ⌝ }
-    ensures { λ r. ⌜ ((types : List ℕ) (rs : List Relationship) (ls : List Link) (m w : ℕ) → r ≡ foundOf (eventRefusal
-        (record { types = typesOf «type_count» types; relationships = rs }) (record { objects = lent; links = m; words = w })
+    ensures { λ r. ⌜ ((types : List ℕ) (fs : List Floor) (rs : List Relationship) (ls : List Link) (m w : ℕ) → r ≡ foundOf (eventRefusal
+        (record { types = typesOf «type_count» types; floors = fs; relationships = rs }) (record { objects = lent; links = m; words = w })
         (objectsWith count (now (objects .entry)) ls) (insert id t))) ⌝ }
 {
     if !known_type(type_count, id, t) {
@@ -59,10 +61,20 @@ fn of_delete(count: u32, objects: &[u32], id: u32) -> Found
 }
 
 // The first refusal that a set meets.
-fn of_set(type_count: u32, types: &[u32], count: u32, objects: &[u32], id: u32, cell: u32) -> Found
+fn of_set(
+    type_count: u32,
+    types: &[u32],
+    floor_count: u32,
+    floors: &[u32],
+    count: u32,
+    objects: &[u32],
+    id: u32,
+    cell: u32,
+    word: u32,
+) -> Found
     requires { ⌜ ObjectsAscend count (now objects) ⌝ }
-    ensures { λ r. ⌜ ((rs : List Relationship) (lent : Lent) (ls : List Link) (word : ℕ) → r ≡ foundOf (eventRefusal
-        (record { types = typesOf «type_count» (now (types .entry)); relationships = rs }) lent
+    ensures { λ r. ⌜ ((rs : List Relationship) (lent : Lent) (ls : List Link) → r ≡ foundOf (eventRefusal
+        (record { types = typesOf «type_count» (now (types .entry)); floors = floorsOf «floor_count» (now (floors .entry)); relationships = rs }) lent
         (objectsWith count (now (objects .entry)) ls) (set id cell (signed word)))) ⌝ }
 {
     if !known_cell(id, cell) {
@@ -73,6 +85,19 @@ fn of_set(type_count: u32, types: &[u32], count: u32, objects: &[u32], id: u32, 
     }
     if !has_cell(type_count, types, count, objects, id, cell) {
         return Found::At(11);
+    }
+    if set_below(
+        type_count,
+        types,
+        floor_count,
+        floors,
+        count,
+        objects,
+        id,
+        cell,
+        word,
+    ) {
+        return Found::At(15);
     }
     Found::Nothing
 }
@@ -93,8 +118,8 @@ fn of_join(
     target: u32,
 ) -> Found
     requires { ⌜ (ObjectsAscend «object_count» (now objects)) × (LinksAscend «link_count» (now links)) ⌝ }
-    ensures { λ r. ⌜ ((m w : ℕ) → r ≡ foundOf (eventRefusal
-        (schemaOf «type_count» (now (types .entry)) «relationship_count» (now (relationships .entry)))
+    ensures { λ r. ⌜ ((fs : List Floor) (m w : ℕ) → r ≡ foundOf (eventRefusal
+        (schemaOf «type_count» (now (types .entry)) fs «relationship_count» (now (relationships .entry)))
         (record { objects = m; links = lent; words = w })
         (registerOf «object_count» (now (objects .entry)) «link_count» (now (links .entry)))
         (join relationship source target))) ⌝ }
@@ -139,8 +164,8 @@ fn of_part(
     target: u32,
 ) -> Found
     requires { ⌜ (ObjectsAscend «object_count» (now objects)) × (LinksAscend «link_count» (now links)) ⌝ }
-    ensures { λ r. ⌜ ((types : List ObjectType) (relationships : List ℕ) (lent : Lent) → r ≡ foundOf (eventRefusal
-        (record { types = types; relationships = relationshipsOf «relationship_count» relationships }) lent
+    ensures { λ r. ⌜ ((types : List ObjectType) (fs : List Floor) (relationships : List ℕ) (lent : Lent) → r ≡ foundOf (eventRefusal
+        (record { types = types; floors = fs; relationships = relationshipsOf «relationship_count» relationships }) lent
         (registerOf «object_count» (now (objects .entry)) «link_count» (now (links .entry)))
         (part relationship source target))) ⌝ }
 {
@@ -156,21 +181,42 @@ fn of_part(
     Found::Nothing
 }
 
-// The first refusal that a special meets.
-fn of_special(type_count: u32, types: &[u32], count: u32, objects: &[u32], id: u32, t: u32) -> Found
+// The first refusal that a special into a type meets.
+fn of_special(
+    type_count: u32,
+    types: &[u32],
+    floor_count: u32,
+    floors: &[u32],
+    count: u32,
+    objects: &[u32],
+    id: u32,
+    into: u32,
+) -> Found
     requires { ⌜ ObjectsAscend count (now objects) ⌝ }
     ensures { λ r. ⌜ ((rs : List Relationship) (lent : Lent) (ls : List Link) → r ≡ foundOf (eventRefusal
-        (record { types = typesOf «type_count» (now (types .entry)); relationships = rs }) lent
-        (objectsWith count (now (objects .entry)) ls) (special id t))) ⌝ }
+        (record { types = typesOf «type_count» (now (types .entry)); floors = floorsOf «floor_count» (now (floors .entry)); relationships = rs }) lent
+        (objectsWith count (now (objects .entry)) ls) (special id into))) ⌝ }
 {
-    if !known_type(type_count, id, t) {
+    if !known_type(type_count, id, into) {
         return Found::At(7);
     }
     if !is_present(count, objects, id) {
         return Found::At(8);
     }
-    if !strictly_above(type_count, types, count, objects, id, t) {
+    if !strictly_above(type_count, types, count, objects, id, into) {
         return Found::At(11);
+    }
+    if brought_below(
+        type_count,
+        types,
+        floor_count,
+        floors,
+        count,
+        objects,
+        id,
+        into,
+    ) {
+        return Found::At(15);
     }
     Found::Nothing
 }
@@ -189,8 +235,8 @@ fn of_general(
     t: u32,
 ) -> Found
     requires { ⌜ ObjectsAscend «object_count» (now objects) ⌝ }
-    ensures { λ r. ⌜ ((lent : Lent) → r ≡ foundOf (eventRefusal
-        (schemaOf «type_count» (now (types .entry)) «relationship_count» (now (relationships .entry))) lent
+    ensures { λ r. ⌜ ((fs : List Floor) (lent : Lent) → r ≡ foundOf (eventRefusal
+        (schemaOf «type_count» (now (types .entry)) fs «relationship_count» (now (relationships .entry))) lent
         (registerOf «object_count» (now (objects .entry)) «link_count» (now (links .entry))) (general id t))) ⌝ }
 {
     if !known_type(type_count, id, t) {
@@ -234,8 +280,8 @@ fn of_link_event(
     z: u32,
 ) -> Found
     requires { ⌜ (ObjectsAscend «object_count» (now objects)) × (LinksAscend «link_count» (now links)) × (3 ≤ kind) × (kind ≤ 4) ⌝ }
-    ensures { λ r. ⌜ ((m w : ℕ) → r ≡ foundOf (eventRefusal
-        (schemaOf «type_count» (now (types .entry)) «relationship_count» (now (relationships .entry)))
+    ensures { λ r. ⌜ ((fs : List Floor) (m w : ℕ) → r ≡ foundOf (eventRefusal
+        (schemaOf «type_count» (now (types .entry)) fs «relationship_count» (now (relationships .entry)))
         (record { objects = m; links = lent; words = w })
         (registerOf «object_count» (now (objects .entry)) «link_count» (now (links .entry)))
         (eventOf kind x y z))) ⌝ }
@@ -272,6 +318,8 @@ fn of_link_event(
 fn of_short_event(
     type_count: u32,
     types: &[u32],
+    floor_count: u32,
+    floors: &[u32],
     relationship_count: u32,
     relationships: &[u32],
     lent: usize,
@@ -286,7 +334,7 @@ fn of_short_event(
 ) -> Found
     requires { ⌜ (ObjectsAscend «object_count» (now objects)) × (kind ≡ 2 → ⊥) × (kind ≡ 3 → ⊥) × (kind ≡ 4 → ⊥) ⌝ }
     ensures { λ r. ⌜ ((m w : ℕ) → r ≡ foundOf (eventRefusal
-        (schemaOf «type_count» (now (types .entry)) «relationship_count» (now (relationships .entry)))
+        (schemaOf «type_count» (now (types .entry)) (floorsOf «floor_count» (now (floors .entry))) «relationship_count» (now (relationships .entry)))
         (record { objects = lent; links = m; words = w })
         (registerOf «object_count» (now (objects .entry)) «link_count» (now (links .entry)))
         (eventOf kind x y z))) ⌝ }
@@ -298,7 +346,16 @@ fn of_short_event(
         return of_insert(type_count, lent, object_count, objects, x, y);
     }
     if kind == 5 {
-        return of_special(type_count, types, object_count, objects, x, y);
+        return of_special(
+            type_count,
+            types,
+            floor_count,
+            floors,
+            object_count,
+            objects,
+            x,
+            y,
+        );
     }
     if kind == 6 {
         return of_general(
@@ -327,6 +384,8 @@ fn of_short_event(
 fn of_event(
     type_count: u32,
     types: &[u32],
+    floor_count: u32,
+    floors: &[u32],
     relationship_count: u32,
     relationships: &[u32],
     objects_lent: usize,
@@ -342,13 +401,23 @@ fn of_event(
 ) -> Found
     requires { ⌜ (ObjectsAscend «object_count» (now objects)) × (LinksAscend «link_count» (now links)) ⌝ }
     ensures { λ r. ⌜ ((w : ℕ) → r ≡ foundOf (eventRefusal
-        (schemaOf «type_count» (now (types .entry)) «relationship_count» (now (relationships .entry)))
+        (schemaOf «type_count» (now (types .entry)) (floorsOf «floor_count» (now (floors .entry))) «relationship_count» (now (relationships .entry)))
         (record { objects = «objects_lent»; links = «links_lent»; words = w })
         (registerOf «object_count» (now (objects .entry)) «link_count» (now (links .entry)))
         (eventOf kind x y z))) ⌝ }
 {
     match kind {
-        2 => of_set(type_count, types, object_count, objects, x, y),
+        2 => of_set(
+            type_count,
+            types,
+            floor_count,
+            floors,
+            object_count,
+            objects,
+            x,
+            y,
+            z,
+        ),
         3 | 4 => of_link_event(
             type_count,
             types,
@@ -367,6 +436,8 @@ fn of_event(
         _ => of_short_event(
             type_count,
             types,
+            floor_count,
+            floors,
             relationship_count,
             relationships,
             objects_lent,
@@ -386,6 +457,8 @@ fn of_event(
 pub fn refusal(
     type_count: u32,
     types: &[u32],
+    floor_count: u32,
+    floors: &[u32],
     relationship_count: u32,
     relationships: &[u32],
     objects_lent: usize,
@@ -399,7 +472,7 @@ pub fn refusal(
 ) -> Found
     requires { ⌜ (ObjectsAscend «object_count» (now objects)) × (LinksAscend «link_count» (now links)) ⌝ }
     ensures { λ r. ⌜ ((w : ℕ) → r ≡ foundOf (eventRefusal
-        (schemaOf «type_count» (now (types .entry)) «relationship_count» (now (relationships .entry)))
+        (schemaOf «type_count» (now (types .entry)) (floorsOf «floor_count» (now (floors .entry))) «relationship_count» (now (relationships .entry)))
         (record { objects = «objects_lent»; links = «links_lent»; words = w })
         (registerOf «object_count» (now (objects .entry)) «link_count» (now (links .entry)))
         (eventRow (now (events .entry)) row))) ⌝ }
@@ -411,6 +484,8 @@ pub fn refusal(
     of_event(
         type_count,
         types,
+        floor_count,
+        floors,
         relationship_count,
         relationships,
         objects_lent,

@@ -75,7 +75,7 @@ module _ (S : Schema) (few : length (S .types) ≤ maxTypes) (g : Register) (fit
   known : (id : ℕ) {o : Object} → objectAt g id ≡ some o → o .type < noType
   unfolding knownType
   known id {o} e =
-      let there = object-parts (S .types) o (fits .objects-fit o (object-at g id e .0)) .type-known in
+      let there = object-parts S o (fits .objects-fit o (object-at g id e .0)) .type-known in
       let low : o .type < length (S .types) = ltb-yes there in
       omega arith
 

@@ -8,7 +8,7 @@ pub use runs::run;
 use tables::Found;
 use tables::Verdict;
 ghost use Prim.Native.Nat.{ℕ};
-ghost use Rattle.tables.specs.Columns.{schemaOf, eventRow};
+ghost use Rattle.tables.specs.Columns.{floorsOf, schemaOf, eventRow};
 ghost use Rattle.event_effects.specs.Effects.{LossRoom};
 ghost use Rattle.events.specs.Steps.{Ready, StepDone};
 
@@ -31,6 +31,8 @@ pub struct Ran {
 pub fn step(
     type_count: u32,
     types: &[u32],
+    floor_count: u32,
+    floors: &[u32],
     relationship_count: u32,
     relationships: &[u32],
     objects_lent: usize,
@@ -42,11 +44,11 @@ pub fn step(
     events: &[u32],
     row: u32,
 ) -> Stepped
-    requires { ⌜ (Ready (schemaOf «type_count» (now types) «relationship_count» (now relationships))
+    requires { ⌜ (Ready (schemaOf «type_count» (now types) (floorsOf «floor_count» (now floors)) «relationship_count» (now relationships))
         (record { objects = «objects_lent»; links = «links_lent»; words = 0 })
         (held .objects) (now objects) (held .links) (now links)) × (LossRoom (held .links) (held .losses) (now losses)) ⌝ }
     ensures { λ r. ⌜ ((w : ℕ) →
-        StepDone (schemaOf «type_count» (now (types .entry)) «relationship_count» (now (relationships .entry)))
+        StepDone (schemaOf «type_count» (now (types .entry)) (floorsOf «floor_count» (now (floors .entry))) «relationship_count» (now (relationships .entry)))
         (record { objects = «objects_lent»; links = «links_lent»; words = w }) (eventRow (now (events .entry)) row)
         (held .objects) (now (objects .entry)) (held .links) (now (links .entry)) (held .losses) (now (losses .entry))
         (r .refused) (r .held .objects) (now (objects .exit)) (r .held .links) (now (links .exit)) (r .held .losses) (now (losses .exit))) ⌝ }
@@ -56,6 +58,8 @@ pub fn step(
     match refusal(
         type_count,
         types,
+        floor_count,
+        floors,
         relationship_count,
         relationships,
         objects_lent,

@@ -10,7 +10,7 @@ ghost use mathlib.Core.List.{List};
 ghost use Prim.Native.Nat.{ℕ, _≤_};
 ghost use Rattle.meaning.specs.Limits.{maxEvents};
 ghost use Rattle.meaning.specs.Register.{Link};
-ghost use Rattle.tables.specs.Columns.{schemaOf, registerOf, noEvent, eventRow, eventsOf};
+ghost use Rattle.tables.specs.Columns.{floorsOf, schemaOf, registerOf, noEvent, eventRow, eventsOf};
 ghost use Rattle.register.specs.Tables.{objectsWith, ObjectsAscend};
 ghost use Rattle.tables.specs.Met.{typeIn, metType};
 ghost use Rattle.events.specs.Runs.{lentBy, Fit, CanRun, RunDone};
@@ -53,6 +53,8 @@ fn met_type(count: u32, objects: &[u32], events: &[u32], row: u32) -> u32
 fn run_on(
     type_count: u32,
     types: &[u32],
+    floor_count: u32,
+    floors: &[u32],
     relationship_count: u32,
     relationships: &[u32],
     objects_lent: usize,
@@ -63,11 +65,11 @@ fn run_on(
     event_count: u32,
     events: &[u32],
 ) -> Ran
-    requires { ⌜ (Fit (schemaOf «type_count» (now types) «relationship_count» (now relationships))
+    requires { ⌜ (Fit (schemaOf «type_count» (now types) (floorsOf «floor_count» (now floors)) «relationship_count» (now relationships))
         (record { objects = «objects_lent»; links = «links_lent»; words = 0 })
         (from .objects) (now objects) (from .links) (now links)) × («event_count» ≤ maxEvents) × (from .losses ≡ 0) ⌝ }
     ensures { λ r. ⌜ ((w : ℕ) →
-        RunDone (schemaOf «type_count» (now (types .entry)) «relationship_count» (now (relationships .entry)))
+        RunDone (schemaOf «type_count» (now (types .entry)) (floorsOf «floor_count» (now (floors .entry))) «relationship_count» (now (relationships .entry)))
         (record { objects = «objects_lent»; links = «links_lent»; words = w })
         (registerOf (from .objects) (now (objects .entry)) (from .links) (now (links .entry)))
         (eventsOf «event_count» (now (events .entry))) r (now (objects .exit)) (now (links .exit))) ⌝ }
@@ -81,6 +83,8 @@ fn run_on(
         let stepped = step(
             type_count,
             types,
+            floor_count,
+            floors,
             relationship_count,
             relationships,
             objects_lent,
@@ -117,6 +121,8 @@ fn run_on(
 pub fn run(
     type_count: u32,
     types: &[u32],
+    floor_count: u32,
+    floors: &[u32],
     relationship_count: u32,
     relationships: &[u32],
     object_count: u32,
@@ -128,10 +134,10 @@ pub fn run(
     event_count: u32,
     events: &[u32],
 ) -> Ran
-    requires { ⌜ CanRun (schemaOf «type_count» (now types) «relationship_count» (now relationships))
+    requires { ⌜ CanRun (schemaOf «type_count» (now types) (floorsOf «floor_count» (now floors)) «relationship_count» (now relationships))
         «object_count» (now objects) «link_count» (now links) (now «scratch_objects») (now «scratch_links») «event_count» ⌝ }
     ensures { λ r. ⌜ ((w : ℕ) →
-        RunDone (schemaOf «type_count» (now (types .entry)) «relationship_count» (now (relationships .entry)))
+        RunDone (schemaOf «type_count» (now (types .entry)) (floorsOf «floor_count» (now (floors .entry))) «relationship_count» (now (relationships .entry)))
         (lentBy (now (objects .entry)) (now (links .entry)) w)
         (registerOf «object_count» (now (objects .entry)) «link_count» (now (links .entry)))
         (eventsOf «event_count» (now (events .entry))) r (now («scratch_objects» .exit)) (now («scratch_links» .exit))) ⌝ }
@@ -146,6 +152,8 @@ pub fn run(
     run_on(
         type_count,
         types,
+        floor_count,
+        floors,
         relationship_count,
         relationships,
         rows::rows_lent(objects, tables::OBJECT_WIDTH),

@@ -1,4 +1,4 @@
--- Document 01, "Where each refusal is met": refusals 2 to 13 of a lent batch, and what it leaves where none is met.
+-- Document 01, "Where each refusal is met": refusals 2 to 13 and 15 of a lent batch, and what it leaves where none is met.
 use mathlib.Core.Path.{_≡_}
 use mathlib.Core.Bool.{Bool, _||_}
 use mathlib.Core.List.{List}

@@ -1,4 +1,4 @@
-// A lent batch: every refusal up to 13 in the table's order, else the events on a copy of the register.
+// A lent batch: every refusal of its tables and its events, each in its place, else the events on a copy of the register.
 use event_effects::Held;
 use events::Ran;
 use tables::Counts;
@@ -41,6 +41,7 @@ fn short(objects: &[u32], links: &[u32], scratch_objects: &[u32], scratch_links:
 pub fn run(
     n: Counts,
     types: &[u32],
+    floors: &[u32],
     relationships: &[u32],
     rules: &[u32],
     bodies: &[u32],
@@ -50,13 +51,14 @@ pub fn run(
     scratch_objects: &mut [u32],
     scratch_links: &mut [u32],
 ) -> Ran
-    ensures { λ r. ⌜ LentRun n (sheetOf (now (types .entry)) (now (relationships .entry)) (now (rules .entry)) (now (bodies .entry)) (now (objects .entry)) (now (links .entry)) (now (events .entry)))
+    ensures { λ r. ⌜ LentRun n (sheetOf (now (types .entry)) (now (floors .entry)) (now (relationships .entry)) (now (rules .entry)) (now (bodies .entry)) (now (objects .entry)) (now (links .entry)) (now (events .entry)))
         (now («scratch_objects» .entry)) (now («scratch_links» .entry)) r (now («scratch_objects» .exit)) (now («scratch_links» .exit)) ⌝ }
 {
     let too_short = short(objects, links, &*scratch_objects, &*scratch_links);
     match checks::check_all(
         n,
         types,
+        floors,
         relationships,
         rules,
         bodies,
@@ -69,6 +71,8 @@ pub fn run(
         Verdict::Clear => events::run(
             n.types,
             types,
+            n.floors,
+            floors,
             n.relationships,
             relationships,
             n.objects,

@@ -16,7 +16,7 @@ returns : tie.Need-returns
 unfolding eventRefusal checks firstMet knownEvent
 returns c =
     let x = c .before .before .before .before .before .before .args in
-    λ lent.
+    λ fs lent.
     rw (ap not (sym (c .before .known-type .ensures (now (x .types)))) ∙ c .if1 .taken)
 
 is-present-requires : tie.Need-is-present-requires
@@ -27,7 +27,7 @@ unfolding eventRefusal checks firstMet knownEvent
 returns-2 c =
     let known = c .before .before in
     let x = known .before .before .before .before .before .before .args in
-    λ lent.
+    λ fs lent.
     rw (
       ap not (sym (known .before .known-type .ensures (now (x .types)))) ∙ known .if1 .left,
       ap not (sym (c .before .is-present .ensures (readRows (linkRow (now (x .links))) (x .link-count)))) ∙ c .if2 .taken,
@@ -42,7 +42,7 @@ returns-3 c =
     let there = c .before .before in
     let known = there .before .before in
     let x = known .before .before .before .before .before .before .args in
-    λ lent.
+    λ fs lent.
     rw (
       ap not (sym (known .before .known-type .ensures (now (x .types)))) ∙ known .if1 .left,
       ap not (sym (there .before .is-present .ensures (readRows (linkRow (now (x .links))) (x .link-count)))) ∙ there .if2 .left,
@@ -59,12 +59,12 @@ returns-4 c =
     let there = typed .before .before in
     let known = there .before .before in
     let x = known .before .before .before .before .before .before .args in
-    λ lent.
+    λ fs lent.
     rw (
       ap not (sym (known .before .known-type .ensures (now (x .types)))) ∙ known .if1 .left,
       ap not (sym (there .before .is-present .ensures (readRows (linkRow (now (x .links))) (x .link-count)))) ∙ there .if2 .left,
       ap not (sym (typed .before .strictly-under .ensures (readRows (linkRow (now (x .links))) (x .link-count)))) ∙ typed .if3 .left,
-      sym (c .before .type-needed .ensures (readRows (objectRow (now (x .objects))) (x .object-count))) ∙ c .if4 .taken,
+      sym (c .before .type-needed .ensures fs (readRows (objectRow (now (x .objects))) (x .object-count))) ∙ c .if4 .taken,
     )
 
 returns-5 : tie.Need-returns-5
@@ -74,12 +74,12 @@ returns-5 c =
     let there = typed .before .before in
     let known = there .before .before in
     let x = known .before .before .before .before .before .before .args in
-    λ lent.
+    λ fs lent.
     rw (
       ap not (sym (known .before .known-type .ensures (now (x .types)))) ∙ known .if1 .left,
       ap not (sym (there .before .is-present .ensures (readRows (linkRow (now (x .links))) (x .link-count)))) ∙ there .if2 .left,
       ap not (sym (typed .before .strictly-under .ensures (readRows (linkRow (now (x .links))) (x .link-count)))) ∙ typed .if3 .left,
-      sym (c .before .type-needed .ensures (readRows (objectRow (now (x .objects))) (x .object-count))) ∙ c .if4 .left,
+      sym (c .before .type-needed .ensures fs (readRows (objectRow (now (x .objects))) (x .object-count))) ∙ c .if4 .left,
     )
 
 pub of-general-spec : {M : Type 1} → statement M

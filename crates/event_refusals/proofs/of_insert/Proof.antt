@@ -18,7 +18,7 @@ known-type-requires c κs = search needs
 returns : tie.Need-returns
 unfolding eventRefusal checks firstMet knownEvent
 returns c =
-    λ types rs ls m w.
+    λ types fs rs ls m w.
     rw (ap not (sym (c .before .known-type .ensures types)) ∙ c .if1 .taken)
 
 is-present-requires : tie.Need-is-present-requires
@@ -28,7 +28,7 @@ returns-2 : tie.Need-returns-2
 unfolding eventRefusal checks firstMet knownEvent
 returns-2 c =
     let known = c .before .before in
-    λ types rs ls m w.
+    λ types fs rs ls m w.
     rw (
       ap not (sym (known .before .known-type .ensures types)) ∙ known .if1 .left,
       sym (c .before .is-present .ensures ls) ∙ c .if2 .taken,
@@ -43,7 +43,7 @@ returns-3 c =
     let there = c .before .before in
     let known = there .before .before in
     let x = known .before .before .before .args in
-    λ types rs ls m w.
+    λ types fs rs ls m w.
     rw (
       ap not (sym (known .before .known-type .ensures types)) ∙ known .if1 .left,
       sym (there .before .is-present .ensures ls) ∙ there .if2 .left,
@@ -56,7 +56,7 @@ returns-4 c =
     let there = c .before .before in
     let known = there .before .before in
     let x = known .before .before .before .args in
-    λ types rs ls m w.
+    λ types fs rs ls m w.
     rw (
       ap not (sym (known .before .known-type .ensures types)) ∙ known .if1 .left,
       sym (there .before .is-present .ensures ls) ∙ there .if2 .left,

@@ -20,7 +20,7 @@ returns : tie.Need-returns
 unfolding eventRefusal checks firstMet knownEvent
 returns c =
     let x = c .before .before .before .before .before .before .args in
-    λ m w.
+    λ fs m w.
     rw (ap not (sym (c .before .known-link .ensures (now (x .relationships)))) ∙ c .if1 .taken)
 
 both-present-requires : tie.Need-both-present-requires
@@ -31,7 +31,7 @@ unfolding eventRefusal checks firstMet knownEvent
 returns-2 c =
     let known = c .before .before in
     let x = known .before .before .before .before .before .before .args in
-    λ m w.
+    λ fs m w.
     rw (
       ap not (sym (known .before .known-link .ensures (now (x .relationships)))) ∙ known .if1 .left,
       ap not (sym (c .before .both-present .ensures (readRows (linkRow (now (x .links))) (x .link-count)))) ∙ c .if2 .taken,
@@ -46,7 +46,7 @@ returns-3 c =
     let there = c .before .before in
     let known = there .before .before in
     let x = known .before .before .before .before .before .before .args in
-    λ m w.
+    λ fs m w.
     rw (
       ap not (sym (known .before .known-link .ensures (now (x .relationships)))) ∙ known .if1 .left,
       ap not (sym (there .before .both-present .ensures (readRows (linkRow (now (x .links))) (x .link-count)))) ∙ there .if2 .left,
@@ -63,7 +63,7 @@ returns-4 c =
     let there = joined .before .before in
     let known = there .before .before in
     let x = known .before .before .before .before .before .before .args in
-    λ m w.
+    λ fs m w.
     rw (
       ap not (sym (known .before .known-link .ensures (now (x .relationships)))) ∙ known .if1 .left,
       ap not (sym (there .before .both-present .ensures (readRows (linkRow (now (x .links))) (x .link-count)))) ∙ there .if2 .left,
@@ -82,7 +82,7 @@ returns-5 c =
     let there = joined .before .before in
     let known = there .before .before in
     let x = known .before .before .before .before .before .before .args in
-    λ m w.
+    λ fs m w.
     rw (
       ap not (sym (known .before .known-link .ensures (now (x .relationships)))) ∙ known .if1 .left,
       ap not (sym (there .before .both-present .ensures (readRows (linkRow (now (x .links))) (x .link-count)))) ∙ there .if2 .left,
@@ -99,7 +99,7 @@ returns-6 c =
     let there = joined .before .before in
     let known = there .before .before in
     let x = known .before .before .before .before .before .before .args in
-    λ m w.
+    λ fs m w.
     rw (
       ap not (sym (known .before .known-link .ensures (now (x .relationships)))) ∙ known .if1 .left,
       ap not (sym (there .before .both-present .ensures (readRows (linkRow (now (x .links))) (x .link-count)))) ∙ there .if2 .left,

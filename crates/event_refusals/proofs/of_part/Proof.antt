@@ -15,7 +15,7 @@ known-link-requires c κs = search needs
 returns : tie.Need-returns
 unfolding eventRefusal checks firstMet knownEvent
 returns c =
-    λ types relationships lent.
+    λ types fs relationships lent.
     rw (ap not (sym (c .before .known-link .ensures relationships)) ∙ c .if1 .taken)
 
 both-present-requires : tie.Need-both-present-requires
@@ -26,7 +26,7 @@ unfolding eventRefusal checks firstMet knownEvent
 returns-2 c =
     let known = c .before .before in
     let x = known .before .before .before .before .args in
-    λ types relationships lent.
+    λ types fs relationships lent.
     rw (
       ap not (sym (known .before .known-link .ensures relationships)) ∙ known .if1 .left,
       ap not (sym (c .before .both-present .ensures (readRows (linkRow (now (x .links))) (x .link-count)))) ∙ c .if2 .taken,
@@ -41,7 +41,7 @@ returns-3 c =
     let there = c .before .before in
     let known = there .before .before in
     let x = known .before .before .before .before .args in
-    λ types relationships lent.
+    λ types fs relationships lent.
     rw (
       ap not (sym (known .before .known-link .ensures relationships)) ∙ known .if1 .left,
       ap not (sym (there .before .both-present .ensures (readRows (linkRow (now (x .links))) (x .link-count)))) ∙ there .if2 .left,
@@ -54,7 +54,7 @@ returns-4 c =
     let there = c .before .before in
     let known = there .before .before in
     let x = known .before .before .before .before .args in
-    λ types relationships lent.
+    λ types fs relationships lent.
     rw (
       ap not (sym (known .before .known-link .ensures relationships)) ∙ known .if1 .left,
       ap not (sym (there .before .both-present .ensures (readRows (linkRow (now (x .links))) (x .link-count)))) ∙ there .if2 .left,

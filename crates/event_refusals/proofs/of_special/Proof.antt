@@ -13,7 +13,7 @@ known-type-requires c κs = search needs
 returns : tie.Need-returns
 unfolding eventRefusal checks firstMet knownEvent
 returns c =
-    let x = c .before .before .before .before .args in
+    let x = c .before .before .before .before .before .args in
     λ rs lent ls.
     rw (ap not (sym (c .before .known-type .ensures (now (x .types)))) ∙ c .if1 .taken)
 
@@ -24,7 +24,7 @@ returns-2 : tie.Need-returns-2
 unfolding eventRefusal checks firstMet knownEvent
 returns-2 c =
     let known = c .before .before in
-    let x = known .before .before .before .before .args in
+    let x = known .before .before .before .before .before .args in
     λ rs lent ls.
     rw (
       ap not (sym (known .before .known-type .ensures (now (x .types)))) ∙ known .if1 .left,
@@ -39,7 +39,7 @@ unfolding eventRefusal checks firstMet knownEvent
 returns-3 c =
     let there = c .before .before in
     let known = there .before .before in
-    let x = known .before .before .before .before .args in
+    let x = known .before .before .before .before .before .args in
     λ rs lent ls.
     rw (
       ap not (sym (known .before .known-type .ensures (now (x .types)))) ∙ known .if1 .left,
@@ -47,17 +47,37 @@ returns-3 c =
       ap not (sym (c .before .strictly-above .ensures ls)) ∙ c .if3 .taken,
     )
 
+brought-below-requires : tie.Need-brought-below-requires
+brought-below-requires c κs = search needs
+
 returns-4 : tie.Need-returns-4
 unfolding eventRefusal checks firstMet knownEvent
 returns-4 c =
-    let there = c .before .before in
+    let typed = c .before .before in
+    let there = typed .before .before in
     let known = there .before .before in
-    let x = known .before .before .before .before .args in
+    let x = known .before .before .before .before .before .args in
     λ rs lent ls.
     rw (
       ap not (sym (known .before .known-type .ensures (now (x .types)))) ∙ known .if1 .left,
       ap not (sym (there .before .is-present .ensures ls)) ∙ there .if2 .left,
-      ap not (sym (c .before .strictly-above .ensures ls)) ∙ c .if3 .left,
+      ap not (sym (typed .before .strictly-above .ensures ls)) ∙ typed .if3 .left,
+      sym (c .before .brought-below .ensures rs ls) ∙ c .if4 .taken,
+    )
+
+returns-5 : tie.Need-returns-5
+unfolding eventRefusal checks firstMet knownEvent
+returns-5 c =
+    let typed = c .before .before in
+    let there = typed .before .before in
+    let known = there .before .before in
+    let x = known .before .before .before .before .before .args in
+    λ rs lent ls.
+    rw (
+      ap not (sym (known .before .known-type .ensures (now (x .types)))) ∙ known .if1 .left,
+      ap not (sym (there .before .is-present .ensures ls)) ∙ there .if2 .left,
+      ap not (sym (typed .before .strictly-above .ensures ls)) ∙ typed .if3 .left,
+      sym (c .before .brought-below .ensures rs ls) ∙ c .if4 .left,
     )
 
 pub of-special-spec : {M : Type 1} → statement M
@@ -70,4 +90,6 @@ of-special-spec =
     returns-2
     strictly-above-requires
     returns-3
-    returns-4)
+    brought-below-requires
+    returns-4
+    returns-5)

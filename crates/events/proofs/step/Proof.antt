@@ -6,7 +6,7 @@ use denote.Ref.{now}
 use Rattle.meaning.specs.Schema.{Schema}
 use Rattle.meaning.specs.Register.{Register}
 use Rattle.meaning.specs.Events.{Event, Lent, eventRefusal}
-use Rattle.tables.specs.Columns.{relationshipsOf, schemaOf, registerOf, eventRow}
+use Rattle.tables.specs.Columns.{floorsOf, schemaOf, registerOf, eventRow}
 use Rattle.tables.specs.Refusals.{foundOf}
 use Rattle.tables.specs.declared.Found.the-variants.{At, Nothing}
 use Rattle.schema.proofs.Founds.{found-none}
@@ -26,10 +26,10 @@ module _ (c : tie.After-enum-told) where
   asked = c .before .before
 
   abbrev start : tie.Start
-  start = let first = asked .before .before .before in first .before .before .before .before .before
+  start = let first = asked .before .before .before in first .before .before .before .before .before .before
 
   abbrev S : Schema
-  S = schemaOf (start .args .type-count) (now (start .args .types)) (start .args .relationship-count) (now (start .args .relationships))
+  S = schemaOf (start .args .type-count) (now (start .args .types)) (floorsOf (start .args .floor-count) (now (start .args .floors))) (start .args .relationship-count) (now (start .args .relationships))
 
   abbrev lent : ℕ → Lent
   lent w = record { objects = start .args .objects-lent; links = start .args .links-lent; words = w }
@@ -91,11 +91,10 @@ returns-2 : tie.Need-returns-2
 returns-2 c =
     let done = c .before .before .before .before in
     let told = done .before .before .before .before in
-    let x = start told .args in
     λ w.
     record {
       refused-is = sym (ap foundOf (unrefused told w));
-      taken = λ e. done .row-effect .ensures .0 (relationshipsOf (x .relationship-count) (now (x .relationships)));
+      taken = λ e. done .row-effect .ensures .0 (S told .floors) (S told .relationships);
       lost = λ e. done .row-effect .ensures .1;
       kept = λ d. absurd (d refl);
       losses-kept = λ d. absurd (d refl);

@@ -16,12 +16,12 @@ module _ (c : tie.After-check-all) where
   abbrev start : tie.Start
   start =
       let lengths = c .before .before .before .before .before in
-      let words = lengths .before .before .before .before in words .before .before .before .before
+      let words = lengths .before .before .before .before in words .before .before .before .before .before
 
   abbrev lent : Sheet
   lent =
       let x = start .args in
-      sheetOf (now (x .types)) (now (x .relationships)) (now (x .rules)) (now (x .bodies)) (now (x .objects)) (now (x .links)) (now (x .events))
+      sheetOf (now (x .types)) (now (x .floors)) (now (x .relationships)) (now (x .rules)) (now (x .bodies)) (now (x .objects)) (now (x .links)) (now (x .events))
 
   verdict-is : let x = start .args in c .check-all .result
       ≡ verdictOf (refusalOf layouts (x .n) lent (scratchShort (now (x .objects)) (now (x .links)) (now (x .scratch-objects)) (now (x .scratch-links))))

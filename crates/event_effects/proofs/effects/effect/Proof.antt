@@ -5,7 +5,7 @@ use mathlib.Core.Bool.{false}
 use mathlib.Core.List.{List, []}
 use native.Mathlib.Omega.{arith}
 use denote.Ref.{now}
-use Rattle.meaning.specs.Schema.{Schema, Relationship}
+use Rattle.meaning.specs.Schema.{Schema, Floor, Relationship}
 use Rattle.meaning.specs.Register.{Register}
 use Rattle.meaning.specs.Events.{Event, apply}
 use Rattle.meaning.specs.Reach.{stepAt, taken}
@@ -36,8 +36,8 @@ module _ (c : tie.After-slice-known2) where
   abbrev losses : List ℕ
   losses = now (start .args .losses)
 
-  abbrev S : List Relationship → Schema
-  S rs = record { types = typesOf (start .args .type-count) (now (start .args .types)); relationships = rs }
+  abbrev S : List Floor → List Relationship → Schema
+  S fs rs = record { types = typesOf (start .args .type-count) (now (start .args .types)); floors = fs; relationships = rs }
 
   abbrev g : Register
   g = registerOf (held .objects) objects (held .links) links
@@ -55,24 +55,24 @@ module _ (c : tie.After-slice-known2) where
   -- what it has done to both tables, and to the losses
   abbrev Done : Held → List ℕ → List ℕ → List ℕ → Type 0
   Done h objects′ links′ losses′ =
-      ((rs : List Relationship) → Applied (S rs) event (held .objects) objects (held .links) links (h .objects) objects′ (h .links) links′)
+      ((fs : List Floor) (rs : List Relationship) → Applied (S fs rs) event (held .objects) objects (held .links) links (h .objects) objects′ (h .links) links′)
       × LossesKept g event (held .links) (held .losses) losses (h .links) (h .losses) losses′
 
   -- one that changes a table of the two, and takes no link along
   abbrev Alone : Event → Type 0
   Alone e = (r u : ℕ) → taken r u (stepAt g e) ≡ false
 
-  on-objects : {e : Event} → event ≡ e → Alone e → ((rs : List Relationship) (h : Register) → (apply (S rs) e h) .links ≡ h .links) → {n : ℕ} {objects′ : List ℕ}
-      → ((rs : List Relationship) → ObjectsApplied (S rs) e (held .objects) objects n objects′) → Done (record { objects = n; links = held .links; losses = held .losses }) objects′ links losses
+  on-objects : {e : Event} → event ≡ e → Alone e → ((fs : List Floor) (rs : List Relationship) (h : Register) → (apply (S fs rs) e h) .links ≡ h .links) → {n : ℕ} {objects′ : List ℕ}
+      → ((fs : List Floor) (rs : List Relationship) → ObjectsApplied (S fs rs) e (held .objects) objects n objects′) → Done (record { objects = n; links = held .links; losses = held .losses }) objects′ links losses
   on-objects {e} q alone stay done = (
-    λ rs. as-applied q (objects-applied (S rs) e (held .objects) objects (held .links) links (stay rs) (done rs)),
+    λ fs rs. as-applied q (objects-applied (S fs rs) e (held .objects) objects (held .links) links (stay fs rs) (done fs rs)),
     as-kept q (losses-stay g e alone (omega arith)),
   )
 
-  on-links : {e : Event} → event ≡ e → Alone e → ((rs : List Relationship) (h : Register) → (apply (S rs) e h) .objects ≡ h .objects) → {m : ℕ} {links′ : List ℕ}
-      → ((rs : List Relationship) → LinksApplied (S rs) e (held .links) links m links′) → m ≤ held .links + 1 → Done (record { objects = held .objects; links = m; losses = held .losses }) objects links′ losses
+  on-links : {e : Event} → event ≡ e → Alone e → ((fs : List Floor) (rs : List Relationship) (h : Register) → (apply (S fs rs) e h) .objects ≡ h .objects) → {m : ℕ} {links′ : List ℕ}
+      → ((fs : List Floor) (rs : List Relationship) → LinksApplied (S fs rs) e (held .links) links m links′) → m ≤ held .links + 1 → Done (record { objects = held .objects; links = m; losses = held .losses }) objects links′ losses
   on-links {e} q alone stay done few = (
-    λ rs. as-applied q (links-applied (S rs) e (held .objects) objects (held .links) links (stay rs) (done rs)),
+    λ fs rs. as-applied q (links-applied (S fs rs) e (held .objects) objects (held .links) links (stay fs rs) (done fs rs)),
     as-kept q (losses-stay g e alone few),
   )
 
@@ -136,7 +136,7 @@ returns c =
     let done = c .before .before in
     let at = done .before .before in
     let a = start (at .before) .args in
-    on-objects (at .before) (is-insert (a .x) (a .y) (a .z) (start (at .before) .pre .1) (at .match .keys1)) (λ r u. refl) (λ rs h. refl) (λ rs. done .put-object .ensures (S (at .before) rs))
+    on-objects (at .before) (is-insert (a .x) (a .y) (a .z) (start (at .before) .pre .1) (at .match .keys1)) (λ r u. refl) (λ fs rs h. refl) (λ fs rs. done .put-object .ensures (S (at .before) fs rs))
 
 same-length-2 : tie.Need-same-length-2
 same-length-2 c = search needs
@@ -150,7 +150,7 @@ returns-2 c =
     let at = done .before .before .before .before in
     let a = start (at .before) .args in
     let q = is-delete (a .x) (a .y) (a .z) (start (at .before) .pre .1) (at .match .keys2) in
-    (λ rs. as-applied q (done .take-out .ensures .0 (S (at .before) rs)), as-kept q (done .take-out .ensures .1))
+    (λ fs rs. as-applied q (done .take-out .ensures .0 (S (at .before) fs rs)), as-kept q (done .take-out .ensures .1))
 
 same-length-4 : tie.Need-same-length-4
 same-length-4 c = search needs
@@ -161,7 +161,7 @@ returns-3 c =
     let done = c .before .before in
     let at = done .before .before in
     let a = start (at .before) .args in
-    on-objects (at .before) (kind-set (a .x) (a .y) (a .z) (at .match .keys3)) (λ r u. refl) (λ rs h. refl) (λ rs. done .put-cell .ensures (S (at .before) rs))
+    on-objects (at .before) (kind-set (a .x) (a .y) (a .z) (at .match .keys3)) (λ r u. refl) (λ fs rs h. refl) (λ fs rs. done .put-cell .ensures (S (at .before) fs rs))
 
 same-length-5 : tie.Need-same-length-5
 same-length-5 c = search needs
@@ -172,8 +172,8 @@ returns-4 c =
     let done = c .before .before in
     let at = done .before .before in
     let a = start (at .before) .args in
-    on-links (at .before) (kind-join (a .x) (a .y) (a .z) (at .match .keys4)) (λ r u. refl) (λ rs h. refl) (λ rs. done .put-link .ensures (S (at .before) rs))
-    (joined-few (done .put-link .ensures (S (at .before) [])))
+    on-links (at .before) (kind-join (a .x) (a .y) (a .z) (at .match .keys4)) (λ r u. refl) (λ fs rs h. refl) (λ fs rs. done .put-link .ensures (S (at .before) fs rs))
+    (joined-few (done .put-link .ensures (S (at .before) [] [])))
 
 same-length-6 : tie.Need-same-length-6
 same-length-6 c = search needs
@@ -184,8 +184,8 @@ returns-5 c =
     let done = c .before .before in
     let at = done .before .before in
     let a = start (at .before) .args in
-    on-links (at .before) (kind-part (a .x) (a .y) (a .z) (at .match .keys5)) (λ r u. refl) (λ rs h. refl) (λ rs. done .take-link .ensures (S (at .before) rs))
-    (parted-few (done .take-link .ensures (S (at .before) [])))
+    on-links (at .before) (kind-part (a .x) (a .y) (a .z) (at .match .keys5)) (λ r u. refl) (λ fs rs h. refl) (λ fs rs. done .take-link .ensures (S (at .before) fs rs))
+    (parted-few (done .take-link .ensures (S (at .before) [] [])))
 
 same-length-7 : tie.Need-same-length-7
 same-length-7 c = search needs
@@ -196,7 +196,7 @@ returns-6 c =
     let done = c .before .before in
     let at = done .before .before in
     let a = start (at .before) .args in
-    on-objects (at .before) (is-special (a .x) (a .y) (a .z) (start (at .before) .pre .1) (at .match .keys6)) (λ r u. refl) (λ rs h. refl) (λ rs. done .put-type .ensures (S (at .before) rs))
+    on-objects (at .before) (is-special (a .x) (a .y) (a .z) (start (at .before) .pre .1) (at .match .keys6)) (λ r u. refl) (λ fs rs h. refl) (λ fs rs. done .put-type .ensures (S (at .before) fs rs))
 
 same-length-8 : tie.Need-same-length-8
 same-length-8 c = search needs
@@ -207,7 +207,7 @@ returns-7 c =
     let done = c .before .before in
     let at = done .before .before in
     let a = start (at .before) .args in
-    on-objects (at .before) (is-general (a .x) (a .y) (a .z) (start (at .before) .pre .1) (at .match .keys7)) (λ r u. refl) (λ rs h. refl) (λ rs. done .put-higher-type .ensures rs)
+    on-objects (at .before) (is-general (a .x) (a .y) (a .z) (start (at .before) .pre .1) (at .match .keys7)) (λ r u. refl) (λ fs rs h. refl) (λ fs rs. done .put-higher-type .ensures fs rs)
 
 returns-8 : tie.Need-returns-8
 returns-8 c =

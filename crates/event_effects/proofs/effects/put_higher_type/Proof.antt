@@ -47,8 +47,8 @@ returns c =
     let start = searched .before .before .before .before in
     let x = start .args in
     let row = matched .row .given .0 .0 in
-    λ rs.
-    let S : Schema = record { types = typesOf (x .type-count) (now (x .types)); relationships = rs } in
+    λ fs rs.
+    let S : Schema = record { types = typesOf (x .type-count) (now (x .types)); floors = fs; relationships = rs } in
     subst (λ u. ObjectsApplied S (general (x .id) (x .t)) (x .count) (now (x .objects)) (x .count) u)
     (sym
     (cleared .clear-columns .ensures ∙ ap (λ u. withoutColumns u 10 row (2 + counted .cells-of .result)) (written .put-word .ensures)

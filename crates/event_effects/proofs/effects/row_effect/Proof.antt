@@ -54,7 +54,7 @@ returns : tie.Need-returns
 returns c =
     let done = c .before .before .before .before in
     let words = done .before .before .before .before in
-    (λ rs. as-applied (sym (row-event words)) (done .effect .ensures .0 rs), as-kept (sym (row-event words)) (done .effect .ensures .1))
+    (λ fs rs. as-applied (sym (row-event words)) (done .effect .ensures .0 fs rs), as-kept (sym (row-event words)) (done .effect .ensures .1))
 
 pub row-effect-spec : {M : Type 1} → statement M
 row-effect-spec =

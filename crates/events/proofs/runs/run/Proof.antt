@@ -18,7 +18,10 @@ abbrev at-objects : Ready → tie.After-copy-words
 at-objects c = at-links c .before .before .before .before
 
 abbrev start : Ready → tie.Start
-start c = let first = at-objects c .before .before in first .before .before .before .before .before .before .before
+start c =
+    let first = at-objects c .before .before in
+    let schema = first .before .before .before .before .before in
+    schema .before .before .before
 
 copies : (c : Ready) → let x = start c .args in Copies (x .object-count) (now (x .objects)) (x .link-count) (now (x .links)) (now (x .scratch-objects)) (now (x .scratch-links))
     (c .before .rows-lent .result) (c .rows-lent2 .result) (at-objects c .copy-words .last .0) (at-links c .copy-words2 .last .0)

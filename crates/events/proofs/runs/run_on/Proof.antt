@@ -12,7 +12,7 @@ use Rattle.meaning.specs.Schema.{Schema}
 use Rattle.meaning.specs.Register.{Register}
 use Rattle.meaning.specs.Events.{Event, Lent, eventRefusal}
 use Rattle.rows.specs.Rows.{readRows}
-use Rattle.tables.specs.Columns.{linkRow, schemaOf, registerOf, eventRow}
+use Rattle.tables.specs.Columns.{linkRow, floorsOf, schemaOf, registerOf, eventRow}
 use Rattle.tables.specs.Refusals.{verdictOf}
 use Rattle.tables.specs.declared.Found.the-variants.{Nothing}
 use Rattle.tables.specs.declared.Verdict.the-variants.{Clear, Refused}
@@ -31,16 +31,16 @@ abbrev lentOf : ℕ → ℕ → ℕ → Lent
 lentOf objects links w = record { objects = objects; links = links; words = w }
 
 abbrev Inv-loop : tie.InvT-loop
-Inv-loop type-count types relationship-count relationships objects-lent links-lent from objects₀ links₀ event-count events used₀ met₀ losses₀ row₀ objects links used met losses row =
+Inv-loop type-count types floor-count floors relationship-count relationships objects-lent links-lent from objects₀ links₀ event-count events used₀ met₀ losses₀ row₀ objects links used met losses row =
     ((w : ℕ) →
-    Reached (schemaOf type-count types relationship-count relationships) (lentOf objects-lent links-lent w) (registerOf (from .objects) objects₀ (from .links) links₀)
+    Reached (schemaOf type-count types (floorsOf floor-count floors) relationship-count relationships) (lentOf objects-lent links-lent w) (registerOf (from .objects) objects₀ (from .links) links₀)
     (eventRow events) event-count row (used .objects) objects (used .links) links met)
     × (length objects ≡ length objects₀) × (length links ≡ length links₀)
-    × Lost (schemaOf type-count types relationship-count relationships) (registerOf (from .objects) objects₀ (from .links) links₀) (eventRow events) event-count row
+    × Lost (schemaOf type-count types (floorsOf floor-count floors) relationship-count relationships) (registerOf (from .objects) objects₀ (from .links) links₀) (eventRow events) event-count row
     (used .objects) objects (used .links) links (used .losses) losses
 
 abbrev μ-loop : tie.MeasureT-loop
-μ-loop type-count types relationship-count relationships objects-lent links-lent from objects₀ links₀ event-count events used₀ met₀ losses₀ row₀ objects links used met losses row =
+μ-loop type-count types floor-count floors relationship-count relationships objects-lent links-lent from objects₀ links₀ event-count events used₀ met₀ losses₀ row₀ objects links used met losses row =
     event-count - row
 
 -- ---- a turn, once its event is looked at
@@ -55,7 +55,7 @@ abbrev at-loop : Looked → tie.At-loop Inv-loop μ-loop
 at-loop c = turn c .before
 
 abbrev start : Looked → tie.Start Inv-loop μ-loop
-start c = at-loop c .before .before .before .before .before .before
+start c = let schema = at-loop c .before .before .before .before in schema .before .before .before
 
 abbrev looked : tie.After-slice-known4 Inv-loop μ-loop → Looked
 looked c = c .before .before .before .before
@@ -63,7 +63,7 @@ looked c = c .before .before .before .before
 -- what the event meets
 module _ (c : Looked) where
   abbrev S : Schema
-  S = schemaOf (start c .args .type-count) (now (start c .args .types)) (start c .args .relationship-count) (now (start c .args .relationships))
+  S = schemaOf (start c .args .type-count) (now (start c .args .types)) (floorsOf (start c .args .floor-count) (now (start c .args .floors))) (start c .args .relationship-count) (now (start c .args .relationships))
 
   abbrev lent : ℕ → Lent
   lent w = lentOf (start c .args .objects-lent) (start c .args .links-lent) w
@@ -87,7 +87,7 @@ module _ (c : Looked) where
 
 loop-holds : tie.Need-loop-holds Inv-loop μ-loop
 loop-holds c =
-    let first = c .before .before .before .before .before in
+    let first = c .before .before .before .before .before .before in
     (λ w. reached-none _ _ _ _ (first .pre .1) (fit-words (first .pre .0) w) _ refl, refl, refl, lost-none _ _ _ (first .pre .0 .links-few) (first .pre .2) _ refl)
 
 met-type-requires : tie.Need-met-type-requires Inv-loop μ-loop
