@@ -15,6 +15,7 @@ ghost use Rattle.meaning.specs.Reach.{Change, inserted, specialised};
 ghost use Rattle.rows.specs.Rows.{wordAt};
 ghost use Rattle.tables.specs.Bodies.{wholeBody};
 ghost use Rattle.tables.specs.Columns.{ruleRow};
+ghost use Rattle.typing.specs.Types.{FlooredRows};
 ghost use Rattle.body_rows.specs.Marks.{bodyOf};
 ghost use Rattle.walks.specs.Site.{siteOf, idIn};
 ghost use Rattle.trace_places.specs.Traces.{Traced, Traces};
@@ -77,6 +78,7 @@ fn put_candidates(
     rules: &[u32],
     bodies: &[u32],
     spans: &[u32; 65],
+    floored: &[bool; 64],
     events: &[u32],
     trace: &[u16; 16675],
     rule: u32,
@@ -87,6 +89,7 @@ fn put_candidates(
         × (Traces n (now types) (now objects) (now links) (now events) (now trace)) × (length (now sets) ≡ 65536) ⌝ }
     ensures { λ r. ⌜ (length (now (sets .exit)) ≡ length (now (sets .entry)))
         × ((c : Change) → Traced c n (now (types .entry)) (now (objects .entry)) (now (links .entry)) (now (events .entry)) (now (trace .entry))
+        → FlooredRows (c .schema) (bodyOf (now (bodies .entry)) rule) (wordAt (now (rules .entry)) 2 rule 1) (now (floored .entry))
         → r ≡ false → (row : ℕ) → row < n .objects
         → candidate c (ruleRow (now (rules .entry)) (now (bodies .entry)) rule) (idIn (now (objects .entry)) row) ≡ true
         → getD (now (sets .exit)) (0 + row) false ≡ true) ⌝ }
@@ -105,6 +108,7 @@ fn put_candidates(
         index,
         bodies,
         spans,
+        floored,
         events,
         trace,
         body,
@@ -138,6 +142,7 @@ pub fn candidates(
     rules: &[u32],
     bodies: &[u32],
     spans: &[u32; 65],
+    floored: &[bool; 64],
     events: &[u32],
     trace: &[u16; 16675],
     rule: u32,
@@ -148,6 +153,7 @@ pub fn candidates(
         × (Traces n (now types) (now objects) (now links) (now events) (now trace)) × (length (now sets) ≡ 65536) ⌝ }
     ensures { λ r. ⌜ (length (now (sets .exit)) ≡ length (now (sets .entry)))
         × ((c : Change) → Traced c n (now (types .entry)) (now (objects .entry)) (now (links .entry)) (now (events .entry)) (now (trace .entry))
+        → FlooredRows (c .schema) (bodyOf (now (bodies .entry)) rule) (wordAt (now (rules .entry)) 2 rule 1) (now (floored .entry))
         → (row : ℕ) → row < n .objects
         → candidate c (ruleRow (now (rules .entry)) (now (bodies .entry)) rule) (idIn (now (objects .entry)) row) ≡ true
         → getD r row false ≡ true) ⌝ }
@@ -161,6 +167,7 @@ pub fn candidates(
         rules,
         bodies,
         spans,
+        floored,
         events,
         trace,
         rule,

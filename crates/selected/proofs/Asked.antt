@@ -25,7 +25,7 @@ use Rattle.going_back.specs.Back.{candidate}
 use Rattle.row_sets.proofs.Tests.{so-true}
 use Rattle.going_back.proofs.Coverage.{selected-candidate}
 use Rattle.going_back.proofs.Rules.{body-form}
-use Rattle.selected.specs.Ready.{TypedBy, Marked}
+use Rattle.selected.specs.Ready.{KnownBy, Marked}
 
 -- ---- two parts, of which the first decides or not
 
@@ -96,13 +96,13 @@ module _ {c : Change} {n : Counts} {types objects links events trace : List ℕ}
 
 -- ---- a row that is not marked
 
-pub unmarked : {c : Change} {n : Counts} {types objects links events trace : List ℕ} (traced : Traced c n types objects links events trace) (rules bodies : List ℕ) (rule : ℕ) (marks : List Bool)
-    → Marked n types objects links events trace rules bodies rule marks → TypedBy c rules bodies rule
+pub unmarked : {c : Change} {n : Counts} {types objects links events trace : List ℕ} (traced : Traced c n types objects links events trace) (rules bodies : List ℕ) (rule : ℕ) (floored marks : List Bool)
+    → Marked n types objects links events trace rules bodies rule floored marks → KnownBy c rules bodies rule floored
     → (row : ℕ) → row < n .objects → getD marks row false ≡ false → false ≡ selected c (ruleRow rules bodies rule) (idIn objects row)
-unmarked {c} {objects = objects} traced rules bodies rule marks marked typed row h off =
+unmarked {c} {objects = objects} traced rules bodies rule floored marks marked known row h off =
     let r = ruleRow rules bodies rule in
     let u = idIn objects row in
     ⊎-elim
-    (λ (yes : T (selected c r u)). absurd (false≢true (sym off ∙ marked c traced row h (so-true (candidate c r u) (selected-candidate c r u typed yes)))))
+    (λ (yes : T (selected c r u)). absurd (false≢true (sym off ∙ marked c traced (known .floors) row h (so-true (candidate c r u) (selected-candidate c r u (known .typed) yes)))))
     (λ no. sym (off-true (selected c r u) no))
     (decide (selected c r u))

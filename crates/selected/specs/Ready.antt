@@ -13,6 +13,7 @@ use Rattle.tables.specs.Bodies.{wholeBody}
 use Rattle.tables.specs.Columns.{ruleRow}
 use Rattle.tables.specs.declared.Counts.{Counts}
 use Rattle.body_rows.specs.Marks.{bodyOf}
+use Rattle.typing.specs.Types.{FlooredRows}
 use Rattle.walks.specs.Site.{siteOf, idIn}
 use Rattle.trace_places.specs.Traces.{Traced}
 use Rattle.going_back.specs.Back.{candidate}
@@ -24,12 +25,17 @@ pub record RuleReady (n : Counts) (types objects links index rules bodies starts
   pub whole : T (wholeBody (bodyOf bodies rule) (wordAt rules 2 rule 1))
   pub able : BodyAble schema (siteOf n types objects links index bodies rule) starts (wordAt rules 2 rule 1)
 
--- it is well typed by the schema of a batch
-abbrev pub TypedBy : Change → List ℕ → List ℕ → ℕ → Type 0
-TypedBy c rules bodies rule = T (wellTyped (c .schema) ((ruleRow rules bodies rule) .context ∷ []) ((ruleRow rules bodies rule) .body))
+-- by the schema of a batch, its sums over floored cells are those that are marked
+abbrev pub FlooredBy : Change → List ℕ → List ℕ → ℕ → List Bool → Type 0
+FlooredBy c rules bodies rule floored = FlooredRows (c .schema) (bodyOf bodies rule) (wordAt rules 2 rule 1) floored
 
--- the marks have every candidate of the rule
-abbrev pub Marked : Counts → List ℕ → List ℕ → List ℕ → List ℕ → List ℕ → List ℕ → List ℕ → ℕ → List Bool → Type 0
-Marked n types objects links events trace rules bodies rule marks =
-    (c : Change) → Traced c n types objects links events trace → (row : ℕ) → row < n .objects
+-- and it is well typed
+pub record KnownBy (c : Change) (rules bodies : List ℕ) (rule : ℕ) (floored : List Bool) : Type 0 where
+  pub typed : T (wellTyped (c .schema) ((ruleRow rules bodies rule) .context ∷ []) ((ruleRow rules bodies rule) .body))
+  pub floors : FlooredBy c rules bodies rule floored
+
+-- the marks of rows have every candidate of the rule
+abbrev pub Marked : Counts → List ℕ → List ℕ → List ℕ → List ℕ → List ℕ → List ℕ → List ℕ → ℕ → List Bool → List Bool → Type 0
+Marked n types objects links events trace rules bodies rule floored marks =
+    (c : Change) → Traced c n types objects links events trace → FlooredBy c rules bodies rule floored → (row : ℕ) → row < n .objects
     → candidate c (ruleRow rules bodies rule) (idIn objects row) ≡ true → getD marks row false ≡ true

@@ -11,7 +11,7 @@ ghost use Rattle.meaning.specs.Reach.{Change, quiet, inserted, specialised, sel
 ghost use Rattle.tables.specs.Columns.{ruleRow};
 ghost use Rattle.walks.specs.Site.{idIn};
 ghost use Rattle.trace_places.specs.Traces.{Traced, Traces};
-ghost use Rattle.selected.specs.Ready.{RuleReady, TypedBy, Marked};
+ghost use Rattle.selected.specs.Ready.{RuleReady, FlooredBy, KnownBy, Marked};
 
 // Whether an insert or a special brought the object in a row into a type; an insert does not count where the body is quiet.
 fn brought_in(
@@ -67,6 +67,7 @@ fn selected_at(
     rules: &[u32],
     bodies: &[u32],
     spans: &[u32; 65],
+    floored: &[bool; 64],
     events: &[u32],
     trace: &[u16; 16675],
     rule: u32,
@@ -77,6 +78,7 @@ fn selected_at(
         × (Traces n (now types) (now objects) (now links) (now events) (now trace))
         × (still ≡ quiet ((ruleRow (now rules) (now bodies) rule) .body)) × (row < n .objects) ⌝ }
     ensures { λ r. ⌜ ((c : Change) → Traced c n (now (types .entry)) (now (objects .entry)) (now (links .entry)) (now (events .entry)) (now (trace .entry))
+        → FlooredBy c (now (rules .entry)) (now (bodies .entry)) rule (now (floored .entry))
         → r ≡ selected c (ruleRow (now (rules .entry)) (now (bodies .entry)) rule) (idIn (now (objects .entry)) row)) ⌝ }
 {
     let context = rows::word(rules, tables::RULE_WIDTH, rule, 0);
@@ -97,6 +99,7 @@ fn selected_at(
         index,
         bodies,
         spans,
+        floored,
         events,
         trace,
         &vs,
@@ -115,6 +118,7 @@ pub fn chosen_at(
     rules: &[u32],
     bodies: &[u32],
     spans: &[u32; 65],
+    floored: &[bool; 64],
     events: &[u32],
     trace: &[u16; 16675],
     rule: u32,
@@ -125,9 +129,10 @@ pub fn chosen_at(
     requires { ⌜ (RuleReady n (now types) (now objects) (now links) (now index) (now rules) (now bodies) (now spans) rule)
         × (Traces n (now types) (now objects) (now links) (now events) (now trace))
         × (still ≡ quiet ((ruleRow (now rules) (now bodies) rule) .body))
-        × (Marked n (now types) (now objects) (now links) (now events) (now trace) (now rules) (now bodies) rule (now marks)) × (row < n .objects) ⌝ }
+        × (Marked n (now types) (now objects) (now links) (now events) (now trace) (now rules) (now bodies) rule (now floored) (now marks)) × (row < n .objects) ⌝ }
     ensures { λ r. ⌜ ((c : Change) → Traced c n (now (types .entry)) (now (objects .entry)) (now (links .entry)) (now (events .entry)) (now (trace .entry))
-        → TypedBy c (now (rules .entry)) (now (bodies .entry)) rule → r ≡ selected c (ruleRow (now (rules .entry)) (now (bodies .entry)) rule) (idIn (now (objects .entry)) row)) ⌝ }
+        → KnownBy c (now (rules .entry)) (now (bodies .entry)) rule (now (floored .entry))
+        → r ≡ selected c (ruleRow (now (rules .entry)) (now (bodies .entry)) rule) (idIn (now (objects .entry)) row)) ⌝ }
 {
     let at = row as usize;
     if !marks[at] {
@@ -142,6 +147,7 @@ pub fn chosen_at(
         rules,
         bodies,
         spans,
+        floored,
         events,
         trace,
         rule,

@@ -30,7 +30,7 @@ abbrev site : tie.Start → Site
 site s = let a = s .args in siteOf (a .n) (now (a .types)) (now (a .objects)) (now (a .links)) (now (a .index)) (now (a .bodies)) (a .rule)
 
 returns : tie.Need-returns
-returns c = (refl, λ k traced still row h. let none = c .if1 .taken in absurd (omega arith))
+returns c = (refl, λ k traced floors still row h. let none = c .if1 .taken in absurd (omega arith))
 
 word-requires : tie.Need-word-requires
 word-requires c κs = search needs
@@ -64,12 +64,12 @@ returns-2 c =
     let a = s .args in
     let few = s .pre .2 .1 .objects-few in (
       call .back .ensures .0 .long ∙ put .put-brought .ensures .0,
-      λ k traced still.
+      λ k traced floors still.
           candidates-covered (a .n) (now (a .types)) (now (a .rules)) (now (a .bodies)) (now (a .objects)) (now (a .links)) (now (a .index)) (a .rule) (s .pre .0) k
           (λ row h e.
           let u = idIn (now (a .objects)) row in
           call .back .ensures .0 .kept _ (omega arith) (put .put-brought .ensures .1 k traced row h (ap (λ t. inserted k u t || specialised k u t) (put .before .before .word .ensures) ∙ e)))
-          (covered-as (λ v u. ap (λ e. reachedBy k (formAt (site s) e) 1 2 v u) (size .word2 .ensures)) (call .back .ensures .1 k traced))
+          (covered-as (λ v u. ap (λ e. reachedBy k (formAt (site s) e) 1 2 v u) (size .word2 .ensures)) (call .back .ensures .1 k traced (rw (size .word2 .ensures) floors)))
           still,
     )
 

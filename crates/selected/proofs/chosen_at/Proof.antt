@@ -12,10 +12,10 @@ element-copy-out-if1 c =
     omega (arith, s .pre .4, s .pre .1 .1 .objects-few)
 
 returns : tie.Need-returns
-returns c = λ k traced typed.
+returns c = λ k traced known.
     let s = c .before .before .before .before .before .before .before .before in
     let a = s .args in
-    unmarked traced (now (a .rules)) (now (a .bodies)) (a .rule) (now (a .marks)) (s .pre .3) typed (a .row) (s .pre .4) (not-true _ (c .if1 .taken))
+    unmarked traced (now (a .rules)) (now (a .bodies)) (a .rule) (now (a .floored)) (now (a .marks)) (s .pre .3) known (a .row) (s .pre .4) (not-true _ (c .if1 .taken))
 
 selected-at-requires : tie.Need-selected-at-requires
 selected-at-requires c κs =
@@ -23,7 +23,7 @@ selected-at-requires c κs =
     (s .pre .0, s .pre .1, s .pre .2, s .pre .4)
 
 returns-2 : tie.Need-returns-2
-returns-2 c = λ k traced typed. c .selected-at .ensures k traced
+returns-2 c = λ k traced known. c .selected-at .ensures k traced (known .floors)
 
 pub chosen-at-spec : {M : Type 1} → statement M
 chosen-at-spec = tie.close (tie.spec element-copy-out-if1 returns selected-at-requires returns-2)

@@ -37,7 +37,7 @@ inside c =
     c .under .ensures ∙ ap₂ (λ t u. under (typesOf (a .n .types) (now (a .types))) t u) (c .before .type-of .ensures) (c .before .before .word .ensures)
 
 returns : tie.Need-returns
-returns c = λ k traced.
+returns c = λ k traced floors.
     let s = c .before .before .before .before .before .before .before .before .before .before in
     let a = s .args in
     not-under traced (now (a .index)) (now (a .rules)) (now (a .bodies)) (a .rule) (s .pre .3) (inside (c .before)) (not-true (c .before .under .result) (c .if1 .taken))
@@ -59,7 +59,7 @@ brought c k traced =
     c .brought-in .ensures k traced ∙ ap₂ (λ t q. (inserted k u t && not q) || specialised k u t) (word .word .ensures) (s .pre .2)
 
 returns-2 : tie.Need-returns-2
-returns-2 c = λ k traced.
+returns-2 c = λ k traced floors.
     let tested = c .before .before .before in
     let s = tested .before .before .before .before .before .before .before .before .before in
     let a = s .args in
@@ -78,7 +78,7 @@ moved-requires c κs =
     ((s .pre .0 .schema, rw (c .before .word2 .ensures) (s .pre .0 .able (s .args .row) (s .pre .3) _ refl refl)), s .pre .1, lit< tt)
 
 returns-3 : tie.Need-returns-3
-returns-3 c = λ k traced.
+returns-3 c = λ k traced floors.
     let judged = c .before .before .before in
     let tested = judged .before .before .before in
     let s = tested .before .before .before .before .before .before .before .before .before in
@@ -86,7 +86,7 @@ returns-3 c = λ k traced.
     let vars : List ℕ = a .row ∷ replicate 63 0 in
     body-moved traced (now (a .index)) (now (a .rules)) (now (a .bodies)) (a .rule) (s .pre .3) (inside tested) (not-false (tested .under .result) (judged .before .before .if1 .left))
     (brought (judged .before) k traced) (judged .if2 .left) (s .pre .0 .whole) vars refl
-    (c .moved .ensures k traced ∙ ap (λ e. movesAt k (siteOf (a .n) (now (a .types)) (now (a .objects)) (now (a .links)) (now (a .index)) (now (a .bodies)) (a .rule)) e vars 1 2) (c .before .before .word2 .ensures))
+    (c .moved .ensures k traced (rw (c .before .before .word2 .ensures) floors) ∙ ap (λ e. movesAt k (siteOf (a .n) (now (a .types)) (now (a .objects)) (now (a .links)) (now (a .index)) (now (a .bodies)) (a .rule)) e vars 1 2) (c .before .before .word2 .ensures))
 
 pub selected-at-spec : {M : Type 1} → statement M
 selected-at-spec =
