@@ -11,7 +11,7 @@ ghost use lib.ListN.{length, take};
 ghost use Rattle.meaning.specs.Lists.{keep};
 ghost use Rattle.meaning.specs.Reach.{Change};
 ghost use Rattle.rows.specs.Rows.{readRows};
-ghost use Rattle.tables.specs.Columns.{schemaOf};
+ghost use Rattle.tables.specs.Columns.{floorsOf, schemaOf};
 ghost use Rattle.tables.specs.Layouts.{sheetOf};
 ghost use Rattle.trace_places.specs.Traces.{Traced, Traces};
 ghost use Rattle.bits.specs.Bits.{bitsIn};
@@ -23,6 +23,7 @@ ghost use Rattle.selection.specs.Selected.{ruleCodes};
 pub fn select(
     n: Counts,
     types: &[u32],
+    floors: &[u32],
     relationships: &[u32],
     rules: &[u32],
     bodies: &[u32],
@@ -34,12 +35,12 @@ pub fn select(
     touched: u32,
     chosen: &mut [u16],
 ) -> u32
-    requires { ⌜ (Clear n (sheetOf (now types) (now relationships) (now rules) (now bodies) (now objects) (now links) []) (now index))
+    requires { ⌜ (Clear n (sheetOf (now types) (now floors) (now relationships) (now rules) (now bodies) (now objects) (now links) []) (now index))
         × (Traces n (now types) (now objects) (now links) (now events) (now trace))
         × ((may : ℕ → Bool) × (bitsIn touched ≡ keep may (readRows (λ i. i) (n .rules)))) × (length (now chosen) ≡ 32768) ⌝ }
     ensures { λ r. ⌜ (length (now (chosen .exit)) ≡ length (now (chosen .entry))) × (r ≤ n .rules * 1024)
         × ((c : Change) → Traced c n (now (types .entry)) (now (objects .entry)) (now (links .entry)) (now (events .entry)) (now (trace .entry))
-        → c .schema ≡ schemaOf (n .types) (now (types .entry)) (n .relationships) (now (relationships .entry))
+        → c .schema ≡ schemaOf (n .types) (now (types .entry)) (floorsOf (n .floors) (now (floors .entry))) (n .relationships) (now (relationships .entry))
         → take r (now (chosen .exit)) ≡ flatMap (ruleCodes c (now (rules .entry)) (now (bodies .entry)) (now (objects .entry)) (n .objects)) (bitsIn touched)) ⌝ }
 {
     let mut sets = [false; 65536];
@@ -51,6 +52,7 @@ pub fn select(
         count = select_rule(
             n,
             types,
+            floors,
             relationships,
             rules,
             bodies,

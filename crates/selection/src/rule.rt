@@ -4,17 +4,19 @@ use candidates::candidates;
 use quietness::quiet::quiet;
 use selected::chosen_at;
 use tables::Counts;
+use typing::Place;
+use typing::floored_rows;
 ghost use mathlib.Core.Path.{_≡_};
 ghost use mathlib.Core.List.{[], _++_};
 ghost use Prim.Native.Nat.{_+_, _*_, _≤_, _<_};
 ghost use lib.ListN.{length, take, set};
 ghost use Rattle.meaning.specs.Reach.{Change, quiet};
-ghost use Rattle.tables.specs.Columns.{ruleRow, schemaOf};
+ghost use Rattle.tables.specs.Columns.{ruleRow, floorsOf, schemaOf};
 ghost use Rattle.tables.specs.Layouts.{sheetOf};
 ghost use Rattle.trace_places.specs.Traces.{Traced, Traces};
 ghost use Rattle.full_search.specs.Search.{Clear};
 ghost use Rattle.selection.specs.Selected.{ruleCodes};
-ghost use Rattle.selected.specs.Ready.{RuleReady, TypedBy, Marked};
+ghost use Rattle.selected.specs.Ready.{RuleReady, KnownBy, Marked};
 
 // A code at its place.
 fn put(chosen: &mut [u16], at: u32, code: u32)
@@ -35,6 +37,7 @@ fn choose(
     rules: &[u32],
     bodies: &[u32],
     spans: &[u32; 65],
+    floored: &[bool; 64],
     events: &[u32],
     trace: &[u16; 16675],
     rule: u32,
@@ -46,11 +49,11 @@ fn choose(
     requires { ⌜ (RuleReady n (now types) (now objects) (now links) (now index) (now rules) (now bodies) (now spans) rule)
         × (Traces n (now types) (now objects) (now links) (now events) (now trace))
         × (still ≡ quiet ((ruleRow (now rules) (now bodies) rule) .body))
-        × (Marked n (now types) (now objects) (now links) (now events) (now trace) (now rules) (now bodies) rule (now marks))
+        × (Marked n (now types) (now objects) (now links) (now events) (now trace) (now rules) (now bodies) rule (now floored) (now marks))
         × (rule < 32) × (at ≤ rule * 1024) × (length (now chosen) ≡ 32768) ⌝ }
     ensures { λ r. ⌜ (length (now (chosen .exit)) ≡ length (now (chosen .entry))) × (r ≤ at + n .objects)
         × ((c : Change) → Traced c n (now (types .entry)) (now (objects .entry)) (now (links .entry)) (now (events .entry)) (now (trace .entry))
-        → TypedBy c (now (rules .entry)) (now (bodies .entry)) rule
+        → KnownBy c (now (rules .entry)) (now (bodies .entry)) rule (now (floored .entry))
         → take r (now (chosen .exit)) ≡ take at (now (chosen .entry)) ++ ruleCodes c (now (rules .entry)) (now (bodies .entry)) (now (objects .entry)) (n .objects) rule) ⌝ }
 {
     let mut count = at;
@@ -65,6 +68,7 @@ fn choose(
             rules,
             bodies,
             spans,
+            floored,
             events,
             trace,
             rule,
@@ -85,6 +89,7 @@ fn choose(
 pub fn select_rule(
     n: Counts,
     types: &[u32],
+    floors: &[u32],
     relationships: &[u32],
     rules: &[u32],
     bodies: &[u32],
@@ -98,17 +103,26 @@ pub fn select_rule(
     at: u32,
     chosen: &mut [u16],
 ) -> u32
-    requires { ⌜ (Clear n (sheetOf (now types) (now relationships) (now rules) (now bodies) (now objects) (now links) []) (now index))
+    requires { ⌜ (Clear n (sheetOf (now types) (now floors) (now relationships) (now rules) (now bodies) (now objects) (now links) []) (now index))
         × (Traces n (now types) (now objects) (now links) (now events) (now trace))
         × (rule < n .rules) × (at ≤ rule * 1024) × (length (now chosen) ≡ 32768) × (length (now sets) ≡ 65536) ⌝ }
     ensures { λ r. ⌜ (length (now (chosen .exit)) ≡ length (now (chosen .entry))) × (length (now (sets .exit)) ≡ length (now (sets .entry))) × (r ≤ at + 1024)
         × ((c : Change) → Traced c n (now (types .entry)) (now (objects .entry)) (now (links .entry)) (now (events .entry)) (now (trace .entry))
-        → c .schema ≡ schemaOf (n .types) (now (types .entry)) (n .relationships) (now (relationships .entry))
+        → c .schema ≡ schemaOf (n .types) (now (types .entry)) (floorsOf (n .floors) (now (floors .entry))) (n .relationships) (now (relationships .entry))
         → take r (now (chosen .exit)) ≡ take at (now (chosen .entry)) ++ ruleCodes c (now (rules .entry)) (now (bodies .entry)) (now (objects .entry)) (n .objects) rule) ⌝ }
 {
     let size = rows::word(rules, tables::RULE_WIDTH, rule, 1);
     let spans = scan(bodies, rule, size);
     let starts = spans.starts;
+    let body = Place {
+        types: n.types,
+        floors: n.floors,
+        relationships: n.relationships,
+        rule,
+        end: size,
+        depth: 1,
+    };
+    let floored = floored_rows(types, floors, relationships, bodies, &starts, body);
     let still = quiet(bodies, &starts, rule, size);
     let marks = candidates(
         n,
@@ -119,6 +133,7 @@ pub fn select_rule(
         rules,
         bodies,
         &starts,
+        &floored,
         events,
         trace,
         rule,
@@ -133,6 +148,7 @@ pub fn select_rule(
         rules,
         bodies,
         &starts,
+        &floored,
         events,
         trace,
         rule,

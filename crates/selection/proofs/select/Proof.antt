@@ -6,7 +6,7 @@ use native.Mathlib.Omega.{arith}
 use denote.Ref.{now}
 use lib.ListN.{length, take, length-replicate}
 use Rattle.meaning.specs.Reach.{Change}
-use Rattle.tables.specs.Columns.{schemaOf}
+use Rattle.tables.specs.Columns.{floorsOf, schemaOf}
 use Rattle.trace_places.specs.Traces.{Traced}
 use Rattle.bits.specs.Bits.{bitsIn}
 use Rattle.selection.specs.Selected.{ruleCodes}
@@ -16,14 +16,14 @@ use Rattle.selection.proofs.select.Statement.{statement}
 use Rattle.selection.proofs.select.Tie as tie
 
 abbrev Inv-loop : tie.InvT-loop
-Inv-loop n types relationships rules bodies objects links index events trace touched chosen₀ sets₀ left₀ remaining₀ count₀ chosen sets left remaining count =
+Inv-loop n types floors relationships rules bodies objects links index events trace touched chosen₀ sets₀ left₀ remaining₀ count₀ chosen sets left remaining count =
     (length chosen ≡ length chosen₀) × (length sets ≡ 65536)
     × ((g : Going (n .rules) (bitsIn touched) (bitsIn left) count remaining)
-    × ((c : Change) → Traced c n types objects links events trace → c .schema ≡ schemaOf (n .types) types (n .relationships) relationships
+    × ((c : Change) → Traced c n types objects links events trace → c .schema ≡ schemaOf (n .types) types (floorsOf (n .floors) floors) (n .relationships) relationships
     → take count chosen ≡ flatMap (ruleCodes c rules bodies objects (n .objects)) (g .done)))
 
 abbrev μ-loop : tie.MeasureT-loop
-μ-loop n types relationships rules bodies objects links index events trace touched chosen₀ sets₀ left₀ remaining₀ count₀ chosen sets left remaining count = remaining
+μ-loop n types floors relationships rules bodies objects links index events trace touched chosen₀ sets₀ left₀ remaining₀ count₀ chosen sets left remaining count = remaining
 
 -- the function's entry
 abbrev entry : tie.At-loop Inv-loop μ-loop → tie.Start Inv-loop μ-loop

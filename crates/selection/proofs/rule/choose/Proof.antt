@@ -11,19 +11,19 @@ use Rattle.tables.specs.Columns.{ruleRow}
 use Rattle.walks.specs.Site.{idIn}
 use Rattle.trace_places.specs.Traces.{Traced}
 use Rattle.selection.specs.Selected.{selectedRows}
-use Rattle.selected.specs.Ready.{TypedBy}
+use Rattle.selected.specs.Ready.{KnownBy}
 use Rattle.selection.proofs.Chosen.{below, Choosing, one-taken, one-passed}
 use Rattle.selection.proofs.rule.choose.Statement.{statement}
 use Rattle.selection.proofs.rule.choose.Tie as tie
 
 abbrev Inv-loop : tie.InvT-loop
-Inv-loop n types objects links index rules bodies spans events trace rule still marks at chosen₀ count₀ row₀ chosen count row =
+Inv-loop n types objects links index rules bodies spans floored events trace rule still marks at chosen₀ count₀ row₀ chosen count row =
     (row ≤ n .objects) × (count ≤ at + row) × (length chosen ≡ length chosen₀)
-    × ((c : Change) → Traced c n types objects links events trace → TypedBy c rules bodies rule
+    × ((c : Change) → Traced c n types objects links events trace → KnownBy c rules bodies rule floored
     → Choosing (λ x. selected c (ruleRow rules bodies rule) (idIn objects x)) rule (take at chosen₀) chosen count row)
 
 abbrev μ-loop : tie.MeasureT-loop
-μ-loop n types objects links index rules bodies spans events trace rule still marks at chosen₀ count₀ row₀ chosen count row = n .objects - row
+μ-loop n types objects links index rules bodies spans floored events trace rule still marks at chosen₀ count₀ row₀ chosen count row = n .objects - row
 
 -- the function's entry
 abbrev entry : tie.At-loop Inv-loop μ-loop → tie.Start Inv-loop μ-loop
@@ -34,7 +34,7 @@ codes : Change → tie.Start Inv-loop μ-loop → ℕ → List ℕ
 codes k s row = take (s .args .at) (now (s .args .chosen)) ++ below (λ x. selected k (ruleRow (now (s .args .rules)) (now (s .args .bodies)) (s .args .rule)) (idIn (now (s .args .objects)) x)) (s .args .rule) row
 
 loop-holds : tie.Need-loop-holds Inv-loop μ-loop
-loop-holds c = (omega arith, omega arith, refl, λ k traced typed. record { held = sym (append-nil _) })
+loop-holds c = (omega arith, omega arith, refl, λ k traced known. record { held = sym (append-nil _) })
 
 chosen-at-requires : tie.Need-chosen-at-requires Inv-loop μ-loop
 chosen-at-requires c κs =
@@ -85,10 +85,10 @@ loop-again c =
       omega (arith, test .if1 .taken),
       ⊎-elim (λ w. omega (arith, w .6, inv .1)) (λ w. omega (arith, w .2, inv .1)) (c .if2 .came),
       ⊎-elim (λ w. ap length (w .5) ∙ w .2 .kept .0 ∙ inv .2) (λ w. ap length (w .1) ∙ inv .2) (c .if2 .came),
-      λ k traced typed.
+      λ k traced known.
           ⊎-elim
-          (λ w. one-taken (inv .3 k traced typed) (sym (w .0 .taken) ∙ asked k traced typed) (room test) (w .5 ∙ w .2 .ensures) (w .6))
-          (λ w. one-passed (inv .3 k traced typed) (sym (w .0 .left) ∙ asked k traced typed) (w .1) (w .2))
+          (λ w. one-taken (inv .3 k traced known) (sym (w .0 .taken) ∙ asked k traced known) (room test) (w .5 ∙ w .2 .ensures) (w .6))
+          (λ w. one-passed (inv .3 k traced known) (sym (w .0 .left) ∙ asked k traced known) (w .1) (w .2))
           (c .if2 .came),
     )
 
@@ -102,7 +102,7 @@ returns c =
     let s = entry head in
     let inv = head .loop .inv in
     let all : head .loop .row ≡ s .args .n .objects = omega (arith, c .if1 .left, inv .0) in
-    (inv .2, omega (arith, inv .1), λ k traced typed. inv .3 k traced typed .held ∙ ap (codes k s) all)
+    (inv .2, omega (arith, inv .1), λ k traced known. inv .3 k traced known .held ∙ ap (codes k s) all)
 
 pub choose-spec : {M : Type 1} → statement M
 choose-spec =
