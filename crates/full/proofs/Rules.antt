@@ -7,7 +7,7 @@ use mathlib.Core.Option.{Option, none, some}
 use lib.Dec.{ltb, eqb}
 use borrow.Author.Tests.{ltb-true}
 use Rattle.meaning.specs.Lists.{firstOf, any}
-use Rattle.meaning.specs.Schema.{typeFault, relationshipFault}
+use Rattle.meaning.specs.Schema.{typeFault, floorFault, relationshipFault}
 use Rattle.meaning.specs.Register.{Register, objectFault, linkFault}
 use Rattle.meaning.specs.Forms.{Book, ruleFault}
 use Rattle.meaning.specs.Events.{Refusal}
@@ -56,7 +56,12 @@ verdict-for n s rule =
 
     by-known : (known : Bool) → cond known (verdictOf (lentRefusal n s false)) (lacking (verdictOf (lentRefusal n s false)) rule) ≡ verdictOf (staged known)
     by-known true = refl
-    by-known false = lacked (anyOverfull bookTables n s || anyLong (s .rules) (n .rules)) (notWhole bookTables s || false) (firstOf (typeFault (k .schema .types)) (relationshipFault (k .schema))) (ruleFault k) (firstOf (objectFault (k .schema .types) g) (linkFault (k .schema) g)) rule
+    by-known false =
+        lacked (anyOverfull bookTables n s || anyLong (s .rules) (n .rules)) (notWhole bookTables s || false)
+        (firstOf (typeFault (k .schema .types)) (firstOf (floorFault (k .schema)) (relationshipFault (k .schema))))
+        (ruleFault k)
+        (firstOf (objectFault (k .schema .types) (k .schema .floors) g) (linkFault (k .schema) g))
+        rule
 
 -- ---- what the code finds
 

@@ -23,7 +23,7 @@ enum-told c = search needs
 index-requires : tie.Need-index-requires
 index-requires c κs =
     let earlier = c .before .before .before .before .before .before .before in
-    let start = earlier .before .before .before in
+    let start = earlier .before .before .before .before in
     let s = sheetOf (now (start .args .types)) (now (start .args .floors)) (now (start .args .relationships)) (now (start .args .rules)) (now (start .args .bodies)) (now (start .args .objects)) (now (start .args .links)) [] in
     let clear = given (start .args .n) s false (clear-none _ (sym (c .before .enum-told .given .1) ∙ c .before .before .before .check .ensures)) in
     let fits = register-fits (start .args .n) s clear in

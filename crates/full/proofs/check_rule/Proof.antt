@@ -27,7 +27,7 @@ enum-told c = search needs
 index-requires : tie.Need-index-requires
 index-requires c κs =
     let earlier = c .before .before .before .before .before .before .before in
-    let start = earlier .before .before .before .before in
+    let start = earlier .before .before .before .before .before in
     let s = sheetOf (now (start .args .types)) (now (start .args .floors)) (now (start .args .relationships)) (now (start .args .rules)) (now (start .args .bodies)) (now (start .args .objects)) (now (start .args .links)) [] in
     let clear = given (start .args .n) s false (clear-none _ (clear-before _ (start .args .n .rules) (start .args .rule) (sym (c .before .enum-told .given .1) ∙ c .before .before .before .verdict-for .ensures) ∙ c .before .before .before .before .check .ensures)) in
     let fits = register-fits (start .args .n) s clear in
@@ -37,14 +37,14 @@ breaks-at-requires : tie.Need-breaks-at-requires
 breaks-at-requires c κs =
     let check = c .before .before .before .before .before .before .check in
     let earlier = c .before .before .before .before .before .before .before in
-    let start = earlier .before .before .before .before .before .before in
+    let start = earlier .before .before .before .before .before .before .before in
     let asked = sym (c .before .before .before .enum-told .given .1) ∙ c .before .before .before .before .before .verdict-for .ensures in
     (record { given = given _ _ false (clear-none _ (clear-before _ (start .args .n .rules) (start .args .rule) asked ∙ check .ensures)); indexed = c .before .index2 .ensures }, known-rule _ (start .args .n .rules) (start .args .rule) asked)
 
 returns : tie.Need-returns
 returns c =
     let earlier = c .before .before .before .before .before .before .before in
-    let start = earlier .before .before .before .before in
+    let start = earlier .before .before .before .before .before in
     rule-refused _ _ (start .args .rule) (start .args .id) (sym (c .before .number .given .1) ∙ c .before .before .before .verdict-for .ensures ∙ ap (λ v. verdictFor v (start .args .n .rules) (start .args .rule)) (c .before .before .before .before .check .ensures))
 
 returns-2 : tie.Need-returns-2
@@ -53,7 +53,7 @@ returns-2 c =
     let earlier = c .before .before .before .before .before .before .before in
     let check = earlier .before .check in
     let early = earlier .before .before .before .before .before .before .before in
-    let start = early .before in
+    let start = early .before .before in
     rule-broken _ _ (start .args .rule) (start .args .id) (sym (c .before .before .before .before .before .enum-told .given .1) ∙ verdict-for .ensures ∙ ap (λ v. verdictFor v (start .args .n .rules) (start .args .rule)) (check .ensures)) (c .before .breaks-at .ensures) (c .if1 .taken)
 
 returns-3 : tie.Need-returns-3
@@ -62,7 +62,7 @@ returns-3 c =
     let earlier = c .before .before .before .before .before .before .before in
     let check = earlier .before .check in
     let early = earlier .before .before .before .before .before .before .before in
-    let start = early .before in
+    let start = early .before .before in
     rule-accepted _ _ (start .args .rule) (start .args .id) (sym (c .before .before .before .before .before .enum-told .given .1) ∙ verdict-for .ensures ∙ ap (λ v. verdictFor v (start .args .n .rules) (start .args .rule)) (check .ensures)) (c .before .breaks-at .ensures) (c .if1 .left)
 
 pub check-rule-spec : {M : Type 1} → statement M

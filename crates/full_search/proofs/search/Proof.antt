@@ -27,7 +27,7 @@ abbrev μ-search : tie.MeasureT-search
 
 search-holds : tie.Need-search-holds Inv-loop μ-loop Inv-search μ-search
 search-holds c =
-    let start = c .before .before .before .before .before .before in
+    let start = c .before .before .before .before .before .before .before in
     (refl, search-starts (start .pre))
 
 word-requires : tie.Need-word-requires Inv-loop μ-loop Inv-search μ-search
@@ -39,14 +39,14 @@ word-requires-2 c κs = tt
 scan-requires : tie.Need-scan-requires Inv-loop μ-loop Inv-search μ-search
 scan-requires c κs =
     let earlier = c .before .before .before .before .before .before .before in
-    let start = earlier .before .before .before .before in
+    let start = earlier .before .before .before .before .before in
     size-few (start .pre) (c .before .before .if1 .taken) (c .word2 .ensures)
 
 loop-holds : tie.Need-loop-holds Inv-loop μ-loop Inv-search μ-search
 loop-holds c =
     let search = c .before .before .before .before .before .before .search in
     let earlier = c .before .before .before .before .before .before .before in
-    let start = earlier .before .before .before .before .before .before in
+    let start = earlier .before .before .before .before .before .before .before in
     (search .inv .0, within-starts (start .pre) (c .before .before .before .before .if1 .taken) (search .inv .1))
 
 add-on : tie.Need-add-on Inv-loop μ-loop Inv-search μ-search
@@ -57,10 +57,10 @@ breaks-requires c κs =
     let word2 = c .before .before .before .before .before .before .word2 in
     let earlier = c .before .before .before .before .before .before .before in
     let if1 = earlier .before .if1 in
-    let shared-slice-known4 = earlier .before .before .before .before .before .before .shared-slice-known4 in
+    let shared-slice-known5 = earlier .before .before .before .before .before .before .shared-slice-known5 in
     let early = earlier .before .before .before .before .before .before .before in
-    let start = early .before .before .before in
-    rule-ready (start .pre) (if1 .taken) (word2 .ensures) (λ j. shared-slice-known4 .given j .fits) (c .before .before .before .before .before .scan .ensures .0) (c .before .if2 .taken)
+    let start = early .before .before .before .before in
+    rule-ready (start .pre) (if1 .taken) (word2 .ensures) (λ j. shared-slice-known5 .given j .fits) (c .before .before .before .before .before .scan .ensures .0) (c .before .if2 .taken)
 
 id-of-requires : tie.Need-id-of-requires Inv-loop μ-loop Inv-search μ-search
 id-of-requires c κs = tt
@@ -76,7 +76,7 @@ loop-again c =
     let word = earlier .before .before .word in
     let if1 = earlier .before .before .before .if1 in
     let early = earlier .before .before .before .before .before .before .before in
-    let start = early .before .before .before .before .before in
+    let start = early .before .before .before .before .before .before in
     (loop .inv .0, row-passed (start .pre) (if1 .taken) (c .before .before .before .if2 .taken) (word2 .ensures) (word .ensures) (c .before .breaks .ensures) (loop .inv .1) (c .if3 .left))
 
 add-rule : tie.Need-add-rule Inv-loop μ-loop Inv-search μ-search
@@ -90,14 +90,14 @@ search-again c =
     let loop = c .before .before .loop in
     let earlier = c .before .before .before .before .before .before .before in
     let early = earlier .before .before .before .before .before .before .before in
-    let start = early .before .before in
+    let start = early .before .before .before in
     (loop .inv .0, within-ends (start .pre) (c .if2 .left) (loop .inv .1))
 
 returns : tie.Need-returns Inv-loop μ-loop Inv-search μ-search
 returns c =
     let search = c .before .before .search in
     let earlier = c .before .before .before .before .before .before .before in
-    let start = earlier .before .before in
+    let start = earlier .before .before .before in
     search .inv .0 ∙ search-ends (start .pre) (c .if1 .left) (search .inv .1)
 
 returns-2 : tie.Need-returns-2 Inv-loop μ-loop Inv-search μ-search
@@ -108,7 +108,7 @@ returns-2 c =
     let word = earlier .before .before .before .word in
     let if1 = earlier .before .before .before .before .if1 in
     let early = earlier .before .before .before .before .before .before .before in
-    let start = early .before .before .before .before .before .before in
+    let start = early .before .before .before .before .before .before .before in
     row-broken (start .pre) (if1 .taken) (c .before .before .before .before .if2 .taken) (word2 .ensures) (word .ensures) (c .before .before .breaks .ensures) (loop .inv .1) (c .id-of .ensures) (c .before .if3 .taken)
 
 pub search-spec : {M : Type 1} → statement M
