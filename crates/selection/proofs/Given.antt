@@ -1,6 +1,7 @@
 -- What no refusal gives the selection of a rule.
 use Prim.Native.Nat.{ℕ, _^_, _<_}
 use mathlib.Core.Path.{_≡_, refl, sym, ap, subst, _∙_}
+use mathlib.Core.Bool.{Bool}
 use mathlib.Core.List.{List, [], _∷_}
 use lib.Dec.{T}
 use lib.ListN.{getD}
@@ -13,11 +14,12 @@ use Rattle.tables.specs.Columns.{ruleRow, bookOf}
 use Rattle.tables.specs.declared.Counts.{Counts}
 use Rattle.tables.proofs.Forms.{whole-body}
 use Rattle.body_rows.specs.Marks.{bodyOf, Starts}
+use Rattle.typing.specs.Types.{FlooredRows}
 use Rattle.walks.specs.Site.{siteOf}
 use Rattle.full_search.specs.Search.{Clear}
 use Rattle.full_search.proofs.Given.{typed, register-fits}
 use Rattle.going_back.proofs.Rules.{body-form, rule-able}
-use Rattle.selected.specs.Ready.{RuleReady, TypedBy}
+use Rattle.selected.specs.Ready.{RuleReady, KnownBy}
 
 module _ {n : Counts} {s : Sheet} {index : List ℕ} (c : Clear n s index) {rule : ℕ} (h : rule < n .rules) where
   pub whole : T (wholeBody (bodyOf (s .bodies) rule) (wordAt (s .rules) 2 rule 1))
@@ -32,9 +34,11 @@ module _ {n : Counts} {s : Sheet} {index : List ℕ} (c : Clear n s index) {rule
   unfolding ruleRow readBody asTruth
   quiet-is = sym (ap (λ p. quiet (asTruth p)) (body-form n (s .types) (s .rules) (s .bodies) (s .objects) (s .links) index rule whole))
 
-  pub typed-by : (k : Change) → k .schema ≡ (bookOf n s) .schema → TypedBy k (s .rules) (s .bodies) rule
+  pub known-by : (k : Change) → k .schema ≡ (bookOf n s) .schema → {floored : List Bool}
+      → FlooredRows ((bookOf n s) .schema) (bodyOf (s .bodies) rule) (wordAt (s .rules) 2 rule 1) floored
+      → KnownBy k (s .rules) (s .bodies) rule floored
   unfolding ruleRow
-  typed-by k e = rw e (typed c h refl)
+  known-by k e floors = record { typed = rw e (typed c h refl); floors = rw e floors }
 
   pub rule-ready : ((j : ℕ) → getD (s .bodies) j 0 < 2 ^ 32) → {starts : List ℕ} → Starts (bodyOf (s .bodies) rule) starts (wordAt (s .rules) 2 rule 1)
       → RuleReady n (s .types) (s .objects) (s .links) index (s .rules) (s .bodies) starts rule
@@ -43,6 +47,6 @@ module _ {n : Counts} {s : Sheet} {index : List ℕ} (c : Clear n s index) {rule
       record {
         schema = (bookOf n s) .schema;
         whole = whole;
-        able = rule-able n (s .types) (s .rules) (s .bodies) (s .objects) (s .links) index rule whole (s .relationships) (c .given .few-types) (c .given .few-relationships)
+        able = rule-able n (s .types) (s .rules) (s .bodies) (s .objects) (s .links) index rule whole ((bookOf n s) .schema .floors) (s .relationships) (c .given .few-types) (c .given .few-relationships)
             (typed c h refl) (register-fits n s (c .given)) (c .indexed) words starts;
       }
