@@ -56,6 +56,7 @@ fn in_rule(count: u32, chosen: &[u16; 32768], at: u32, rule: u32) -> bool
 pub fn search(
     n: Counts,
     types: &[u32],
+    floors: &[u32],
     relationships: &[u32],
     rules: &[u32],
     bodies: &[u32],
@@ -65,8 +66,8 @@ pub fn search(
     count: u32,
     chosen: &[u16; 32768],
 ) -> Answer
-    requires { ⌜ (Clear n (sheetOf (now types) (now relationships) (now rules) (now bodies) (now objects) (now links) []) (now index)) × (Chosen n (now chosen) count) ⌝ }
-    ensures { λ r. ⌜ (let s = sheetOf (now (types .entry)) (now (relationships .entry)) (now (rules .entry)) (now (bodies .entry)) (now (objects .entry)) (now (links .entry)) [] in
+    requires { ⌜ (Clear n (sheetOf (now types) (now floors) (now relationships) (now rules) (now bodies) (now objects) (now links) []) (now index)) × (Chosen n (now chosen) count) ⌝ }
+    ensures { λ r. ⌜ (let s = sheetOf (now (types .entry)) (now (floors .entry)) (now (relationships .entry)) (now (rules .entry)) (now (bodies .entry)) (now (objects .entry)) (now (links .entry)) [] in
         r ≡ answerOf (firstBroken (bookOf n s) (registerIn n s) (pairsOf (now (objects .entry)) (now (chosen .entry)) count))) ⌝ }
 {
     let mut answer = Answer::Accepted;

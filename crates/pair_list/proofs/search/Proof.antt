@@ -12,25 +12,25 @@ use Rattle.pair_list.proofs.search.Statement.{statement}
 use Rattle.pair_list.proofs.search.Tie as tie
 
 abbrev Inv-loop : tie.InvT-loop
-Inv-loop n types relationships rules bodies objects links index count chosen answer₀ at₀ rule context size starts answer at =
-    (answer ≡ Accepted) × (at₀ ≤ at) × Left n (sheetOf types relationships rules bodies objects links []) chosen count at
+Inv-loop n types floors relationships rules bodies objects links index count chosen answer₀ at₀ rule context size starts answer at =
+    (answer ≡ Accepted) × (at₀ ≤ at) × Left n (sheetOf types floors relationships rules bodies objects links []) chosen count at
 
 abbrev μ-loop : tie.MeasureT-loop
-μ-loop n types relationships rules bodies objects links index count chosen answer₀ at₀ rule context size starts answer at = count - at
+μ-loop n types floors relationships rules bodies objects links index count chosen answer₀ at₀ rule context size starts answer at = count - at
 
 abbrev Inv-search : tie.InvT-search
-Inv-search n types relationships rules bodies objects links index count chosen answer₀ at₀ answer at =
-    (answer ≡ Accepted) × Left n (sheetOf types relationships rules bodies objects links []) chosen count at
+Inv-search n types floors relationships rules bodies objects links index count chosen answer₀ at₀ answer at =
+    (answer ≡ Accepted) × Left n (sheetOf types floors relationships rules bodies objects links []) chosen count at
 
 abbrev μ-search : tie.MeasureT-search
-μ-search n types relationships rules bodies objects links index count chosen answer₀ at₀ answer at = count - at
+μ-search n types floors relationships rules bodies objects links index count chosen answer₀ at₀ answer at = count - at
 
 search-holds : tie.Need-search-holds Inv-loop μ-loop Inv-search μ-search
 search-holds c = (refl, left-starts _ _ _ _)
 
 -- the function's entry, and the rule of the first pair
 abbrev entry : tie.At-search Inv-loop μ-loop Inv-search μ-search → tie.Start Inv-loop μ-loop Inv-search μ-search
-entry c = c .before .before .before .before .before .before .before
+entry c = c .before .before .before .before .before .before .before .before
 
 rule-low : (c : tie.After-code Inv-loop μ-loop Inv-search μ-search) → c .code .result / 1024 < (entry (c .before .before)) .args .n .rules
 rule-low c =
@@ -109,7 +109,7 @@ breaks-requires c κs =
     let scanned = c .before .before .before .before .before .before in
     let read = scanned .before .before .before in
     let head = read .before .before in
-    let bodies = head .before .before .before .shared-slice-known4 in
+    let bodies = head .before .before .before .shared-slice-known5 in
     rule-ready ((entry head) .pre .0) (rule-low read) (scanned .before .word2 .ensures) (λ j. bodies .given j .fits) (scanned .scan .ensures .0) (row-low (c .before))
 
 id-of-requires : tie.Need-id-of-requires Inv-loop μ-loop Inv-search μ-search
