@@ -36,11 +36,11 @@ off false h = refl
 -- the counts with other rows of objects and links
 abbrev pub countsWith : Counts → ℕ → ℕ → Counts
 countsWith n objects links =
-    record { types = n .types; relationships = n .relationships; rules = n .rules; objects = objects; links = links; events = n .events }
+    record { types = n .types; floors = n .floors; relationships = n .relationships; rules = n .rules; objects = objects; links = links; events = n .events }
 
 -- the tables with other objects and links
 abbrev pub sheetWith : Sheet → List ℕ → List ℕ → List ℕ → Sheet
-sheetWith s objects links events = sheetOf (s .types) (s .relationships) (s .rules) (s .bodies) objects links events
+sheetWith s objects links events = sheetOf (s .types) (s .floors) (s .relationships) (s .rules) (s .bodies) objects links events
 
 module _ (n : Counts) (s : Sheet) (scratchObjects scratchLinks : List ℕ) (words : ℕ) (u : Unrefused n s scratchObjects scratchLinks words) {m l : ℕ} {objects links met losses : List ℕ} {lost : ℕ}
     (left : RunLeft ((bookOf n s) .schema) (lentBy (s .objects) (s .links) 0) (registerIn n s) (batchIn n s) m objects l links met lost losses) where
@@ -70,11 +70,13 @@ module _ (n : Counts) (s : Sheet) (scratchObjects scratchLinks : List ℕ) (word
       let t = sheetWith s objects links [] in
       record {
         few-types = before .few-types;
+        few-floors = before .few-floors;
         few-relationships = before .few-relationships;
         few-rules = before .few-rules;
         few-objects = left .fit .objects-few;
         few-links = left .fit .links-few;
         types-lent = before .types-lent;
+        floors-lent = before .floors-lent;
         relationships-lent = before .relationships-lent;
         rules-lent = before .rules-lent;
         bodies-lent = before .bodies-lent;

@@ -73,11 +73,12 @@ fn settle(
     }
 }
 
-// The batch check. Refused by 2, 6, 3, 4, 5, 7 to 13 and 14, in this order; else the pairs that the batch selects are listed, and the answer is the first of
+// The batch check. Refused by 2, 6, 3, 4, 5, 7 to 13, 15 and 14, in this order; else the pairs that the batch selects are listed, and the answer is the first of
 // them that is broken at its end, or accepted.
 pub fn check(
     n: Counts,
     types: &[u32],
+    floors: &[u32],
     relationships: &[u32],
     rules: &[u32],
     bodies: &[u32],
@@ -88,7 +89,7 @@ pub fn check(
     scratch_links: &mut [u32],
     list: &mut [u32],
 ) -> Checked
-    ensures { λ r. ⌜ (let s = sheetOf (now (types .entry)) (now (relationships .entry)) (now (rules .entry)) (now (bodies .entry)) (now (objects .entry)) (now (links .entry)) (now (events .entry)) in
+    ensures { λ r. ⌜ (let s = sheetOf (now (types .entry)) (now (floors .entry)) (now (relationships .entry)) (now (rules .entry)) (now (bodies .entry)) (now (objects .entry)) (now (links .entry)) (now (events .entry)) in
         let short = scratchShort (now (objects .entry)) (now (links .entry)) (now («scratch_objects» .entry)) (now («scratch_links» .entry)) in
         Left (lentOutcome n s short (length (now (list .entry)))) (now (list .entry)) (now (objects .entry)) (now (links .entry)) r
         (now (list .exit)) (now (objects .exit)) (now (links .exit))) ⌝ }
@@ -96,6 +97,7 @@ pub fn check(
     let ran = lent_run::run(
         n,
         types,
+        floors,
         relationships,
         rules,
         bodies,
@@ -118,6 +120,7 @@ pub fn check(
             let held = ran.held;
             let after = Counts {
                 types: n.types,
+                floors: n.floors,
                 relationships: n.relationships,
                 rules: n.rules,
                 objects: held.objects,
@@ -127,6 +130,7 @@ pub fn check(
             let judged = judge(
                 after,
                 types,
+                floors,
                 relationships,
                 rules,
                 bodies,

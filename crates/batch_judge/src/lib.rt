@@ -24,6 +24,7 @@ pub struct Judged {
 pub fn judge(
     n: Counts,
     types: &[u32],
+    floors: &[u32],
     relationships: &[u32],
     rules: &[u32],
     bodies: &[u32],
@@ -35,9 +36,9 @@ pub fn judge(
     losses: &[u32; 8704],
     list: &mut [u32],
 ) -> Judged
-    requires { ⌜ (Given n (sheetOf (now types) (now relationships) (now rules) (now bodies) (now objects) (now links) []))
-        × ((c : Change) × Ended c n (sheetOf (now types) (now relationships) (now rules) (now bodies) (now objects) (now links) (now events)) (now met) «loss_count» (now losses)) ⌝ }
-    ensures { λ r. ⌜ (let s = sheetOf (now (types .entry)) (now (relationships .entry)) (now (rules .entry)) (now (bodies .entry)) (now (objects .entry)) (now (links .entry)) (now (events .entry)) in
+    requires { ⌜ (Given n (sheetOf (now types) (now floors) (now relationships) (now rules) (now bodies) (now objects) (now links) []))
+        × ((c : Change) × Ended c n (sheetOf (now types) (now floors) (now relationships) (now rules) (now bodies) (now objects) (now links) (now events)) (now met) «loss_count» (now losses)) ⌝ }
+    ensures { λ r. ⌜ (let s = sheetOf (now (types .entry)) (now (floors .entry)) (now (relationships .entry)) (now (rules .entry)) (now (bodies .entry)) (now (objects .entry)) (now (links .entry)) (now (events .entry)) in
         (c : Change) → Ended c n s (now (met .entry)) «loss_count» (now (losses .entry)) → (lent : Lent) → lent .words ≡ length (now (list .entry)) → (g : Register)
         → Judges (endOutcome (bookOf n s) lent g c) (now (list .entry)) r (now (list .exit))) ⌝ }
 {
@@ -47,6 +48,7 @@ pub fn judge(
     let count = selected_pairs(
         n,
         types,
+        floors,
         relationships,
         rules,
         bodies,
@@ -69,6 +71,7 @@ pub fn judge(
     let answer = pair_list::search(
         n,
         types,
+        floors,
         relationships,
         rules,
         bodies,

@@ -13,7 +13,7 @@ ghost use Rattle.meaning.specs.Lists.{keep};
 ghost use Rattle.meaning.specs.Reach.{Change, selectedPairs};
 ghost use Rattle.meaning.specs.EventList.{touched};
 ghost use Rattle.rows.specs.Rows.{readRows};
-ghost use Rattle.tables.specs.Columns.{ruleRow, schemaOf, bookOf};
+ghost use Rattle.tables.specs.Columns.{ruleRow, floorsOf, schemaOf, bookOf};
 ghost use Rattle.tables.specs.Layouts.{sheetOf};
 ghost use Rattle.register.specs.Tables.{ObjectsAscend};
 ghost use Rattle.trace_places.specs.Traces.{Seen};
@@ -27,6 +27,7 @@ ghost use Rattle.batch_selection.specs.Ended.{Ended};
 fn touched_rules(
     n: Counts,
     types: &[u32],
+    floors: &[u32],
     relationships: &[u32],
     rules: &[u32],
     bodies: &[u32],
@@ -34,21 +35,22 @@ fn touched_rules(
     events: &[u32],
     met: &[u32; 256],
 ) -> u32
-    requires { ⌜ (BookGiven n (now types) (now relationships) (now rules) (now bodies)) × (ObjectsAscend (n .objects) (now objects)) × (n .events ≤ maxEvents) ⌝ }
+    requires { ⌜ (BookGiven n (now types) (now floors) (now relationships) (now rules) (now bodies)) × (ObjectsAscend (n .objects) (now objects)) × (n .events ≤ maxEvents) ⌝ }
     ensures { λ r. ⌜ ((c : Change) (links : List ℕ)
         → Seen c n (now (types .entry)) (now (objects .entry)) links (now (events .entry)) (λ i. getD (now (met .entry)) i 0)
-        → c .schema ≡ schemaOf (n .types) (now (types .entry)) (n .relationships) (now (relationships .entry))
+        → c .schema ≡ schemaOf (n .types) (now (types .entry)) (floorsOf (n .floors) (now (floors .entry))) (n .relationships) (now (relationships .entry))
         → bitsIn r ≡ keep (λ i. touched c (ruleRow (now (rules .entry)) (now (bodies .entry)) i)) (readRows (λ i. i) (n .rules))) ⌝ }
 {
     let mut marks = [false; 1792];
     mark_events(n, types, objects, events, met, &mut marks);
-    touched(n, types, relationships, rules, bodies, &marks)
+    touched(n, types, floors, relationships, rules, bodies, &marks)
 }
 
 // The codes of the selected pairs, ascending; the answer is how many there are.
 pub fn selected_pairs(
     n: Counts,
     types: &[u32],
+    floors: &[u32],
     relationships: &[u32],
     rules: &[u32],
     bodies: &[u32],
@@ -61,10 +63,10 @@ pub fn selected_pairs(
     losses: &[u32; 8704],
     chosen: &mut [u16],
 ) -> u32
-    requires { ⌜ (Clear n (sheetOf (now types) (now relationships) (now rules) (now bodies) (now objects) (now links) []) (now index))
-        × ((c : Change) × Ended c n (sheetOf (now types) (now relationships) (now rules) (now bodies) (now objects) (now links) (now events)) (now met) «loss_count» (now losses))
+    requires { ⌜ (Clear n (sheetOf (now types) (now floors) (now relationships) (now rules) (now bodies) (now objects) (now links) []) (now index))
+        × ((c : Change) × Ended c n (sheetOf (now types) (now floors) (now relationships) (now rules) (now bodies) (now objects) (now links) (now events)) (now met) «loss_count» (now losses))
         × (length (now chosen) ≡ 32768) ⌝ }
-    ensures { λ r. ⌜ (let s = sheetOf (now (types .entry)) (now (relationships .entry)) (now (rules .entry)) (now (bodies .entry)) (now (objects .entry)) (now (links .entry)) (now (events .entry)) in
+    ensures { λ r. ⌜ (let s = sheetOf (now (types .entry)) (now (floors .entry)) (now (relationships .entry)) (now (rules .entry)) (now (bodies .entry)) (now (objects .entry)) (now (links .entry)) (now (events .entry)) in
         (length (now (chosen .exit)) ≡ length (now (chosen .entry)))
         × (Chosen n (now (chosen .exit)) r)
         × ((c : Change) → Ended c n s (now (met .entry)) «loss_count» (now (losses .entry)) → pairsOf (now (objects .entry)) (now (chosen .exit)) r ≡ selectedPairs (bookOf n s) c)) ⌝ }
@@ -81,10 +83,21 @@ pub fn selected_pairs(
         losses,
         &mut trace,
     );
-    let rules_touched = touched_rules(n, types, relationships, rules, bodies, objects, events, met);
+    let rules_touched = touched_rules(
+        n,
+        types,
+        floors,
+        relationships,
+        rules,
+        bodies,
+        objects,
+        events,
+        met,
+    );
     select(
         n,
         types,
+        floors,
         relationships,
         rules,
         bodies,

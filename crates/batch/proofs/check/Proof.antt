@@ -19,7 +19,7 @@ entry c = c .before .before .before .before .before .before .before .before .bef
 abbrev sheet : tie.Start → Sheet
 sheet s =
     let a = s .args in
-    sheetOf (now (a .types)) (now (a .relationships)) (now (a .rules)) (now (a .bodies)) (now (a .objects)) (now (a .links)) (now (a .events))
+    sheetOf (now (a .types)) (now (a .floors)) (now (a .relationships)) (now (a .rules)) (now (a .bodies)) (now (a .objects)) (now (a .links)) (now (a .events))
 
 -- where the run is clear, nothing was refused
 ran : (c : tie.After-run) → c .run .result .verdict ≡ Clear
@@ -85,10 +85,10 @@ ran-before c =
     told .before .before .before .before .before .before
 
 same-length-7 : tie.Need-same-length-7
-same-length-7 c = ran-before c .run .kept .1 .1 .1 .1 .1 .1 .1 .1 .0
+same-length-7 c = ran-before c .run .kept .1 .1 .1 .1 .1 .1 .1 .1 .1 .0
 
 same-length-8 : tie.Need-same-length-8
-same-length-8 c = ran-before c .run .kept .1 .1 .1 .1 .1 .1 .1 .1 .1 .0
+same-length-8 c = ran-before c .run .kept .1 .1 .1 .1 .1 .1 .1 .1 .1 .1 .0
 
 same-length-9 : tie.Need-same-length-9
 same-length-9 c = search needs

@@ -19,7 +19,7 @@ entry c = c .before .before .before .before .before .before .before .before .bef
 abbrev sheet : tie.Start → List ℕ → Sheet
 sheet s events =
     let a = s .args in
-    sheetOf (now (a .types)) (now (a .relationships)) (now (a .rules)) (now (a .bodies)) (now (a .objects)) (now (a .links)) events
+    sheetOf (now (a .types)) (now (a .floors)) (now (a .relationships)) (now (a .rules)) (now (a .bodies)) (now (a .objects)) (now (a .links)) events
 
 index-requires : tie.Need-index-requires
 index-requires c κs =

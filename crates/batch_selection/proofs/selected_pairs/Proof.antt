@@ -18,11 +18,11 @@ entry c = c .before .before .before .before .before .before .before .before .bef
 abbrev sheet : tie.Start → List ℕ → Sheet
 sheet s events =
     let a = s .args in
-    sheetOf (now (a .types)) (now (a .relationships)) (now (a .rules)) (now (a .bodies)) (now (a .objects)) (now (a .links)) events
+    sheetOf (now (a .types)) (now (a .floors)) (now (a .relationships)) (now (a .rules)) (now (a .bodies)) (now (a .objects)) (now (a .links)) events
 
 -- the codes that are left
 abbrev left : tie.After-select → List ℕ
-left c = c .select .last .1 .1 .1 .1 .1 .1 .1 .1 .1 .1 .1 .0
+left c = c .select .last .1 .1 .1 .1 .1 .1 .1 .1 .1 .1 .1 .1 .0
 
 make-requires : tie.Need-make-requires
 make-requires c κs =

@@ -27,7 +27,7 @@ abbrev μ-loop : tie.MeasureT-loop
 
 -- the function's entry
 abbrev entry : tie.At-loop Inv-loop μ-loop → tie.Start Inv-loop μ-loop
-entry c = c .before .before .before .before .before .before .before .before .before .before
+entry c = c .before .before .before .before .before .before .before .before .before .before .before
 
 count-requires : tie.Need-count-requires Inv-loop μ-loop
 count-requires c κs = search needs
@@ -35,7 +35,7 @@ count-requires c κs = search needs
 loop-holds : tie.Need-loop-holds Inv-loop μ-loop
 unfolding flatMap
 loop-holds c =
-    let s = c .before .before .before .before .before .before .before .before .before in
+    let s = c .before .before .before .before .before .before .before .before .before .before in
     let (may, all) = s .pre .2 in
     (refl, length-replicate 65536 false, (going-starts (s .args .n .rules) may (bitsIn (s .args .touched)) all (c .count .ensures), λ k traced e. refl))
 

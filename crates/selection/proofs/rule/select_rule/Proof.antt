@@ -5,33 +5,50 @@ use denote.Ref.{now}
 use lib.Dec.{T}
 use Rattle.meaning.specs.Reach.{quiet}
 use Rattle.rows.specs.Rows.{wordAt}
-use Rattle.tables.specs.Bodies.{ending, asTruth}
-use Rattle.tables.specs.Columns.{ruleRow}
+use Rattle.tables.specs.Bodies.{ending, asTruth, wholeBody}
+use Rattle.tables.specs.Columns.{ruleRow, floorsOf, schemaOf}
 use Rattle.body_rows.specs.Marks.{bodyOf, Starts}
+use Rattle.typing.specs.Types.{FlooredRows}
 use Rattle.full_search.proofs.Given.{size-few}
 use Rattle.selected.specs.Ready.{RuleReady}
-use Rattle.selection.proofs.Given.{sound, quiet-is, typed-by, rule-ready}
+use Rattle.selection.proofs.Given.{whole, sound, quiet-is, known-by, rule-ready}
 use borrow.Author.Needs.{needs}
 use Rattle.selection.proofs.rule.select_rule.Statement.{statement}
 use Rattle.selection.proofs.rule.select_rule.Tie as tie
 
--- the function's entry
+-- the function's entry, the scan of the body, and its floored sums
 abbrev entry : tie.After-word → tie.Start
-entry c = c .before .before .before .before .before .before .before .before .before .before
+entry c = let known = c .before .before .before in known .before .before .before .before .before .before .before .before
 
--- the rule with its scan, and whether its body is quiet
+abbrev scanned : tie.After-floored-rows → tie.After-scan
+scanned c = c .before .before .before
+
+abbrev marked : tie.After-quiet → tie.After-floored-rows
+marked c = c .before .before
+
+-- the rule with its scan
 ready : (c : tie.After-scan) → let a = (entry (c .before)) .args in
     RuleReady (a .n) (now (a .types)) (now (a .objects)) (now (a .links)) (now (a .index)) (now (a .rules)) (now (a .bodies)) (c .scan .result .starts) (a .rule)
 ready c =
     let s = entry (c .before) in
     let bodies = c .before .before .before .before .before .before .before in
-    rule-ready (s .pre .0) (s .pre .2) (λ j. bodies .shared-slice-known4 .given j .fits)
+    rule-ready (s .pre .0) (s .pre .2) (λ j. bodies .shared-slice-known5 .given j .fits)
     (subst (λ e. Starts (bodyOf (now (s .args .bodies)) (s .args .rule)) (c .scan .result .starts) e) (c .before .word .ensures) (c .scan .ensures .0))
 
-still : (c : tie.After-quiet) → let a = (entry (c .before .before .before .before)) .args in
+-- its floored sums, by the book's schema
+floors : (c : tie.After-floored-rows) → let a = (entry (scanned c .before)) .args in
+    FlooredRows (schemaOf (a .n .types) (now (a .types)) (floorsOf (a .n .floors) (now (a .floors))) (a .n .relationships) (now (a .relationships)))
+    (bodyOf (now (a .bodies)) (a .rule)) (wordAt (now (a .rules)) 2 (a .rule) 1) (c .floored-rows .result)
+floors c =
+    let a = (entry (scanned c .before)) .args in
+    let S = schemaOf (a .n .types) (now (a .types)) (floorsOf (a .n .floors) (now (a .floors))) (a .n .relationships) (now (a .relationships)) in
+    subst (λ e. FlooredRows S (bodyOf (now (a .bodies)) (a .rule)) e (c .floored-rows .result)) (scanned c .before .word .ensures) (c .floored-rows .ensures)
+
+-- whether its body is quiet
+still : (c : tie.After-quiet) → let a = (entry (scanned (marked c) .before)) .args in
     c .quiet .result ≡ quiet ((ruleRow (now (a .rules)) (now (a .bodies)) (a .rule)) .body)
 still c =
-    let word = c .before .before .before .before in
+    let word = scanned (marked c) .before in
     let s = entry word in
     c .quiet .ensures
     ∙ ap (λ e. quiet (asTruth ((ending (bodyOf (now (s .args .bodies)) (s .args .rule)) e) .form))) (word .word .ensures)
@@ -43,28 +60,34 @@ word-requires c κs = search needs
 scan-requires : tie.Need-scan-requires
 scan-requires c κs = let s = entry c in size-few (s .pre .0) (s .pre .2) (c .word .ensures)
 
+floored-rows-requires : tie.Need-floored-rows-requires
+floored-rows-requires c κs =
+    let scan = c .before .before in
+    let s = entry (scan .before) in
+    (scan .scan .ensures .0, subst (λ e. T (wholeBody (bodyOf (now (s .args .bodies)) (s .args .rule)) e)) (sym (scan .before .word .ensures)) (whole (s .pre .0) (s .pre .2)))
+
 quiet-requires : tie.Need-quiet-requires
 quiet-requires c κs =
-    let scanned = c .before .before in
-    let s = entry (scanned .before) in (
-      scanned .scan .ensures .0,
-      subst (λ e. T ((ending (bodyOf (now (s .args .bodies)) (s .args .rule)) e) .sound)) (sym (scanned .before .word .ensures)) (sound (s .pre .0) (s .pre .2)),
+    let scan = scanned (c .before) in
+    let s = entry (scan .before) in (
+      scan .scan .ensures .0,
+      subst (λ e. T ((ending (bodyOf (now (s .args .bodies)) (s .args .rule)) e) .sound)) (sym (scan .before .word .ensures)) (sound (s .pre .0) (s .pre .2)),
     )
 
 candidates-requires : tie.Need-candidates-requires
 candidates-requires c κs =
-    let scanned = c .before .before .before .before .before in
-    let s = entry (scanned .before) in
-    let r = ready scanned in
+    let scan = scanned (marked (c .before .before .before)) in
+    let s = entry (scan .before) in
+    let r = ready scan in
     (r .whole, (r .schema, r .able), s .pre .1, s .pre .5)
 
 choose-requires : tie.Need-choose-requires
 choose-requires c κs =
-    let found = c .before .before .before .before .before in
-    let asked = found .before .before .before in
-    let scanned = asked .before .before .before in
-    let s = entry (scanned .before) in
-    (ready scanned, s .pre .1, still asked, found .candidates .ensures .1, omega (arith, s .pre .2, s .pre .0 .given .few-rules), s .pre .3, s .pre .4)
+    let found = c .before .before .before .before .before .before in
+    let asked = found .before .before .before .before in
+    let scan = scanned (marked asked) in
+    let s = entry (scan .before) in
+    (ready scan, s .pre .1, still asked, found .candidates .ensures .1, omega (arith, s .pre .2, s .pre .0 .given .few-rules), s .pre .3, s .pre .4)
 
 same-length : tie.Need-same-length
 same-length c = search needs
@@ -75,16 +98,17 @@ same-length-2 c = search needs
 returns : tie.Need-returns
 returns c =
     let chose = c .before .before in
-    let found = chose .before .before .before .before .before .before in
-    let word = found .before .before .before .before .before .before .before in
-    let s = entry word in (
+    let listed = chose .before .before in
+    let found = listed .before .before .before .before .before in
+    let sums = marked (found .before .before .before .before) in
+    let s = entry (scanned sums .before) in (
       chose .choose .ensures .0,
       found .candidates .ensures .0,
       omega (arith, chose .choose .ensures .1, s .pre .0 .given .few-objects),
-      λ k traced e. chose .choose .ensures .2 k traced (typed-by (s .pre .0) (s .pre .2) k e),
+      λ k traced e. chose .choose .ensures .2 k traced (known-by (s .pre .0) (s .pre .2) k e (floors sums)),
     )
 
 pub select-rule-spec : {M : Type 1} → statement M
 select-rule-spec =
     tie.close
-    (tie.spec word-requires scan-requires quiet-requires candidates-requires choose-requires same-length same-length-2 returns)
+    (tie.spec word-requires scan-requires floored-rows-requires quiet-requires candidates-requires choose-requires same-length same-length-2 returns)
