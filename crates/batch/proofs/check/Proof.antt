@@ -14,7 +14,7 @@ use Rattle.batch.proofs.check.Tie as tie
 
 -- the function's entry, its tables, and the tables of the copy after the run
 abbrev entry : tie.After-run → tie.Start
-entry c = c .before .before .before .before .before .before .before .before .before .before .before .before .before .before .before
+entry c = c .before .before .before .before .before .before .before .before .before .before .before .before .before .before .before .before
 
 abbrev sheet : tie.Start → Sheet
 sheet s =

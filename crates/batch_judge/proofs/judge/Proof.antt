@@ -14,7 +14,7 @@ use Rattle.batch_judge.proofs.judge.Tie as tie
 
 -- the function's entry, and its tables
 abbrev entry : tie.After-index → tie.Start
-entry c = c .before .before .before .before .before .before .before .before .before
+entry c = c .before .before .before .before .before .before .before .before .before .before
 
 abbrev sheet : tie.Start → List ℕ → Sheet
 sheet s events =

@@ -13,7 +13,7 @@ use Rattle.batch_selection.proofs.selected_pairs.Tie as tie
 
 -- the function's entry, and its tables
 abbrev entry : tie.After-trace → tie.Start
-entry c = c .before .before .before .before .before .before .before .before .before
+entry c = c .before .before .before .before .before .before .before .before .before .before
 
 abbrev sheet : tie.Start → List ℕ → Sheet
 sheet s events =

@@ -8,7 +8,7 @@ use Rattle.batch_selection.proofs.touched_rules.Statement.{statement}
 use Rattle.batch_selection.proofs.touched_rules.Tie as tie
 
 abbrev entry : tie.After-marks → tie.Start
-entry c = c .before .before .before .before .before .before .before
+entry c = c .before .before .before .before .before .before .before .before
 
 slice-aggregate-mark-events : tie.Need-slice-aggregate-mark-events
 slice-aggregate-mark-events c = search needs
