@@ -12,7 +12,7 @@ use lib.ListN.{length, getD, getElem?, length-append}
 use Rattle.meaning.specs.Lists.{holds}
 use Rattle.tables.specs.Codes.{operators, operatorOf, shapeOf}
 use Rattle.lexical.proofs.Runs.{both as halves}
-use Rattle.text.specs.Names.{firstOperator}
+use Rattle.text.specs.Names.{firstOperator, nameCount}
 use Rattle.text.specs.Tokens.{Token, begin, item, end, dash, isWord, tokensIn}
 use Rattle.text.specs.Bodies.{Written, leaf, over, both, Need, needOf, need, formsIn, tokensOf, Closed, closeIn, Formed, formedBy, partsIn, needNamed, openedIn, formIn}
 use Rattle.text.specs.Entries.{rule, onlyEnd, bodyIn}
@@ -128,11 +128,11 @@ pub open-below : (w name : ℕ) → name < firstOperator → openedBy w name ≡
 unfolding openedBy needNamed
 open-below w name h = rw (lt-leb firstOperator name h) (either (leb 4 w))
 
-pub open-above : (w name : ℕ) → 34 < name → openedBy w name ≡ noForm
+pub open-above : (w name : ℕ) → nameCount ≤ name → openedBy w name ≡ noForm
 unfolding openedBy needNamed
 open-above w name h = rw (le-leb firstOperator name (omega arith), need-none (name - firstOperator) (omega arith)) (either (leb 4 w))
 
-pub open-word : (w name : ℕ) → 4 ≤ w → firstOperator ≤ name → name ≤ 34 → getD lackWords (name - firstOperator) 0 ≡ openedBy w name
+pub open-word : (w name : ℕ) → 4 ≤ w → firstOperator ≤ name → name < nameCount → getD lackWords (name - firstOperator) 0 ≡ openedBy w name
 unfolding openedBy needNamed
 open-word w name h k l = rw (le-leb 4 w h, le-leb firstOperator name k) (lack-word (name - firstOperator) (omega arith))
 

@@ -1,4 +1,6 @@
 // The body of a rule by the tokens of its line: whether it is one whole form, and its rows.
+use text::FIRST_OPERATOR;
+use text::NAME_COUNT;
 use tokens::Found;
 use tokens::token;
 ghost use mathlib.Core.Path.{_≡_};
@@ -51,13 +53,13 @@ fn opened(lacks: u8, name: u32) -> u8
     if lacks < 4 {
         return 255;
     }
-    if name < 12 {
+    if name < FIRST_OPERATOR {
         return 255;
     }
-    if 34 < name {
+    if NAME_COUNT <= name {
         return 255;
     }
-    let code = (name - 12) as usize;
+    let code = (name - FIRST_OPERATOR) as usize;
     LACKS[code]
 }
 
@@ -170,7 +172,7 @@ fn put_rows(line: &[u8], at: usize, table: &mut [u32])
     loop {
         match token(line, i) {
             Found::Begin { name, next } => {
-                codes[depth] = name - 12;
+                codes[depth] = name - FIRST_OPERATOR;
                 depth += 1;
                 i = next;
             }

@@ -1,10 +1,10 @@
 -- The tables filled line by line.
-use Prim.Native.Nat.{ℕ, zero, suc, _+_, _-_, _*_, min, _≤_, _<_}
+use Prim.Native.Nat.{ℕ, zero, suc, _+_, _-_, _*_, _/_, min, _≤_, _<_}
 use mathlib.Core.Path.{_≡_, refl, sym, ap, ap₂, subst, _∙_}
 use mathlib.Core.Bool.{Bool, true, false, _&&_, _||_, cond, false≢true}
 use mathlib.Core.List.{List, [], _∷_, _++_, append-nil, append-assoc}
 use mathlib.Core.Option.{some}
-use native.Mathlib.Nat.{add-mul, one-mul, div-mul-le-self}
+use native.Mathlib.Nat.{add-mul, one-mul, div-mul-le-self, mul-le-mul-right, le-trans}
 use native.Mathlib.Omega.{arith}
 use lib.Dec.{ltb, leb, eqb}
 use lib.ListN.{length, getD, take, drop, set, replicate, length-append, replicate-append-replicate}
@@ -17,11 +17,11 @@ use Rattle.lexical.specs.Lines.{lineIn}
 use Rattle.lexical.proofs.Runs.{both}
 use Rattle.rows.specs.Rows.{withRow}
 use Rattle.rows.proofs.Fronts.{row-put}
-use Rattle.tables.specs.Layouts.{Sheet, sheetOf, Layout, typeTable, relationshipTable, ruleTable, objectTable, linkTable, eventTable, bodyWords, limitOf, widthOf, linesLent}
+use Rattle.tables.specs.Layouts.{Sheet, sheetOf, Layout, typeTable, floorTable, relationshipTable, ruleTable, objectTable, linkTable, eventTable, bodyWords, sectionCount, limitOf, widthOf, linesLent}
 use Rattle.text.specs.Tokens.{isWord}
-use Rattle.text.specs.Names.{typeName, relationshipName, ruleName, objectName, linkName}
+use Rattle.text.specs.Names.{typeName, ruleName}
 use Rattle.text.specs.Bodies.{Written, padded, formsIn, rowsOf, wellWritten}
-use Rattle.text.specs.Entries.{Entry, row, rule, eventSection, sectionOf, entryWords, countOf, tableOf, bodiesOf, entryIn}
+use Rattle.text.specs.Entries.{Entry, row, rule, sectionOf, entryWords, countOf, tableOf, bodiesOf, entryIn}
 use Rattle.text.specs.Texts.{maxText, taken, readFrom, reading, filled}
 use Rattle.text.proofs.Bodies.{rows-length}
 use Rattle.text.proofs.Entries.{sayable, rowFits, by-section, padded-length}
@@ -29,7 +29,7 @@ use Rattle.text.proofs.Blocks.{count-append, table-append}
 use Rattle.brackets.specs.Whole.{WholeBody, rowsPut}
 use Rattle.line_reader.specs.declared.line.Row.{Row}
 use Rattle.line_reader.specs.Rows.{rowHeld, bodyPlace}
-use Rattle.filling.specs.Fills.{sheetWith, LinePut}
+use Rattle.filling.specs.Fills.{rowPut, LinePut, sheetWith}
 use Rattle.line_reader.proofs.Bodied.{whole-body}
 use Rattle.reading.proofs.Looking.{Looking, LineRead, look-starts, starts-before, look-done, look-with, ended-fine, section-fine, row-fine, e, found, section-of, words-are, said, count-small, read-short, taken-same}
 
@@ -89,12 +89,13 @@ HeldBodies es old s = Filled (bodiesOf es) (countOf ruleName es * bodyWords) (ol
 
 width-small : (s : ℕ) → widthOf s ≤ 10
 unfolding widthOf
-width-small s = leb-true (widthOf s) 10 (is-true (leb (widthOf s) 10) (every-getD (λ n. leb n 10) (2 ∷ 2 ∷ 2 ∷ 10 ∷ 3 ∷ 4 ∷ []) s 0 tt tt))
+width-small s = leb-true (widthOf s) 10 (is-true (leb (widthOf s) 10) (every-getD (λ n. leb n 10) (2 ∷ 2 ∷ 2 ∷ 2 ∷ 10 ∷ 3 ∷ 4 ∷ []) s 0 tt tt))
 
 row-wide : (before : List Entry) (e : Entry) → sayable before e ≡ true → length (entryWords e) ≡ widthOf (sectionOf e)
 unfolding sayable sectionOf entryWords widthOf
 row-wide before (row s words) h =
     by-section before s words (λ s. length words ≡ widthOf s)
+    (λ h. eqb-true (length words) 2 (both (eqb (length words) 2) _ h .0))
     (λ h. eqb-true (length words) 2 (both (eqb (length words) 2) _ h .0))
     (λ h. eqb-true (length words) 2 (both (eqb (length words) 2) _ h .0))
     (λ h. eqb-true (length words) 10 (both (eqb (length words) 10) _ h .0))
@@ -213,13 +214,13 @@ bodies-next before e = bodies-append before (e ∷ []) ∙ ap (λ l. bodiesOf be
     step (row s words) = refl
     step (rule t w) = append-nil (padded 256 (rowsOf w))
 
--- a line of section 2 is a rule's
-a-rule : (before : List Entry) (e : Entry) → sayable before e ≡ true → sectionOf e ≡ 2 → (t : ℕ) × (w : Written) × (e ≡ rule t w)
+-- a line of the section of rules is a rule's
+a-rule : (before : List Entry) (e : Entry) → sayable before e ≡ true → sectionOf e ≡ ruleName → (t : ℕ) × (w : Written) × (e ≡ rule t w)
 unfolding sayable sectionOf
 a-rule before (row s words) h q = absurd (false≢true (ap (λ s. rowFits before s words) (sym q) ∙ h))
 a-rule before (rule t w) h q = (t, w, refl)
 
-no-body : (e : Entry) → (sectionOf e ≡ 2 → ⊥) → bodyOf e ≡ []
+no-body : (e : Entry) → (sectionOf e ≡ ruleName → ⊥) → bodyOf e ≡ []
 unfolding sectionOf
 no-body (row s words) h = refl
 no-body (rule t w) h = absurd (h refl)
@@ -232,32 +233,32 @@ forms-held : (t : ℕ) (w : Written) → getD (padded 10 (entryWords (rule t w))
 unfolding entryWords
 forms-held t w = refl
 
-module _ (before : List Entry) (e : Entry) (fits : sayable before e ≡ true) {S : ℕ} (here : S ≡ sectionOf e) {words : List ℕ} (holds : words ≡ padded 10 (entryWords e)) (few : S ≡ 2 → getD words 1 0 ≤ 64) (line : List ℕ) (there : entryIn before line ≡ some e) where
+module _ (before : List Entry) (e : Entry) (fits : sayable before e ≡ true) {S : ℕ} (here : S ≡ sectionOf e) {words : List ℕ} (holds : words ≡ padded 10 (entryWords e)) (few : S ≡ ruleName → getD words 1 0 ≤ 64) (line : List ℕ) (there : entryIn before line ≡ some e) where
   -- its form, as it is written
-  abbrev as-rule : S ≡ 2 → (t : ℕ) × (w : Written) × (e ≡ rule t w)
+  abbrev as-rule : S ≡ ruleName → (t : ℕ) × (w : Written) × (e ≡ rule t w)
   as-rule q = a-rule before e fits (sym here ∙ q)
 
-  few-forms : (t : ℕ) (w : Written) → S ≡ 2 → e ≡ rule t w → formsIn w ≤ 64
+  few-forms : (t : ℕ) (w : Written) → S ≡ ruleName → e ≡ rule t w → formsIn w ≤ 64
   few-forms t w q is = subst (λ n. n ≤ 64) (ap (λ l. getD l 1 0) (holds ∙ ap (λ e. padded 10 (entryWords e)) is) ∙ forms-held t w) (few q)
 
-  pub body-whole : S ≡ 2 → (t : ℕ) × (w : Written) × WholeBody (drop (bodyPlace line) line) t w
+  pub body-whole : S ≡ ruleName → (t : ℕ) × (w : Written) × WholeBody (drop (bodyPlace line) line) t w
   body-whole q =
       let (t, w, is) = as-rule q in
       (t, w, whole-body before line t w (there ∙ ap some is) (few-forms t w q is))
 
   -- the bodies, as `put_line` leaves them
   module _ {old t : List ℕ} (k : Filled (bodiesOf before) (countOf ruleName before * 256) old t)
-      (room : S ≡ 2 → countOf ruleName before * 256 + 256 ≤ length old) where
+      (room : S ≡ ruleName → countOf ruleName before * 256 + 256 ≤ length old) where
     abbrev next′ : List Entry
     next′ = before ++ e ∷ []
 
     abbrev Next : List ℕ → Type 0
     Next u = Filled (bodiesOf next′) (countOf ruleName next′ * 256) old u
 
-    counts : (b : Bool) → eqb S 2 ≡ b → countOf ruleName next′ ≡ countOf ruleName before + cond b 1 0
-    counts b q = count-next before e ruleName ∙ ap (λ b. countOf ruleName before + cond b 1 0) (ap (λ n. eqb n 2) (sym here) ∙ q)
+    counts : (b : Bool) → eqb S ruleName ≡ b → countOf ruleName next′ ≡ countOf ruleName before + cond b 1 0
+    counts b q = count-next before e ruleName ∙ ap (λ b. countOf ruleName before + cond b 1 0) (ap (λ n. eqb n ruleName) (sym here) ∙ q)
 
-    body-put : (it : S ≡ 2) (c : ℕ) (w : Written) → e ≡ rule c w → {u : List ℕ} → u ≡ rowsPut t (countOf ruleName before * 256) (rowsOf w) → Next u
+    body-put : (it : S ≡ ruleName) (c : ℕ) (w : Written) → e ≡ rule c w → {u : List ℕ} → u ≡ rowsPut t (countOf ruleName before * 256) (rowsOf w) → Next u
     body-put it c w is {u} put =
         let at = countOf ruleName before * 256 in
         let body = padded 256 (rowsOf w) in
@@ -276,31 +277,31 @@ module _ (before : List Entry) (e : Entry) (fits : sayable before e ≡ true) {S
         record {
           same = as-long ∙ k .same;
           is = now ∙ ap₂ (λ n l. filled n l) (sym as-long) (sym more);
-          wide = ap length more ∙ size ∙ omega (arith, counts true (eq-eqb S 2 it));
+          wide = ap length more ∙ size ∙ omega (arith, counts true (eq-eqb S ruleName it));
         }
 
-    body-kept : (S ≡ 2 → ⊥) → {u : List ℕ} → u ≡ t → Next u
+    body-kept : (S ≡ ruleName → ⊥) → {u : List ℕ} → u ≡ t → Next u
     body-kept not-it {u} left =
         let none-more : bodiesOf next′ ≡ bodiesOf before =
         bodies-next before e ∙ ap (λ l. bodiesOf before ++ l) (no-body e (λ r. not-it (here ∙ r))) ∙ append-nil (bodiesOf before) in
         record {
           same = ap length left ∙ k .same;
           is = left ∙ k .is ∙ ap₂ (λ n l. filled n l) (ap length (sym left)) (sym none-more);
-          wide = ap length none-more ∙ k .wide ∙ omega (arith, counts false (ne-eqb S 2 not-it));
+          wide = ap length none-more ∙ k .wide ∙ omega (arith, counts false (ne-eqb S ruleName not-it));
         }
 
     pub bodies-go-on : {count : ℕ} → count ≡ countOf ruleName before → {u : List ℕ}
-        → ((c : ℕ) (w : Written) → S ≡ 2 → WholeBody (drop (bodyPlace line) line) c w → u ≡ rowsPut t (count * 256) (rowsOf w))
-        → ((S ≡ 2 → ⊥) → u ≡ t) → Next u
-    bodies-go-on {count} counted {u} put kept = step (eqb S 2) refl
+        → ((c : ℕ) (w : Written) → S ≡ ruleName → WholeBody (drop (bodyPlace line) line) c w → u ≡ rowsPut t (count * 256) (rowsOf w))
+        → ((S ≡ ruleName → ⊥) → u ≡ t) → Next u
+    bodies-go-on {count} counted {u} put kept = step (eqb S ruleName) refl
       where
-        step : (b : Bool) → eqb S 2 ≡ b → Next u
+        step : (b : Bool) → eqb S ruleName ≡ b → Next u
         step true q =
-            let it : S ≡ 2 = eqb-true S 2 q in
+            let it : S ≡ ruleName = eqb-true S ruleName q in
             let (c, w, is) = as-rule it in
             let whole = whole-body before line c w (there ∙ ap some is) (few-forms c w it is) in
             body-put it c w is (put c w it whole ∙ ap (λ n. rowsPut t (n * 256) (rowsOf w)) counted)
-        step false q = let not-it : S ≡ 2 → ⊥ = eqb-false S 2 q in body-kept not-it (kept not-it)
+        step false q = let not-it : S ≡ ruleName → ⊥ = eqb-false S ruleName q in body-kept not-it (kept not-it)
 
 -- ---- what is kept
 
@@ -309,6 +310,7 @@ pub record Filling (text : List ℕ) (old : Sheet) (at : ℕ) (counts cells : Li
   pub n : ℕ
   pub looking : Looking text (linesLent old) at n counts cells section
   pub types-held : Held typeTable (looking .before) old s
+  pub floors-held : Held floorTable (looking .before) old s
   pub relationships-held : Held relationshipTable (looking .before) old s
   pub rules-held : Held ruleTable (looking .before) old s
   pub bodies-held : HeldBodies (looking .before) old s
@@ -316,22 +318,30 @@ pub record Filling (text : List ℕ) (old : Sheet) (at : ℕ) (counts cells : Li
   pub links-held : Held linkTable (looking .before) old s
   pub events-held : Held eventTable (looking .before) old s
 
-pub fill-starts : (text : List ℕ) {s : Sheet} → s ≡ sheetWith [] s → Filling text s 0 (replicate 6 0) (replicate 32 0) 0 s
+pub fill-starts : (text : List ℕ) {s : Sheet} → s ≡ sheetWith [] s → Filling text s 0 (replicate sectionCount 0) (replicate 32 0) 0 s
 unfolding tableOf bodiesOf countOf
 fill-starts text {s} k =
-    let lent = linesLent s in
-    let none-before = sym (starts-before text lent) in
     record {
       n = 1;
       looking = look-starts text lent;
-      types-held = subst (λ es. Held typeTable es s s) none-before (record { same = refl; is = ap (λ s. s .types) k; wide = refl });
-      relationships-held = subst (λ es. Held relationshipTable es s s) none-before (record { same = refl; is = ap (λ s. s .relationships) k; wide = refl });
-      rules-held = subst (λ es. Held ruleTable es s s) none-before (record { same = refl; is = ap (λ s. s .rules) k; wide = refl });
+      types-held = starts typeTable (ap (λ s. s .types) k);
+      floors-held = starts floorTable (ap (λ s. s .floors) k);
+      relationships-held = starts relationshipTable (ap (λ s. s .relationships) k);
+      rules-held = starts ruleTable (ap (λ s. s .rules) k);
       bodies-held = subst (λ es. HeldBodies es s s) none-before (record { same = refl; is = ap (λ s. s .bodies) k; wide = refl });
-      objects-held = subst (λ es. Held objectTable es s s) none-before (record { same = refl; is = ap (λ s. s .objects) k; wide = refl });
-      links-held = subst (λ es. Held linkTable es s s) none-before (record { same = refl; is = ap (λ s. s .links) k; wide = refl });
-      events-held = subst (λ es. Held eventTable es s s) none-before (record { same = refl; is = ap (λ s. s .events) k; wide = refl });
+      objects-held = starts objectTable (ap (λ s. s .objects) k);
+      links-held = starts linkTable (ap (λ s. s .links) k);
+      events-held = starts eventTable (ap (λ s. s .events) k);
     }
+  where
+    lent : List ℕ
+    lent = linesLent s
+
+    none-before : [] ≡ look-starts text lent .before
+    none-before = sym (starts-before text lent)
+
+    starts : (l : Layout) → l .words s ≡ filled (length (l .words s)) (tableOf (l .section) []) → Held l (look-starts text lent .before) s s
+    starts l h = subst (λ es. Held l es s s) none-before (record { same = refl; is = h; wide = omega arith })
 
 full : {words : List ℕ} {size : ℕ} {old t : List ℕ} → Filled words size old t → t ≡ filled (length old) words
 full {words} f = f .is ∙ ap (λ n. filled n words) (f .same)
@@ -352,7 +362,7 @@ module _ {text : List ℕ} {old : Sheet} {at : ℕ} {counts cells : List ℕ} {s
   pub fill-ends : length text ≤ at → (es : List Entry) → reading lent text ≡ taken es → s ≡ sheetWith es old
   fill-ends h es q =
       let all : s ≡ sheetWith before old =
-      λ j. sheetOf (full (k .types-held) j) (full (k .relationships-held) j) (full (k .rules-held) j) (full (k .bodies-held) j)
+      λ j. sheetOf (full (k .types-held) j) (full (k .floors-held) j) (full (k .relationships-held) j) (full (k .rules-held) j) (full (k .bodies-held) j)
       (full (k .objects-held) j) (full (k .links-held) j) (full (k .events-held) j) in
       all ∙ ap (λ es. sheetWith es old) (taken-same (sym (look-done (k .looking) h) ∙ read-short text lent short q))
 
@@ -374,7 +384,7 @@ module _ {text : List ℕ} {old : Sheet} {at : ℕ} {counts cells : List ℕ} {s
     abbrev S′ : ℕ
     S′ = held .section
 
-    pub fill-section : S′ < 6
+    pub fill-section : S′ < sectionCount
     fill-section = section-fine read is-taken
 
     abbrev E : Entry
@@ -396,7 +406,7 @@ module _ {text : List ℕ} {old : Sheet} {at : ℕ} {counts cells : List ℕ} {s
     full-rows = ltb (min (limitOf S′) (getD lent S′ 0)) (suc (getD counts S′ 0))
 
     abbrev long-body : Bool
-    long-body = eqb S′ 2 && ltb 64 (getD (held .words) 1 0)
+    long-body = eqb S′ ruleName && ltb 64 (getD (held .words) 1 0)
 
     not-full : (full-rows || long-body) ≡ false
     not-full = row-fine read fill-section refl is-taken
@@ -409,74 +419,65 @@ module _ {text : List ℕ} {old : Sheet} {at : ℕ} {counts cells : List ℕ} {s
         let least = ltb-false (min (limitOf S′) (getD lent S′ 0)) (suc (getD counts S′ 0)) (or-no full-rows long-body not-full .0) in
         omega (arith, least)
 
-    row-left : (s : ℕ) → s < 6 → S′ ≡ s → suc (countOf s before) ≤ getD lent s 0
+    row-left : (s : ℕ) → s < sectionCount → S′ ≡ s → suc (countOf s before) ≤ getD lent s 0
     row-left s g is =
         subst (λ n. suc n ≤ getD lent s 0) (k .looking .rows s g) (subst (λ s. suc (getD counts s 0) ≤ getD lent s 0) is left-here)
 
-    few : S′ ≡ 2 → getD (held .words) 1 0 ≤ 64
+    few : S′ ≡ ruleName → getD (held .words) 1 0 ≤ 64
     few is =
         ltb-false 64 (getD (held .words) 1 0)
-        (sym (ap (λ b. b && ltb 64 (getD (held .words) 1 0)) (eq-eqb S′ 2 is)) ∙ or-no full-rows long-body not-full .1)
+        (sym (ap (λ b. b && ltb 64 (getD (held .words) 1 0)) (eq-eqb S′ ruleName is)) ∙ or-no full-rows long-body not-full .1)
 
     -- a row is left in the table of a line's section
-    room-types : S′ ≡ 0 → countOf typeName before * 2 + 2 ≤ length (old .types)
-    unfolding linesLent
-    room-types q = omega (arith, row-left 0 (omega arith) q, div-mul-le-self (length (old .types)) 2)
+    room-in : (l : Layout) → l .section < sectionCount → getD lent (l .section) 0 * l .width ≤ length (l .words old) → S′ ≡ l .section → countOf (l .section) before * l .width + l .width ≤ length (l .words old)
+    room-in l g fits q =
+        let n = countOf (l .section) before in
+        let one-row : (n + 1) * l .width ≡ n * l .width + l .width = add-mul n 1 (l .width) ∙ ap (λ m. n * l .width + m) (one-mul (l .width)) in
+        let rows : n + 1 ≤ getD lent (l .section) 0 = omega (arith, row-left (l .section) g q) in
+        omega (arith, one-row, mul-le-mul-right (l .width) rows, fits)
 
-    room-relationships : S′ ≡ 1 → countOf relationshipName before * 2 + 2 ≤ length (old .relationships)
+    room-rules : S′ ≡ ruleName → countOf ruleName before * 2 + 2 ≤ length (old .rules)
     unfolding linesLent
-    room-relationships q = omega (arith, row-left 1 (omega arith) q, div-mul-le-self (length (old .relationships)) 2)
+    room-rules q = omega (arith, row-left ruleName (omega arith) q, div-mul-le-self (length (old .rules)) 2)
 
-    room-rules : S′ ≡ 2 → countOf ruleName before * 2 + 2 ≤ length (old .rules)
+    room-bodies : S′ ≡ ruleName → countOf ruleName before * 256 + 256 ≤ length (old .bodies)
     unfolding linesLent
-    room-rules q = omega (arith, row-left 2 (omega arith) q, div-mul-le-self (length (old .rules)) 2)
+    room-bodies q = omega (arith, row-left ruleName (omega arith) q, div-mul-le-self (length (old .bodies)) 256)
 
-    room-bodies : S′ ≡ 2 → countOf ruleName before * 256 + 256 ≤ length (old .bodies)
-    unfolding linesLent
-    room-bodies q = omega (arith, row-left 2 (omega arith) q, div-mul-le-self (length (old .bodies)) 256)
-
-    room-objects : S′ ≡ 3 → countOf objectName before * 10 + 10 ≤ length (old .objects)
-    unfolding linesLent
-    room-objects q = omega (arith, row-left 3 (omega arith) q, div-mul-le-self (length (old .objects)) 10)
-
-    room-links : S′ ≡ 4 → countOf linkName before * 3 + 3 ≤ length (old .links)
-    unfolding linesLent
-    room-links q = omega (arith, row-left 4 (omega arith) q, div-mul-le-self (length (old .links)) 3)
-
-    room-events : S′ ≡ 5 → countOf eventSection before * 4 + 4 ≤ length (old .events)
-    unfolding linesLent
-    room-events q = omega (arith, row-left 5 (omega arith) q, div-mul-le-self (length (old .events)) 4)
-
-    pub fill-body : S′ ≡ 2 → (t : ℕ) × (w : Written) × WholeBody (drop (bodyPlace line) line) t w
+    pub fill-body : S′ ≡ ruleName → (t : ℕ) × (w : Written) × WholeBody (drop (bodyPlace line) line) t w
     fill-body = body-whole before E fits in-section words-held few line there
 
-    pub fill-body-room : S′ ≡ 2 → (getD counts 2 0 + 1) * 256 ≤ length (s .bodies)
-    fill-body-room is = omega (arith, room-bodies is, k .looking .rows 2 (omega arith), k .bodies-held .same)
+    pub fill-body-room : S′ ≡ ruleName → (getD counts ruleName 0 + 1) * 256 ≤ length (s .bodies)
+    fill-body-room is = omega (arith, room-bodies is, k .looking .rows ruleName (omega arith), k .bodies-held .same)
+
+    -- a table, with the line's row where it is of the table's section
+    held-after : (after : Sheet) {es : List Entry} → es ≡ before ++ E ∷ [] → (l : Layout) → widthOf (l .section) ≡ l .width → l .section < sectionCount
+        → Held l before old s → (S′ ≡ l .section → countOf (l .section) before * l .width + l .width ≤ length (l .words old))
+        → l .words after ≡ rowPut l held counts (l .words s) → Held l es old after
+    held-after after went l sized g kept room put =
+        subst (λ es. Held l es old after) (sym went)
+        (table-goes-on before E fits in-section words-held l sized kept room (k .looking .rows (l .section) g) put)
 
     -- the line's row is put in its table
     pub fill-goes-on : {after : Sheet} → LinePut line held counts s after → {end : ℕ} {more-counts more-cells : List ℕ}
         → end ≡ at + length (lineIn (drop at text))
         → more-counts ≡ set counts S′ (getD counts S′ 0 + 1)
-        → more-cells ≡ cond (eqb S′ 0 && ltb (getD counts 0 0) 32) (set cells (getD counts 0 0) (getD (held .words) 1 0)) cells
+        → more-cells ≡ cond (eqb S′ typeName && ltb (getD counts typeName 0) 32) (set cells (getD counts typeName 0) (getD (held .words) 1 0)) cells
         → Filling text old (end + 1) more-counts more-cells S′ after
-    unfolding widthOf
+    unfolding widthOf linesLent
     fill-goes-on {after} put a c d =
         let (m, went) = look-with read fill-section refl not-full a c d in
-        let types = table-goes-on before E fits in-section words-held typeTable refl (k .types-held) room-types (k .looking .rows 0 (omega arith)) (put .types-put) in
-        let relationships = table-goes-on before E fits in-section words-held relationshipTable refl (k .relationships-held) room-relationships (k .looking .rows 1 (omega arith)) (put .relationships-put) in
-        let rules = table-goes-on before E fits in-section words-held ruleTable refl (k .rules-held) room-rules (k .looking .rows 2 (omega arith)) (put .rules-put) in
-        let bodies = bodies-go-on before E fits in-section words-held few line there (k .bodies-held) room-bodies (k .looking .rows 2 (omega arith)) (put .bodies-put) (put .bodies-kept) in
-        let objects = table-goes-on before E fits in-section words-held objectTable refl (k .objects-held) room-objects (k .looking .rows 3 (omega arith)) (put .objects-put) in
-        let links = table-goes-on before E fits in-section words-held linkTable refl (k .links-held) room-links (k .looking .rows 4 (omega arith)) (put .links-put) in
-        let events = table-goes-on before E fits in-section words-held eventTable refl (k .events-held) room-events (k .looking .rows 5 (omega arith)) (put .events-put) in
+        let lies : (t : List ℕ) (width : ℕ) → length t / width * width ≤ length t = λ t width. div-mul-le-self (length t) width in
         record {
           n = k .n + 1;
           looking = m;
-          types-held = subst (λ es. Held typeTable es old after) (sym went) types;
-          relationships-held = subst (λ es. Held relationshipTable es old after) (sym went) relationships;
-          rules-held = subst (λ es. Held ruleTable es old after) (sym went) rules;
-          bodies-held = subst (λ es. HeldBodies es old after) (sym went) bodies;
-          objects-held = subst (λ es. Held objectTable es old after) (sym went) objects;
-          links-held = subst (λ es. Held linkTable es old after) (sym went) links;
-          events-held = subst (λ es. Held eventTable es old after) (sym went) events;
+          types-held = held-after after went typeTable refl (omega arith) (k .types-held) (room-in typeTable (omega arith) (lies (old .types) 2)) (put .types-put);
+          floors-held = held-after after went floorTable refl (omega arith) (k .floors-held) (room-in floorTable (omega arith) (lies (old .floors) 2)) (put .floors-put);
+          relationships-held = held-after after went relationshipTable refl (omega arith) (k .relationships-held) (room-in relationshipTable (omega arith) (lies (old .relationships) 2)) (put .relationships-put);
+          rules-held = held-after after went ruleTable refl (omega arith) (k .rules-held) room-rules (put .rules-put);
+          bodies-held = subst (λ es. HeldBodies es old after) (sym went)
+              (bodies-go-on before E fits in-section words-held few line there (k .bodies-held) room-bodies (k .looking .rows ruleName (omega arith)) (put .bodies-put) (put .bodies-kept));
+          objects-held = held-after after went objectTable refl (omega arith) (k .objects-held) (room-in objectTable (omega arith) (lies (old .objects) 10)) (put .objects-put);
+          links-held = held-after after went linkTable refl (omega arith) (k .links-held) (room-in linkTable (omega arith) (lies (old .links) 3)) (put .links-put);
+          events-held = held-after after went eventTable refl (omega arith) (k .events-held) (room-in eventTable (omega arith) (lies (old .events) 4)) (put .events-put);
         }

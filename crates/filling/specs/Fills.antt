@@ -6,8 +6,8 @@ use mathlib.Core.List.{List}
 use lib.Dec.{eqb}
 use lib.ListN.{length, getD, take, drop}
 use Rattle.rows.specs.Rows.{withRow}
-use Rattle.tables.specs.Layouts.{Sheet, sheetOf, Layout, bodyWords, typeTable, relationshipTable, ruleTable, objectTable, linkTable, eventTable}
-use Rattle.text.specs.Names.{typeName, relationshipName, ruleName, objectName, linkName}
+use Rattle.tables.specs.Layouts.{Sheet, sheetOf, Layout, bodyWords, typeTable, floorTable, relationshipTable, ruleTable, objectTable, linkTable, eventTable}
+use Rattle.text.specs.Names.{typeName, floorName, relationshipName, ruleName, objectName, linkName}
 use Rattle.text.specs.Bodies.{Written, rowsOf}
 use Rattle.text.specs.Entries.{Entry, eventSection, tableOf, bodiesOf}
 use Rattle.text.specs.Texts.{filled}
@@ -23,6 +23,7 @@ rowPut l row counts t =
 -- what a line leaves in the tables: its row, and its body's rows where it is a rule's
 pub record LinePut (line : List ℕ) (row : Row) (counts : List ℕ) (before after : Sheet) : Type 0 where
   pub types-put : after .types ≡ rowPut typeTable row counts (before .types)
+  pub floors-put : after .floors ≡ rowPut floorTable row counts (before .floors)
   pub relationships-put : after .relationships ≡ rowPut relationshipTable row counts (before .relationships)
   pub rules-put : after .rules ≡ rowPut ruleTable row counts (before .rules)
   pub bodies-put : (t : ℕ) (w : Written) → row .section ≡ ruleName → WholeBody (drop (bodyPlace line) line) t w
@@ -37,6 +38,7 @@ abbrev pub sheetWith : List Entry → Sheet → Sheet
 sheetWith es s =
     sheetOf
     (filled (length (s .types)) (tableOf typeName es))
+    (filled (length (s .floors)) (tableOf floorName es))
     (filled (length (s .relationships)) (tableOf relationshipName es))
     (filled (length (s .rules)) (tableOf ruleName es))
     (filled (length (s .bodies)) (bodiesOf es))

@@ -9,10 +9,11 @@ use lib.Dec.{eqb, leb}
 use lib.ListN.{length, getD, drop}
 use borrow.Author.Tests.{eqb-true, eqb-false}
 use Rattle.meaning.specs.Limits.{maxForms, cellCount}
-use Rattle.text.specs.Names.{ruleName, typeName, relationshipName, objectName, linkName, firstEvent, lettersIn, placeOf}
+use Rattle.tables.specs.Layouts.{floorTable, linkTable}
+use Rattle.text.specs.Names.{ruleName, typeName, floorName, relationshipName, objectName, linkName, firstEvent, lettersIn, placeOf}
 use Rattle.text.specs.Tokens.{Token, begin, item, end, isWord, Bracket, tokenIn, tokensIn, bracketIn}
 use Rattle.text.specs.Bodies.{Written, formsIn, padded, Formed, formIn}
-use Rattle.text.specs.Entries.{Entry, row, rule, sectionOf, countOf, lastSection, itemsIn, rowIf, eventSection, parentWord, isTypeLine, isRelationshipLine, isObjectLine, isLinkLine, isEventLine, typeIn, relationshipIn, objectIn, linkIn, eventIn, rowIn, onlyEnd, bodyIn, ruleIn, insideIn, inOrder, entryIn}
+use Rattle.text.specs.Entries.{Entry, row, rule, sectionOf, countOf, lastSection, itemsIn, rowIf, eventSection, parentWord, isTypeLine, isRelationshipLine, isObjectLine, isPlainLine, isEventLine, typeIn, relationshipIn, objectIn, plainIn, eventIn, rowIn, onlyEnd, bodyIn, ruleIn, insideIn, inOrder, entryIn}
 use Rattle.tokens.specs.Tokens.{foundAt}
 use Rattle.brackets.specs.Whole.{WholeBody}
 use Rattle.line_reader.specs.declared.line.ItemAt.{ItemAt}
@@ -52,13 +53,14 @@ module _ (t : ℕ) (w : Written) where
   one-of false x y p q = q
 
   rows-only : (before : List Entry) (name : ℕ) (is : List ℕ) → isRow (rowIn before name is) ≡ true
-  unfolding rowIn typeIn relationshipIn objectIn linkIn eventIn
+  unfolding rowIn typeIn relationshipIn objectIn plainIn eventIn
   rows-only before name is =
       one-of (eqb name typeName) (typeIn before is) _ (if-no (isTypeLine before is) typeName (parentWord (getD is 1 0) ∷ getD is 2 0 ∷ []))
+      (one-of (eqb name floorName) (plainIn floorTable is) _ (if-no (isPlainLine floorTable is) floorName is)
       (one-of (eqb name relationshipName) (relationshipIn before is) _ (if-no (isRelationshipLine before is) relationshipName (drop 1 is))
       (one-of (eqb name objectName) (objectIn before is) _ (if-no (isObjectLine before is) objectName (padded (2 + cellCount) is))
-      (one-of (eqb name linkName) (linkIn is) _ (if-no (isLinkLine is) linkName is)
-      (one-of (leb firstEvent name) (eventIn (name - firstEvent) is) none (if-no (isEventLine (name - firstEvent) is) eventSection ((name - firstEvent) ∷ padded 3 is)) refl))))
+      (one-of (eqb name linkName) (plainIn linkTable is) _ (if-no (isPlainLine linkTable is) linkName is)
+      (one-of (leb firstEvent name) (eventIn (name - firstEvent) is) none (if-no (isEventLine (name - firstEvent) is) eventSection ((name - firstEvent) ∷ padded 3 is)) refl)))))
 
   row-no-rule : (before : List Entry) (name : ℕ) (is : List ℕ) → rowIn before name is ≡ some (rule t w) → ⊥
   row-no-rule before name is q = false≢true (sym (ap isRow q) ∙ rows-only before name is)

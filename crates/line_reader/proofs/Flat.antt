@@ -7,19 +7,21 @@ use mathlib.Core.Option.{Option, none, some, bind}
 use native.Mathlib.Omega.{arith}
 use lib.Dec.{ltb, leb, eqb}
 use lib.ListN.{length, getD, drop, replicate}
-use borrow.Author.Tests.{ltb-true, leb-true, leb-false, eqb-true, le-ltb, ne-eqb}
+use borrow.Author.Tests.{ltb-true, leb-true, leb-false, eqb-true, le-ltb, le-leb, ne-eqb}
 use Rattle.meaning.specs.Lists.{every}
 use Rattle.meaning.specs.Limits.{cellCount}
 use Rattle.lexical.proofs.Runs.{both}
-use Rattle.text.specs.Names.{typeName, relationshipName, objectName, linkName, firstEvent}
+use Rattle.tables.specs.Layouts.{Layout, floorTable, linkTable}
+use Rattle.text.specs.Names.{typeName, floorName, relationshipName, objectName, linkName, firstEvent}
 use Rattle.text.specs.Tokens.{dash, isWord}
 use Rattle.text.specs.Bodies.{padded}
-use Rattle.text.specs.Entries.{Entry, sectionOf, entryWords, countOf, cellsIn, eventSection, parentWord, eventFields, rowIf, isTypeLine, typeIn, isRelationshipLine, relationshipIn, isObjectLine, objectIn, isLinkLine, linkIn, isEventLine, eventIn, rowIn}
-use Rattle.text.proofs.Entries.{fields-few}
+use Rattle.text.specs.Entries.{Entry, sectionOf, entryWords, countOf, cellsIn, eventSection, parentWord, eventFields, rowIf, isTypeLine, typeIn, isRelationshipLine, relationshipIn, isObjectLine, objectIn, isPlainLine, plainIn, isEventLine, eventIn, rowIn}
+use Rattle.text.proofs.Entries.{fields-few, padded-length}
 use Rattle.tokens.specs.Tokens.{maxItems, noItems, itemsHeld}
 use Rattle.tokens.specs.declared.ItemsFound.{ItemsFound}
 use Rattle.line_reader.specs.declared.line.Row.{Row}
-use Rattle.line_reader.specs.Rows.{noRow, rowHeld, valueAt, rowWhen, typeHeld, relationshipHeld, objectHeld, linkHeld, eventHeld, flatHeld, Follows}
+use Rattle.line_reader.specs.Rows.{noRow, rowHeld, valueAt, rowWhen, typeHeld, relationshipHeld, objectHeld, plainHeld, eventHeld, flatHeld, Follows}
+use Rattle.line_reader.proofs.Rows.{padded-all}
 
 and-left : (a b : Bool) → a ≡ false → (a && b) ≡ false
 and-left a b h = ap (λ x. x && b) h
@@ -91,13 +93,18 @@ module _ (is : List ℕ) where
       (λ h. ap₂ (λ b c. b ∷ c ∷ []) (value 1) (value 2) ∙ sym (ap (drop 1) (just-three is (eqb-true (length is) 3 (both (eqb (length is) 3) _ h .0)))))
       ∙ sym (held-if (isRelationshipLine before is) relationshipName (drop 1 is))
 
-  link-same : linkHeld (held is) ≡ rowHeld (linkIn is)
-  unfolding linkHeld linkIn isLinkLine
-  link-same =
-      when-same _ (isLinkLine is) linkName _ _
-      (ap (λ r. eqb (length is) 3 && r) all-words)
-      (λ h. ap₂ (λ a r. a ∷ r) (value 0) (ap₂ (λ b c. b ∷ c ∷ []) (value 1) (value 2)) ∙ sym (just-three is (eqb-true (length is) 3 (both (eqb (length is) 3) _ h .0))))
-      ∙ sym (held-if (isLinkLine is) linkName is)
+  plain-same : (l : Layout) → l .width ≤ maxItems → plainHeld (held is) (l .section) (l .width) ≡ rowHeld (plainIn l is)
+  unfolding plainHeld plainIn isPlainLine
+  plain-same l few =
+      ap (λ r. rowWhen (eqb (length is) (l .width) && r) (l .section) (padded maxItems is)) all-words
+      ∙ once (isPlainLine l is) refl
+      ∙ sym (held-if (isPlainLine l is) (l .section) is)
+    where
+      once : (b : Bool) → isPlainLine l is ≡ b → rowWhen b (l .section) (padded maxItems is) ≡ rowWhen b (l .section) is
+      once true h =
+          let sized = eqb-true (length is) (l .width) (both (eqb (length is) (l .width)) _ h .0) in
+          ap (λ words. record { section = l .section; words = words }) (padded-all (padded maxItems is) (padded-length maxItems is (omega (arith, sized, few))))
+      once false h = refl
 
   event-same : (kind : ℕ) → eventHeld (held is) kind ≡ rowHeld (eventIn kind is)
   unfolding eventHeld eventIn isEventLine
@@ -142,18 +149,19 @@ event-none : (kind : ℕ) → eventHeld noItems kind ≡ noRow
 unfolding eventHeld
 event-none kind = ap (λ b. rowWhen b eventSection (kind ∷ 0 ∷ 0 ∷ 0 ∷ [])) (sym (and-assoc (ltb kind 7) (eqb 0 (eventFields kind)) true) ∙ ap (λ b. b && true) (fields-some kind))
 
-flat-none : (name types relationships : ℕ) (cells : List ℕ) → flatHeld noItems name types relationships cells ≡ noRow
-unfolding flatHeld typeHeld relationshipHeld objectHeld linkHeld
-flat-none name types relationships cells =
-    ap (λ r. cond (eqb name typeName) noRow (cond (eqb name relationshipName) noRow (cond (eqb name objectName) noRow (cond (eqb name linkName) noRow (cond (leb firstEvent name) r noRow))))) (event-none (name - firstEvent))
-    ∙ five (eqb name typeName) (eqb name relationshipName) (eqb name objectName) (eqb name linkName) (leb firstEvent name)
-  where
-    either : (b : Bool) (r : Row) → r ≡ noRow → cond b noRow r ≡ noRow
-    either true r h = refl
-    either false r h = h
+either : {A : Type 0} {x y z : A} (b : Bool) → x ≡ z → y ≡ z → cond b x y ≡ z
+either true p q = p
+either false p q = q
 
-    five : (a b c d e : Bool) → cond a noRow (cond b noRow (cond c noRow (cond d noRow (cond e noRow noRow)))) ≡ noRow
-    five a b c d e = either a _ (either b _ (either c _ (either d _ (either e _ refl))))
+flat-none : (name types relationships : ℕ) (cells : List ℕ) → flatHeld noItems name types relationships cells ≡ noRow
+unfolding flatHeld typeHeld relationshipHeld objectHeld plainHeld
+flat-none name types relationships cells =
+    either (eqb name typeName) refl
+    (either (eqb name floorName) refl
+    (either (eqb name relationshipName) refl
+    (either (eqb name objectName) refl
+    (either (eqb name linkName) refl
+    (either (leb firstEvent name) (event-none (name - firstEvent)) refl)))))
 
 too-many : (n : ℕ) (is : List ℕ) → 10 < length is → n ≤ 10 → eqb (length is) n ≡ false
 too-many n is long few = ne-eqb (length is) n (λ q. omega (arith, long, few, q))
@@ -170,9 +178,9 @@ module _ (before : List Entry) (is : List ℕ) (long : 10 < length is) where
   unfolding relationshipIn isRelationshipLine
   relationship-long = row-none relationshipName _ (and-left (eqb (length is) 3) _ (too-many 3 is long (omega arith)))
 
-  link-long : linkIn is ≡ none
-  unfolding linkIn isLinkLine
-  link-long = row-none linkName _ (and-left (eqb (length is) 3) _ (too-many 3 is long (omega arith)))
+  plain-long : (l : Layout) → l .width ≤ 10 → plainIn l is ≡ none
+  unfolding plainIn isPlainLine
+  plain-long l few = row-none (l .section) _ (and-left (eqb (length is) (l .width)) _ (too-many (l .width) is long few))
 
   event-long : (kind : ℕ) → eventIn kind is ≡ none
   unfolding eventIn isEventLine
@@ -193,16 +201,19 @@ module _ (before : List Entry) (is : List ℕ) (long : 10 < length is) where
   unfolding rowIn
   row-long name =
       either (eqb name typeName) type-long
+      (either (eqb name floorName) (plain-long floorTable (omega arith))
       (either (eqb name relationshipName) relationship-long
       (either (eqb name objectName) object-long
-      (either (eqb name linkName) link-long
-      (either (leb firstEvent name) (event-long (name - firstEvent)) refl))))
-    where
-      either : (b : Bool) {x y : Option Entry} → x ≡ none → y ≡ none → cond b x y ≡ none
-      either true p q = p
-      either false p q = q
+      (either (eqb name linkName) (plain-long linkTable (omega arith))
+      (either (leb firstEvent name) (event-long (name - firstEvent)) refl)))))
 
 -- ---- the row of a line
+
+pub flat-event : (items : ItemsFound) (name types relationships : ℕ) (cells : List ℕ) → firstEvent ≤ name → eventHeld items (name - firstEvent) ≡ flatHeld items name types relationships cells
+unfolding flatHeld
+flat-event items name types relationships cells h =
+    let other : (n : ℕ) → n < firstEvent → eqb name n ≡ false = λ n l. ne-eqb name n (λ q. omega (arith, h, l, q)) in
+    rw (other typeName (omega arith), other floorName (omega arith), other relationshipName (omega arith), other objectName (omega arith), other linkName (omega arith), le-leb firstEvent name h)
 
 cond-held : (b : Bool) {x y : Row} (o p : Option Entry) → x ≡ rowHeld o → y ≡ rowHeld p → cond b x y ≡ rowHeld (cond b o p)
 cond-held true o p h g = h
@@ -216,10 +227,11 @@ flat-says {before} {types} {relationships} {rules} {cells} f (some is) name = st
     by-name : flatHeld (held is) name types relationships cells ≡ rowHeld (rowIn before name is)
     by-name =
         cond-held (eqb name typeName) _ _ (ap (typeHeld (held is)) (f .types-are) ∙ type-same is before)
+        (cond-held (eqb name floorName) _ _ (plain-same is floorTable (omega arith))
         (cond-held (eqb name relationshipName) _ _ (ap (relationshipHeld (held is)) (f .relationships-are) ∙ relationship-same is before)
         (cond-held (eqb name objectName) _ _ (object-same is before types cells (f .types-are) (f .cells-are))
-        (cond-held (eqb name linkName) _ _ (link-same is)
-        (cond-held (leb firstEvent name) _ _ (event-same is (name - firstEvent)) refl))))
+        (cond-held (eqb name linkName) _ _ (plain-same is linkTable (omega arith))
+        (cond-held (leb firstEvent name) _ _ (event-same is (name - firstEvent)) refl)))))
 
     step : (b : Bool) → leb (length is) maxItems ≡ b → flatHeld (cond b (held is) noItems) name types relationships cells ≡ rowHeld (rowIn before name is)
     step true e = by-name

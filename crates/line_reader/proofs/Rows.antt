@@ -10,13 +10,13 @@ use borrow.Author.Tests.{not-true, not-false, ltb-true, eqb-true}
 use Rattle.meaning.specs.Lists.{every}
 use Rattle.meaning.specs.Limits.{cellCount}
 use Rattle.lexical.proofs.Runs.{both}
-use Rattle.text.specs.Names.{typeName, relationshipName, objectName, linkName}
+use Rattle.text.specs.Names.{typeName, relationshipName, objectName}
 use Rattle.text.specs.Tokens.{dash, isWord}
 use Rattle.text.specs.Bodies.{padded}
 use Rattle.text.specs.Entries.{eventSection, parentWord, eventFields}
 use Rattle.tokens.specs.declared.ItemsFound.{ItemsFound}
 use Rattle.line_reader.specs.declared.line.Row.{Row}
-use Rattle.line_reader.specs.Rows.{noRow, rowWith, valueAt, rowWhen, typeHeld, relationshipHeld, objectHeld, linkHeld, eventHeld}
+use Rattle.line_reader.specs.Rows.{noRow, rowWith, valueAt, rowWhen, typeHeld, relationshipHeld, objectHeld, plainHeld, eventHeld}
 
 -- a test that fails gives no row, one that passes the row with its words
 pub row-no : {found fits : Bool} (s : ℕ) (words : List ℕ) → found ≡ fits → not found ≡ true → {r : Row} → r ≡ noRow → r ≡ rowWhen fits s words
@@ -25,25 +25,29 @@ row-no {found} s words q h e = e ∙ sym (ap (λ b. rowWhen b s words) (sym q �
 pub row-is : {found fits : Bool} (s : ℕ) (words : List ℕ) → found ≡ fits → not found ≡ false → {r : Row} → r ≡ rowWith s words → r ≡ rowWhen fits s words
 row-is {found} s words q h e = e ∙ sym (ap (λ b. rowWhen b s words) (sym q ∙ not-false found h))
 
--- the test's last part says that the values are words
-words-good : {values words : List ℕ} {good : Bool} → (good ≡ true → words ≡ values) → good ≡ true → (k : ℕ) → getD words k 0 ≡ getD values k 0
-words-good same h k = ap (λ l. getD l k 0) (same h)
+pub padded-all : (l : List ℕ) → length l ≡ 10 → padded 10 l ≡ l
+padded-all l h = ap (λ n. l ++ replicate n 0) (ap (λ k. 10 - k) h) ∙ append-nil l
 
 module _ (items : ItemsFound) {good : Bool} (all : good ≡ every isWord (items .values)) where
-  -- ---- links
+  -- ---- rows whose words are the items
 
-  link-test : {found : Bool} → found ≡ (eqb (items .count) 3 && good) → found ≡ (eqb (items .count) 3 && every isWord (items .values))
-  link-test q = q ∙ ap (λ g. eqb (items .count) 3 && g) all
+  -- the words as they are held
+  values-held : (section : ℕ) {words : List ℕ} → length (items .values) ≡ 10 → words ≡ items .values → record { section = section; words = words } ≡ rowWith section (items .values)
+  values-held section ten same = ap (λ l. record { section = section; words = l }) (same ∙ sym (padded-all (items .values) ten))
 
-  pub link-no : {found : Bool} → found ≡ (eqb (items .count) 3 && good) → not found ≡ true → {r : Row} → r ≡ noRow → r ≡ linkHeld items
-  unfolding linkHeld
-  link-no q h e = row-no linkName (valueAt items 0 ∷ valueAt items 1 ∷ valueAt items 2 ∷ []) (link-test q) h e
+  module _ (section width : ℕ) {found : Bool} (q : found ≡ (eqb (items .count) width && good)) where
+    plain-test : found ≡ (eqb (items .count) width && every isWord (items .values))
+    plain-test = q ∙ ap (λ g. eqb (items .count) width && g) all
 
-  pub link-is : {found : Bool} {words : List ℕ} → (good ≡ true → words ≡ items .values) → found ≡ (eqb (items .count) 3 && good) → not found ≡ false → rowWith linkName (getD words 0 0 ∷ getD words 1 0 ∷ getD words 2 0 ∷ []) ≡ linkHeld items
-  unfolding linkHeld
-  link-is {found} {words} same q h =
-      let w = same (both (eqb (items .count) 3) good (sym q ∙ not-false found h) .1) in
-      row-is linkName (valueAt items 0 ∷ valueAt items 1 ∷ valueAt items 2 ∷ []) (link-test q) h (ap (λ l. rowWith linkName (getD l 0 0 ∷ getD l 1 0 ∷ getD l 2 0 ∷ [])) w)
+    pub plain-no : not found ≡ true → {r : Row} → r ≡ noRow → r ≡ plainHeld items section width
+    unfolding plainHeld
+    plain-no h e = row-no section (items .values) plain-test h e
+
+    pub plain-is : {words : List ℕ} → length (items .values) ≡ 10 → (good ≡ true → words ≡ items .values) → not found ≡ false → record { section = section; words = words } ≡ plainHeld items section width
+    unfolding plainHeld
+    plain-is ten same h =
+        row-is section (items .values) plain-test h
+        (values-held section ten (same (both (eqb (items .count) width) good (sym q ∙ not-false found h) .1)))
 
   -- ---- relationships
 
@@ -93,12 +97,9 @@ module _ (items : ItemsFound) {good : Bool} (all : good ≡ every isWord (items 
 
     pub object-is : {words : List ℕ} → length (items .values) ≡ 10 → (good ≡ true → words ≡ items .values) → not found ≡ false → record { section = objectName; words = words } ≡ objectHeld items types cells
     unfolding objectHeld
-    object-is {words} ten same h =
+    object-is ten same h =
         let w = same (both good c2 (sym p3 ∙ both (leb 2 (items .count)) c3 (sym q ∙ not-false found h) .1) .0) in
-        row-is objectName (items .values) object-test h (ap (λ l. record { section = objectName; words = l }) (w ∙ sym (padded-all (items .values) ten)))
-      where
-        padded-all : (l : List ℕ) → length l ≡ 10 → padded 10 l ≡ l
-        padded-all l h = ap (λ n. l ++ replicate n 0) (ap (λ k. 10 - k) h) ∙ append-nil l
+        row-is objectName (items .values) object-test h (values-held objectName ten w)
 
 -- ---- types
 

@@ -8,7 +8,8 @@ use lib.Dec.{ltb, leb, eqb}
 use lib.ListN.{length, getD, drop, replicate}
 use Rattle.meaning.specs.Lists.{every}
 use Rattle.meaning.specs.Limits.{maxTypes, cellCount}
-use Rattle.text.specs.Names.{lettersIn, typeName, relationshipName, ruleName, objectName, linkName, firstEvent}
+use Rattle.tables.specs.Layouts.{sectionCount, floorTable, linkTable}
+use Rattle.text.specs.Names.{lettersIn, typeName, floorName, relationshipName, ruleName, objectName, linkName, firstEvent}
 use Rattle.text.specs.Tokens.{dash, isWord, tokenIn}
 use Rattle.text.specs.Bodies.{padded}
 use Rattle.text.specs.Entries.{Entry, sectionOf, entryWords, countOf, cellsIn, lastSection, eventSection, parentWord, eventFields}
@@ -21,7 +22,7 @@ use Rattle.line_reader.specs.declared.line.Row.{Row}
 
 -- the section of no row
 abbrev pub noSection : ℕ
-noSection = 6
+noSection = sectionCount
 
 abbrev pub noRow : Row
 noRow = record { section = noSection; words = replicate 10 0 }
@@ -61,9 +62,9 @@ objectHeld items types cells =
     && (leb (getD cells (valueAt items 1) 0) cellCount && eqb (items .count) (2 + getD cells (valueAt items 1) 0)))))
     objectName (items .values)
 
-unfoldable pub linkHeld : ItemsFound → Row
-linkHeld items =
-    rowWhen (eqb (items .count) 3 && every isWord (items .values)) linkName (valueAt items 0 ∷ valueAt items 1 ∷ valueAt items 2 ∷ [])
+-- a floor or a link
+unfoldable pub plainHeld : ItemsFound → ℕ → ℕ → Row
+plainHeld items section width = rowWhen (eqb (items .count) width && every isWord (items .values)) section (items .values)
 
 unfoldable pub eventHeld : ItemsFound → ℕ → Row
 eventHeld items kind =
@@ -74,10 +75,11 @@ eventHeld items kind =
 unfoldable pub flatHeld : ItemsFound → ℕ → ℕ → ℕ → List ℕ → Row
 flatHeld items name types relationships cells =
     cond (eqb name typeName) (typeHeld items types)
+    (cond (eqb name floorName) (plainHeld items floorName (floorTable .width))
     (cond (eqb name relationshipName) (relationshipHeld items relationships)
     (cond (eqb name objectName) (objectHeld items types cells)
-    (cond (eqb name linkName) (linkHeld items)
-    (cond (leb firstEvent name) (eventHeld items (name - firstEvent)) noRow))))
+    (cond (eqb name linkName) (plainHeld items linkName (linkTable .width))
+    (cond (leb firstEvent name) (eventHeld items (name - firstEvent)) noRow)))))
 
 -- an item that was found; none elsewhere
 abbrev pub noItem : ItemAt

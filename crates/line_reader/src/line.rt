@@ -1,4 +1,15 @@
 // One line of the text as a row of a table.
+use tables::FLOOR_WIDTH;
+use tables::LINK_WIDTH;
+use text::EVENT_SECTION;
+use text::FLOOR_SECTION;
+use text::LINK_SECTION;
+use text::NAME_COUNT;
+use text::OBJECT_SECTION;
+use text::RELATIONSHIP_SECTION;
+use text::RULE_SECTION;
+use text::SECTION_COUNT;
+use text::TYPE_SECTION;
 use tokens::Found;
 use tokens::ItemsFound;
 ghost use mathlib.Core.Path.{_≡_};
@@ -14,9 +25,9 @@ ghost use Rattle.text.specs.Names.{ruleName};
 ghost use Rattle.text.specs.Texts.{maxText};
 ghost use Rattle.text.specs.Entries.{Entry, countOf, lastSection, parentWord, eventFields, ruleIn, insideIn, inOrder, entryIn};
 ghost use Rattle.tokens.specs.Tokens.{foundAt};
-ghost use Rattle.line_reader.specs.Rows.{noRow, rowHeld, Follows, itemOf, bodyPlace, typeHeld, relationshipHeld, objectHeld, linkHeld, eventHeld, flatHeld};
+ghost use Rattle.line_reader.specs.Rows.{noRow, rowHeld, Follows, itemOf, bodyPlace, typeHeld, relationshipHeld, objectHeld, plainHeld, eventHeld, flatHeld};
 
-// A row: its section, 6 where the line says none, and its words, zeros after them.
+// A row: its section, SECTION_COUNT where the line says none, and its words, zeros after them.
 pub struct Row {
     pub section: u32,
     pub words: [u32; 10],
@@ -32,7 +43,7 @@ fn no_row() -> Row
     ensures { λ r. ⌜ r ≡ noRow ⌝ }
 {
     Row {
-        section: 6,
+        section: SECTION_COUNT,
         words: [0u32; 10],
     }
 }
@@ -93,7 +104,7 @@ fn type_row(items: ItemsFound, types: u32) -> Row
     let p = parent_word(v[1]);
     let cells = v[2] as u32;
     Row {
-        section: 0,
+        section: TYPE_SECTION,
         words: [p, cells, 0, 0, 0, 0, 0, 0, 0, 0],
     }
 }
@@ -110,25 +121,22 @@ fn relationship_row(items: ItemsFound, relationships: u32) -> Row
         return no_row();
     }
     Row {
-        section: 1,
+        section: RELATIONSHIP_SECTION,
         words: [v[1], v[2], 0, 0, 0, 0, 0, 0, 0, 0],
     }
 }
 
-// The line of a link: relationship, source and target.
-fn link_row(items: ItemsFound) -> Row
-    ensures { λ r. ⌜ r ≡ linkHeld items ⌝ }
+// The line of a floor or a link: its items are its row's words.
+fn plain_row(items: ItemsFound, section: u32, width: u32) -> Row
+    ensures { λ r. ⌜ r ≡ plainHeld items section width ⌝ }
 {
     let values = items.values;
     let w = words_of(values);
-    let v = w.words;
-    if !and(items.count == 3, w.good) {
+    let words = w.words;
+    if !and(items.count == width, w.good) {
         return no_row();
     }
-    Row {
-        section: 4,
-        words: [v[0], v[1], v[2], 0, 0, 0, 0, 0, 0, 0],
-    }
+    Row { section, words }
 }
 
 // The cells of a type, 0 past those that the text has.
@@ -159,7 +167,10 @@ fn object_row(items: ItemsFound, types: u32, cells: &[u32; 32]) -> Row
     ) {
         return no_row();
     }
-    Row { section: 3, words }
+    Row {
+        section: OBJECT_SECTION,
+        words,
+    }
 }
 
 // How many fields an event has, by its kind.
@@ -185,7 +196,7 @@ fn event_row(items: ItemsFound, kind: u32) -> Row
         return no_row();
     }
     Row {
-        section: 5,
+        section: EVENT_SECTION,
         words: [kind, v[0], v[1], v[2], 0, 0, 0, 0, 0, 0],
     }
 }
@@ -195,22 +206,25 @@ fn flat_row(items: ItemsFound, name: u32, types: u32, relationships: u32, cells:
     requires { ⌜ types ≤ 32 ⌝ }
     ensures { λ r. ⌜ r ≡ flatHeld items name types relationships (now (cells .entry)) ⌝ }
 {
-    if name == 0 {
+    if name == TYPE_SECTION {
         return type_row(items, types);
     }
-    if name == 1 {
+    if name == FLOOR_SECTION {
+        return plain_row(items, FLOOR_SECTION, FLOOR_WIDTH);
+    }
+    if name == RELATIONSHIP_SECTION {
         return relationship_row(items, relationships);
     }
-    if name == 3 {
+    if name == OBJECT_SECTION {
         return object_row(items, types, cells);
     }
-    if name == 4 {
-        return link_row(items);
+    if name == LINK_SECTION {
+        return plain_row(items, LINK_SECTION, LINK_WIDTH);
     }
-    if name < 5 {
+    if name < EVENT_SECTION {
         return no_row();
     }
-    event_row(items, name - 5)
+    event_row(items, name - EVENT_SECTION)
 }
 
 // An item at a place, if there is one, and the place after it.
@@ -257,7 +271,7 @@ fn rule_row(line: &[u8], at: usize, rules: u32) -> Row
     let word = t as u32;
     let forms = body.forms;
     Row {
-        section: 2,
+        section: RULE_SECTION,
         words: [word, forms, 0, 0, 0, 0, 0, 0, 0, 0],
     }
 }
@@ -275,10 +289,10 @@ fn inside_row(line: &[u8], types: u32, relationships: u32, rules: u32, cells: &[
     }
     let name = tokens::name(line, 1);
     let place = name.place;
-    if place == 35 {
+    if place == NAME_COUNT {
         return no_row();
     }
-    if place == 2 {
+    if place == RULE_SECTION {
         return rule_row(line, name.end, rules);
     }
     let items = tokens::items(line, name.end);

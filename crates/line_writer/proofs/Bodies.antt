@@ -15,7 +15,7 @@ use Rattle.tables.specs.Columns.{ruleRow}
 use Rattle.tables.proofs.Forms.{whole-body, body-ending}
 use Rattle.body_rows.specs.Marks.{bodyOf, sortCode, firstSort, secondSort}
 use Rattle.typing.proofs.Types.{operatorHere, partsHere}
-use Rattle.text.specs.Names.{nameOf, firstOperator}
+use Rattle.text.specs.Names.{ruleName, nameOf, firstOperator}
 use Rattle.text.specs.Tokens.{begin, item, end, spellToken, spellTokens, spellBracket}
 use Rattle.text.specs.Bodies.{Written, leaf, over, both, closing, tokensOf, writtenOf}
 use Rattle.line_writer.specs.Lines.{spellClosing, writtenPart, spellForm, ruleLine}
@@ -146,10 +146,10 @@ module _ (rules bodies : List ℕ) (i : ℕ) (whole : T (wholeBody (bodyOf bodie
       ap (λ p. spellTokens (tokensOf (writtenPart p))) (is-truth (r .form) (whole-body (bodyOf bodies i) size whole .isTruth))
       ∙ ap (λ f. spellTokens (tokensOf (writtenOf f))) (sym (body-ending (bodyOf bodies i) size whole))
 
-  pub rule-spelled : ((((40 ∷ nameOf 2) ++ spellToken (item i)) ++ spellToken (item (wordAt rules 2 i 0))) ++ spellForm (bodyOf bodies i) size) ++ 41 ∷ 10 ∷ [] ≡ ruleLine rules bodies i
+  pub rule-spelled : ((((40 ∷ nameOf ruleName) ++ spellToken (item i)) ++ spellToken (item (wordAt rules 2 i 0))) ++ spellForm (bodyOf bodies i) size) ++ 41 ∷ 10 ∷ [] ≡ ruleLine rules bodies i
   unfolding ruleLine spellBracket spellTokens spellToken
   rule-spelled =
-      let n : List ℕ = 40 ∷ nameOf 2 in
+      let n : List ℕ = 40 ∷ nameOf ruleName in
       let x = spellToken (item i) in
       let y = spellToken (item (wordAt rules 2 i 0)) in
       let b = tokensOf (writtenOf ((ruleRow rules bodies i) .body)) in

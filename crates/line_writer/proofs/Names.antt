@@ -17,11 +17,12 @@ use Rattle.text.specs.Names.{names, nameCount, nameOf}
 -- where each name starts, and the names' letters
 unfoldable pub starts : List ℕ
 starts =
-    0 ∷ 4 ∷ 7 ∷ 11 ∷ 14 ∷ 18 ∷ 24 ∷ 30 ∷ 33 ∷ 37 ∷ 41 ∷ 48 ∷ 55 ∷ 57 ∷ 59 ∷ 61 ∷ 63 ∷ 65 ∷ 67 ∷ 70 ∷ 73 ∷ 75 ∷ 78 ∷ 85 ∷ 91 ∷ 97 ∷ 101 ∷ 104 ∷ 108 ∷ 112 ∷ 115 ∷ 118 ∷ 121 ∷ 125 ∷ 128 ∷ 134 ∷ []
+    0 ∷ 4 ∷ 9 ∷ 12 ∷ 16 ∷ 19 ∷ 23 ∷ 29 ∷ 35 ∷ 38 ∷ 42 ∷ 46 ∷ 53 ∷ 60 ∷ 62 ∷ 64 ∷ 66 ∷ 68 ∷ 70 ∷ 72 ∷ 75 ∷ 78 ∷ 80 ∷ 83 ∷ 90 ∷ 96 ∷ 102 ∷ 106 ∷ 109 ∷ 113 ∷ 117 ∷ 120 ∷ 123 ∷ 126 ∷ 130 ∷ 133 ∷ 139 ∷ []
 
 unfoldable pub letters : List ℕ
 letters =
     116 ∷ 121 ∷ 112 ∷ 101 ∷  -- type
+    102 ∷ 108 ∷ 111 ∷ 111 ∷ 114 ∷  -- floor
     114 ∷ 101 ∷ 108 ∷  -- rel
     114 ∷ 117 ∷ 108 ∷ 101 ∷  -- rule
     101 ∷ 110 ∷ 116 ∷  -- ent
@@ -65,7 +66,7 @@ abbrev lettersAt : ℕ → List ℕ
 lettersAt k = take (start (k + 1) - start k) (drop (start k) letters)
 
 right : ℕ → Bool
-right k = leb (start k) (start (k + 1)) && (leb (start (k + 1)) 134 && sameList (lettersAt k) (nameOf k))
+right k = leb (start k) (start (k + 1)) && (leb (start (k + 1)) 139 && sameList (lettersAt k) (nameOf k))
 
 allRight : ℕ → Bool
 allRight zero = true
@@ -86,12 +87,12 @@ below (suc n) k e h = go (both (right n) (allRight n) e) (λ q. below n k q) (�
 
 pub record Named (k : ℕ) : Type 0 where
   pub ascends : start k ≤ start (k + 1)
-  pub within : start (k + 1) ≤ 134
+  pub within : start (k + 1) ≤ 139
   pub is : lettersAt k ≡ nameOf k
 
 pub named : (k : ℕ) → k < nameCount → Named k
 unfolding right
 named k h =
     let a = both (leb (start k) (start (k + 1))) _ (below nameCount k tested h) in
-    let b = both (leb (start (k + 1)) 134) (sameList (lettersAt k) (nameOf k)) (a .1) in
-    record { ascends = leb-true (start k) (start (k + 1)) (a .0); within = leb-true (start (k + 1)) 134 (b .0); is = same-list-eq (lettersAt k) (nameOf k) (subst T (sym (b .1)) tt) }
+    let b = both (leb (start (k + 1)) 139) (sameList (lettersAt k) (nameOf k)) (a .1) in
+    record { ascends = leb-true (start k) (start (k + 1)) (a .0); within = leb-true (start (k + 1)) 139 (b .0); is = same-list-eq (lettersAt k) (nameOf k) (subst T (sym (b .1)) tt) }

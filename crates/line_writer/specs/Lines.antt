@@ -7,12 +7,12 @@ use lib.Dec.{T, eqb}
 use lib.ListN.{length, getD, take, drop}
 use Rattle.meaning.specs.Limits.{cellCount}
 use Rattle.rows.specs.Rows.{wordAt}
-use Rattle.tables.specs.Layouts.{Sheet, sectionCount}
+use Rattle.tables.specs.Layouts.{Sheet, sectionCount, floorTable, linkTable}
 use Rattle.tables.specs.Columns.{ruleRow}
 use Rattle.tables.specs.Bodies.{BodyRow, Part, part, ending, wholeBody}
 use Rattle.tables.specs.declared.Counts.{Counts}
 use Rattle.body_rows.specs.Marks.{bodyOf}
-use Rattle.text.specs.Names.{typeName, relationshipName, ruleName, objectName, linkName, firstEvent}
+use Rattle.text.specs.Names.{typeName, floorName, relationshipName, ruleName, objectName, linkName, firstEvent}
 use Rattle.text.specs.Tokens.{item, end, spellTokens, spellBracket}
 use Rattle.text.specs.Bodies.{Written, closing, tokensOf, writtenOf}
 use Rattle.text.specs.Entries.{parentItem, eventFields}
@@ -60,8 +60,9 @@ cellsFor types objects i = wordAt types 2 (wordAt objects 10 i 1) 1
 unfoldable pub objectLine : List ℕ → List ℕ → ℕ → List ℕ
 objectLine types objects i = rowLine objectName (take (2 + cellsFor types objects i) (drop (i * 10) objects))
 
-unfoldable pub linkLine : List ℕ → ℕ → List ℕ
-linkLine links i = rowLine linkName (take 3 (drop (i * 3) links))
+-- the line of a floor or a link: the words of its row
+unfoldable pub plainLine : ℕ → List ℕ → ℕ → ℕ → List ℕ
+plainLine name t width i = rowLine name (take width (drop (i * width) t))
 
 unfoldable pub eventLine : List ℕ → ℕ → List ℕ
 eventLine events i =
@@ -72,15 +73,16 @@ eventLine events i =
 unfoldable pub lineOf : Sheet → ℕ → ℕ → List ℕ
 lineOf s section i =
     cond (eqb section typeName) (typeLine (s .types) i)
+    (cond (eqb section floorName) (plainLine floorName (s .floors) (floorTable .width) i)
     (cond (eqb section relationshipName) (relationshipLine (s .relationships) i)
     (cond (eqb section ruleName) (ruleLine (s .rules) (s .bodies) i)
     (cond (eqb section objectName) (objectLine (s .types) (s .objects) i)
-    (cond (eqb section linkName) (linkLine (s .links) i) (eventLine (s .events) i)))))
+    (cond (eqb section linkName) (plainLine linkName (s .links) (linkTable .width) i) (eventLine (s .events) i))))))
 
 -- how many rows of a section are used
 unfoldable pub rowsIn : Counts → ℕ → ℕ
 rowsIn n section =
-    getD (n .types ∷ n .relationships ∷ n .rules ∷ n .objects ∷ n .links ∷ n .events ∷ []) section 0
+    getD (n .types ∷ n .floors ∷ n .relationships ∷ n .rules ∷ n .objects ∷ n .links ∷ n .events ∷ []) section 0
 
 -- what stands for 0 to k - 1, one after the other
 unfoldable pub linesOf : (ℕ → List ℕ) → ℕ → List ℕ
@@ -101,6 +103,7 @@ pub record Fit (s : Sheet) (section i : ℕ) : Type 0 where
   pub whole : section ≡ ruleName → T (wholeBody (bodyOf (s .bodies) i) (wordAt (s .rules) 2 i 1))
   pub cells : section ≡ objectName → cellsFor (s .types) (s .objects) i ≤ cellCount
   pub object-lent : section ≡ objectName → i * 10 + 10 ≤ length (s .objects)
+  pub floor-lent : section ≡ floorName → i * 2 + 2 ≤ length (s .floors)
   pub link-lent : section ≡ linkName → i * 3 + 3 ≤ length (s .links)
   pub kind : section ≡ firstEvent → wordAt (s .events) 4 i 0 < 7
   pub event-lent : section ≡ firstEvent → i * 4 + 4 ≤ length (s .events)

@@ -10,16 +10,23 @@ use body_rows::body::NONE;
 use body_rows::body::SECOND;
 use body_rows::body::field;
 use body_rows::body::shape;
+use text::EVENT_SECTION;
+use text::FIRST_OPERATOR;
+use text::OBJECT_SECTION;
+use text::RELATIONSHIP_SECTION;
+use text::RULE_SECTION;
+use text::TYPE_SECTION;
 ghost use mathlib.Core.List.{[], _∷_};
 ghost use Prim.Native.Nat.{_+_, _*_, _≤_, _<_};
 ghost use lib.Dec.{T};
 ghost use lib.ListN.{length, take};
 ghost use Rattle.meaning.specs.Limits.{cellCount, maxForms};
 ghost use Rattle.rows.specs.Rows.{wordAt};
+ghost use Rattle.text.specs.Names.{nameCount};
 ghost use Rattle.tables.specs.Bodies.{ending, wholeBody};
 ghost use Rattle.body_rows.specs.Marks.{bodyOf, Starts};
 ghost use Rattle.line_writer.specs.Put.{Put};
-ghost use Rattle.line_writer.specs.Lines.{spellClosing, spellForm, cellsFor, typeLine, relationshipLine, ruleLine, objectLine, linkLine, eventLine};
+ghost use Rattle.line_writer.specs.Lines.{spellClosing, spellForm, cellsFor, typeLine, relationshipLine, ruleLine, objectLine, plainLine, eventLine};
 
 // The column of a shape that says how many fields its operator has.
 const FIELDS: u32 = 3;
@@ -31,7 +38,7 @@ const EVENT_FIELDS: [usize; 7] = [2, 1, 3, 3, 3, 2, 2];
 pub fn type_line(out: &mut [u8], at: usize, types: &[u32], row: u32) -> usize
     ensures { λ r. ⌜ Put (now (out .entry)) at (typeLine (now (types .entry)) row) (now (out .exit)) r ⌝ }
 {
-    let a = open(&mut *out, at, 0);
+    let a = open(&mut *out, at, TYPE_SECTION);
     let b = number(&mut *out, a, row);
     let c = parent(&mut *out, b, rows::word(types, tables::TYPE_WIDTH, row, 0));
     let d = number(&mut *out, c, rows::word(types, tables::TYPE_WIDTH, row, 1));
@@ -45,7 +52,7 @@ pub fn relationship_line(out: &mut [u8], at: usize, relationships: &[u32], row: 
     let source = rows::word(relationships, tables::RELATIONSHIP_WIDTH, row, 0);
     let target = rows::word(relationships, tables::RELATIONSHIP_WIDTH, row, 1);
     let items = [row, source, target];
-    row_line(out, at, 1, &items, 0, 3)
+    row_line(out, at, RELATIONSHIP_SECTION, &items, 0, 3)
 }
 
 // The line of an object, with as many cells as its type has.
@@ -56,16 +63,16 @@ pub fn object_line(out: &mut [u8], at: usize, types: &[u32], objects: &[u32], ro
     let t = rows::word(objects, tables::OBJECT_WIDTH, row, 1);
     let cells = rows::word(types, tables::TYPE_WIDTH, t, 1) as usize;
     let from = (row as usize) * 10;
-    row_line(out, at, 3, objects, from, 2 + cells)
+    row_line(out, at, OBJECT_SECTION, objects, from, 2 + cells)
 }
 
-// The line of a link.
-pub fn link_line(out: &mut [u8], at: usize, links: &[u32], row: u32) -> usize
-    requires { ⌜ row * 3 + 3 ≤ length (now links) ⌝ }
-    ensures { λ r. ⌜ Put (now (out .entry)) at (linkLine (now (links .entry)) row) (now (out .exit)) r ⌝ }
+// The line of a floor or a link: the words of its row.
+pub fn plain_line(out: &mut [u8], at: usize, name: u32, t: &[u32], width: u32, row: u32) -> usize
+    requires { ⌜ (name < nameCount) × (row * width + width ≤ length (now t)) ⌝ }
+    ensures { λ r. ⌜ Put (now (out .entry)) at (plainLine name (now (t .entry)) width row) (now (out .exit)) r ⌝ }
 {
-    let from = (row as usize) * 3;
-    row_line(out, at, 4, links, from, 3)
+    let from = (row as usize) * (width as usize);
+    row_line(out, at, name, t, from, width as usize)
 }
 
 // The line of an event, by its kind.
@@ -77,7 +84,7 @@ pub fn event_line(out: &mut [u8], at: usize, events: &[u32], row: u32) -> usize
     let k = kind as usize;
     let fields = EVENT_FIELDS[k];
     let from = (row as usize) * 4 + 1;
-    row_line(out, at, 5 + kind, events, from, fields)
+    row_line(out, at, EVENT_SECTION + kind, events, from, fields)
 }
 
 // The fields of a body's row, and the closed bracket of its form.
@@ -104,7 +111,7 @@ fn form(out: &mut [u8], at: usize, bodies: &[u32], starts: &[u32; 65], rule: u32
     let row = end - 1;
     let code = field(bodies, rule, row, 0);
     let fields = shape(code, FIELDS);
-    let a = open_inner(&mut *out, at, 12 + code);
+    let a = open_inner(&mut *out, at, FIRST_OPERATOR + code);
     if shape(code, SECOND) == NONE {
         return close(out, a, bodies, rule, row, fields);
     }
@@ -126,7 +133,7 @@ pub fn rule_line(out: &mut [u8], at: usize, rules: &[u32], bodies: &[u32], row: 
     let size = rows::word(rules, tables::RULE_WIDTH, row, 1);
     let spans = body_rows::body::scan(bodies, row, size);
     let starts = spans.starts;
-    let a = open(&mut *out, at, 2);
+    let a = open(&mut *out, at, RULE_SECTION);
     let b = number(&mut *out, a, row);
     let c = number(&mut *out, b, rows::word(rules, tables::RULE_WIDTH, row, 0));
     let d = form(&mut *out, c, bodies, &starts, row, size);

@@ -12,7 +12,7 @@ use Rattle.lexical.specs.Lines.{lineIn, lineEnded}
 use Rattle.tables.specs.Layouts.{Sheet, sheetOf, layouts, linesLent}
 use Rattle.tables.specs.Refusals.{notWhole}
 use Rattle.tables.specs.declared.Counts.{Counts}
-use Rattle.text.specs.Names.{typeName, relationshipName, ruleName, objectName, linkName}
+use Rattle.text.specs.Names.{typeName, floorName, relationshipName, ruleName, objectName, linkName}
 use Rattle.text.specs.Entries.{Entry, eventSection, entryIn, tableOf, bodiesOf}
 use Rattle.text.specs.Texts.{maxText, noRoom, Reading, taken, refused, entryThen, lineThen, afterLine, readFrom, reading, filled}
 use Rattle.reader.specs.declared.Outcome.the-variants.{Done, Refused}
@@ -89,16 +89,17 @@ pub refused-so : {r : Reading} {number line : ℕ} → r ≡ refused number line
 refused-so q = sym (ap readAnswer q)
 
 pub done-so : {r : Reading} {es : List Entry} → r ≡ taken es → (counts cells : List ℕ) → Counted es counts cells
-    → Done (record { types = getD counts 0 0; relationships = getD counts 1 0; rules = getD counts 2 0; objects = getD counts 3 0; links = getD counts 4 0; events = getD counts 5 0 })
+    → Done (record { types = getD counts typeName 0; floors = getD counts floorName 0; relationships = getD counts relationshipName 0; rules = getD counts ruleName 0; objects = getD counts objectName 0; links = getD counts linkName 0; events = getD counts eventSection 0 })
     ≡ readAnswer r
 done-so q counts cells k =
     (λ i. Done (record {
-      types = k .rows 0 (omega arith) i;
-      relationships = k .rows 1 (omega arith) i;
-      rules = k .rows 2 (omega arith) i;
-      objects = k .rows 3 (omega arith) i;
-      links = k .rows 4 (omega arith) i;
-      events = k .rows 5 (omega arith) i;
+      types = k .rows typeName (omega arith) i;
+      floors = k .rows floorName (omega arith) i;
+      relationships = k .rows relationshipName (omega arith) i;
+      rules = k .rows ruleName (omega arith) i;
+      objects = k .rows objectName (omega arith) i;
+      links = k .rows linkName (omega arith) i;
+      events = k .rows eventSection (omega arith) i;
     }))
     ∙ sym (ap readAnswer q)
 
@@ -147,6 +148,7 @@ unfolding tableOf bodiesOf
 cleared-filled s es =
     λ j. sheetOf
     (filled (cleared-length (s .types) j) (tableOf typeName es))
+    (filled (cleared-length (s .floors) j) (tableOf floorName es))
     (filled (cleared-length (s .relationships) j) (tableOf relationshipName es))
     (filled (cleared-length (s .rules) j) (tableOf ruleName es))
     (filled (cleared-length (s .bodies) j) (bodiesOf es))
@@ -163,11 +165,12 @@ pub cleared-lent : (s : Sheet) → linesLent (cleared s) ≡ linesLent s
 unfolding linesLent tableOf bodiesOf
 cleared-lent s =
     ap₂ (λ n l. n / 2 ∷ l) (cleared-length (s .types))
+    (ap₂ (λ n l. n / 2 ∷ l) (cleared-length (s .floors))
     (ap₂ (λ n l. n / 2 ∷ l) (cleared-length (s .relationships))
     (ap₂ (λ n l. n ∷ l) (ap₂ (λ n m. min (n / 2) (m / 256)) (cleared-length (s .rules)) (cleared-length (s .bodies)))
     (ap₂ (λ n l. n / 10 ∷ l) (cleared-length (s .objects))
     (ap₂ (λ n l. n / 3 ∷ l) (cleared-length (s .links))
-    (ap (λ n. n / 4 ∷ []) (cleared-length (s .events)))))))
+    (ap (λ n. n / 4 ∷ []) (cleared-length (s .events))))))))
 
 -- what putting the lines into cleared tables asks, and what it leaves
 module _ (text : List ℕ) (lent : Sheet) {es : List Entry} (is : lentReading text lent ≡ taken es) {s : Sheet} (clear : s ≡ cleared lent) where

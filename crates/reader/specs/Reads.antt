@@ -5,7 +5,7 @@ use mathlib.Core.List.{List}
 use Rattle.tables.specs.Layouts.{Sheet, layouts, linesLent}
 use Rattle.tables.specs.Refusals.{notWhole}
 use Rattle.tables.specs.declared.Counts.{Counts}
-use Rattle.text.specs.Names.{typeName, relationshipName, ruleName, objectName, linkName}
+use Rattle.text.specs.Names.{typeName, floorName, relationshipName, ruleName, objectName, linkName}
 use Rattle.text.specs.Entries.{Entry, eventSection, countOf}
 use Rattle.text.specs.Texts.{Reading, taken, refused, reading}
 use Rattle.filling.specs.Fills.{sheetWith}
@@ -26,6 +26,7 @@ abbrev pub countsOf : List Entry → Counts
 countsOf es =
     record {
       types = countOf typeName es;
+      floors = countOf floorName es;
       relationships = countOf relationshipName es;
       rules = countOf ruleName es;
       objects = countOf objectName es;

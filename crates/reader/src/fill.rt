@@ -12,6 +12,7 @@ ghost use Rattle.reader.specs.Reads.{lentReading, sheetAfter};
 pub fn fill(
     text: &[u8],
     types: &mut [u32],
+    floors: &mut [u32],
     relationships: &mut [u32],
     rules: &mut [u32],
     bodies: &mut [u32],
@@ -19,13 +20,14 @@ pub fn fill(
     links: &mut [u32],
     events: &mut [u32],
 )
-    requires { ⌜ ((es : List Entry) × (lentReading (now text) (sheetOf (now types) (now relationships) (now rules) (now bodies) (now objects) (now links) (now events)) ≡ taken es)) ⌝ }
-    ensures { λ _. ⌜ (let before = sheetOf (now (types .entry)) (now (relationships .entry)) (now (rules .entry)) (now (bodies .entry)) (now (objects .entry)) (now (links .entry)) (now (events .entry)) in
-        let after = sheetOf (now (types .exit)) (now (relationships .exit)) (now (rules .exit)) (now (bodies .exit)) (now (objects .exit)) (now (links .exit)) (now (events .exit)) in
+    requires { ⌜ ((es : List Entry) × (lentReading (now text) (sheetOf (now types) (now floors) (now relationships) (now rules) (now bodies) (now objects) (now links) (now events)) ≡ taken es)) ⌝ }
+    ensures { λ _. ⌜ (let before = sheetOf (now (types .entry)) (now (floors .entry)) (now (relationships .entry)) (now (rules .entry)) (now (bodies .entry)) (now (objects .entry)) (now (links .entry)) (now (events .entry)) in
+        let after = sheetOf (now (types .exit)) (now (floors .exit)) (now (relationships .exit)) (now (rules .exit)) (now (bodies .exit)) (now (objects .exit)) (now (links .exit)) (now (events .exit)) in
         after ≡ sheetAfter (lentReading (now (text .entry)) before) before) ⌝ }
 {
     clear_all(
         &mut *types,
+        &mut *floors,
         &mut *relationships,
         &mut *rules,
         &mut *bodies,
@@ -36,6 +38,7 @@ pub fn fill(
     put_lines(
         text,
         types,
+        floors,
         relationships,
         rules,
         bodies,

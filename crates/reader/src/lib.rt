@@ -6,6 +6,7 @@ use reading::look::lesser;
 use tables::BODY_WIDTH;
 use tables::Counts;
 use tables::EVENT_WIDTH;
+use tables::FLOOR_WIDTH;
 use tables::LINK_WIDTH;
 use tables::OBJECT_WIDTH;
 use tables::RELATIONSHIP_WIDTH;
@@ -27,30 +28,33 @@ pub enum Outcome {
 // How many lines of each section have their rows lent. A rule has its rows of the bodies too.
 fn room_of(
     types: &[u32],
+    floors: &[u32],
     relationships: &[u32],
     rules: &[u32],
     bodies: &[u32],
     objects: &[u32],
     links: &[u32],
     events: &[u32],
-) -> [usize; 6]
-    ensures { λ r. ⌜ r ≡ linesLent (sheetOf (now (types .entry)) (now (relationships .entry)) (now (rules .entry)) (now (bodies .entry)) (now (objects .entry)) (now (links .entry)) (now (events .entry))) ⌝ }
+) -> [usize; 7]
+    ensures { λ r. ⌜ r ≡ linesLent (sheetOf (now (types .entry)) (now (floors .entry)) (now (relationships .entry)) (now (rules .entry)) (now (bodies .entry)) (now (objects .entry)) (now (links .entry)) (now (events .entry))) ⌝ }
 {
     let a = rows::rows_lent(types, TYPE_WIDTH);
-    let b = rows::rows_lent(relationships, RELATIONSHIP_WIDTH);
-    let c = lesser(
+    let b = rows::rows_lent(floors, FLOOR_WIDTH);
+    let c = rows::rows_lent(relationships, RELATIONSHIP_WIDTH);
+    let d = lesser(
         rows::rows_lent(rules, RULE_WIDTH),
         rows::rows_lent(bodies, BODY_WIDTH * MAX_FORMS),
     );
-    let d = rows::rows_lent(objects, OBJECT_WIDTH);
-    let e = rows::rows_lent(links, LINK_WIDTH);
-    let f = rows::rows_lent(events, EVENT_WIDTH);
-    [a, b, c, d, e, f]
+    let e = rows::rows_lent(objects, OBJECT_WIDTH);
+    let f = rows::rows_lent(links, LINK_WIDTH);
+    let g = rows::rows_lent(events, EVENT_WIDTH);
+    [a, b, c, d, e, f, g]
 }
 
 // 6: whether a table is not whole rows.
 fn any_broken(
     types: &[u32],
+    floors: &[u32],
     relationships: &[u32],
     rules: &[u32],
     bodies: &[u32],
@@ -58,9 +62,17 @@ fn any_broken(
     links: &[u32],
     events: &[u32],
 ) -> bool
-    ensures { λ r. ⌜ r ≡ notWhole layouts (sheetOf (now (types .entry)) (now (relationships .entry)) (now (rules .entry)) (now (bodies .entry)) (now (objects .entry)) (now (links .entry)) (now (events .entry))) ⌝ }
+    ensures { λ r. ⌜ r ≡ notWhole layouts (sheetOf (now (types .entry)) (now (floors .entry)) (now (relationships .entry)) (now (rules .entry)) (now (bodies .entry)) (now (objects .entry)) (now (links .entry)) (now (events .entry))) ⌝ }
 {
-    let others = lent_tables::any_broken(types, relationships, rules, bodies, objects, links);
+    let others = lent_tables::any_broken(
+        types,
+        floors,
+        relationships,
+        rules,
+        bodies,
+        objects,
+        links,
+    );
     or(others, lent_tables::not_whole(events, EVENT_WIDTH))
 }
 
@@ -68,6 +80,7 @@ fn any_broken(
 fn examine(
     text: &[u8],
     types: &[u32],
+    floors: &[u32],
     relationships: &[u32],
     rules: &[u32],
     bodies: &[u32],
@@ -75,27 +88,46 @@ fn examine(
     links: &[u32],
     events: &[u32],
 ) -> Outcome
-    ensures { λ r. ⌜ r ≡ readAnswer (lentReading (now (text .entry)) (sheetOf (now (types .entry)) (now (relationships .entry)) (now (rules .entry)) (now (bodies .entry)) (now (objects .entry)) (now (links .entry)) (now (events .entry)))) ⌝ }
+    ensures { λ r. ⌜ r ≡ readAnswer (lentReading (now (text .entry)) (sheetOf (now (types .entry)) (now (floors .entry)) (now (relationships .entry)) (now (rules .entry)) (now (bodies .entry)) (now (objects .entry)) (now (links .entry)) (now (events .entry)))) ⌝ }
 {
     if 65536 < text.len() {
         return Outcome::Refused(2, 0);
     }
-    let room = room_of(types, relationships, rules, bodies, objects, links, events);
+    let room = room_of(
+        types,
+        floors,
+        relationships,
+        rules,
+        bodies,
+        objects,
+        links,
+        events,
+    );
     let seen = look::look(text, &room);
     if 0 < seen.number {
         return Outcome::Refused(seen.number, seen.line);
     }
-    if any_broken(types, relationships, rules, bodies, objects, links, events) {
+    if any_broken(
+        types,
+        floors,
+        relationships,
+        rules,
+        bodies,
+        objects,
+        links,
+        events,
+    ) {
         return Outcome::Refused(6, 0);
     }
     let n = seen.counts;
     Outcome::Done(Counts {
         types: n[0],
-        relationships: n[1],
-        rules: n[2],
-        objects: n[3],
-        links: n[4],
-        events: n[5],
+        floors: n[1],
+        relationships: n[2],
+        rules: n[3],
+        objects: n[4],
+        links: n[5],
+        events: n[6],
     })
 }
 
@@ -103,6 +135,7 @@ fn examine(
 pub fn read(
     text: &[u8],
     types: &mut [u32],
+    floors: &mut [u32],
     relationships: &mut [u32],
     rules: &mut [u32],
     bodies: &mut [u32],
@@ -110,14 +143,15 @@ pub fn read(
     links: &mut [u32],
     events: &mut [u32],
 ) -> Outcome
-    ensures { λ r. ⌜ (let before = sheetOf (now (types .entry)) (now (relationships .entry)) (now (rules .entry)) (now (bodies .entry)) (now (objects .entry)) (now (links .entry)) (now (events .entry)) in
-        let after = sheetOf (now (types .exit)) (now (relationships .exit)) (now (rules .exit)) (now (bodies .exit)) (now (objects .exit)) (now (links .exit)) (now (events .exit)) in
+    ensures { λ r. ⌜ (let before = sheetOf (now (types .entry)) (now (floors .entry)) (now (relationships .entry)) (now (rules .entry)) (now (bodies .entry)) (now (objects .entry)) (now (links .entry)) (now (events .entry)) in
+        let after = sheetOf (now (types .exit)) (now (floors .exit)) (now (relationships .exit)) (now (rules .exit)) (now (bodies .exit)) (now (objects .exit)) (now (links .exit)) (now (events .exit)) in
         let reading = lentReading (now (text .entry)) before in
         (r ≡ readAnswer reading) × (after ≡ sheetAfter reading before)) ⌝ }
 {
     match examine(
         text,
         types,
+        floors,
         relationships,
         rules,
         bodies,
@@ -130,6 +164,7 @@ pub fn read(
             fill::fill(
                 text,
                 &mut *types,
+                &mut *floors,
                 &mut *relationships,
                 &mut *rules,
                 &mut *bodies,

@@ -19,7 +19,7 @@ use Rattle.rows.specs.Rows.{wordAt}
 use Rattle.text.specs.Names.{typeName, relationshipName, ruleName}
 use Rattle.text.specs.Bodies.{padded, formsIn}
 use Rattle.text.specs.Entries.{Entry, row, rule, sectionOf, entryWords, countOf, tableOf, cellsIn, lastSection, entryIn}
-use Rattle.tables.specs.Layouts.{limitOf}
+use Rattle.tables.specs.Layouts.{sectionCount, limitOf}
 use Rattle.text.specs.Texts.{maxText, tooLong, noRoom, Reading, taken, refused, entryThen, lineThen, afterLine, readFrom, reading}
 use Rattle.text.proofs.Entries.{sayable, rowFits, by-section, entry-spelled}
 use Rattle.text.proofs.Determined.{last-one}
@@ -47,10 +47,10 @@ reading-end (suc fuel) lent n before = refl
 
 -- ---- an entry of a line
 
--- the sections are below 6, and a row of a type has two words
-pub section-small : (before : List Entry) (e : Entry) → sayable before e ≡ true → sectionOf e < 6
+-- every section is one of the text's, and a row of a type has two words
+pub section-small : (before : List Entry) (e : Entry) → sayable before e ≡ true → sectionOf e < sectionCount
 unfolding sayable sectionOf
-section-small before (row s words) h = by-section before s words (λ s. s < 6) (λ h. omega arith) (λ h. omega arith) (λ h. omega arith) (λ h. omega arith) (λ h. omega arith) h
+section-small before (row s words) h = by-section before s words (λ s. s < sectionCount) (λ h. omega arith) (λ h. omega arith) (λ h. omega arith) (λ h. omega arith) (λ h. omega arith) (λ h. omega arith) h
 section-small before (rule t body) h = omega arith
 
 type-wide : (before : List Entry) (e : Entry) → sayable before e ≡ true → sectionOf e ≡ typeName → length (entryWords e) ≡ 2
@@ -59,18 +59,18 @@ type-wide before (row s words) h q = eqb-true (length words) 2 (both (eqb (lengt
 type-wide before (rule t body) h q = refl
 
 -- a body's size, as the row has it
-long-body : (before : List Entry) (e : Entry) → sayable before e ≡ true → tooLong e ≡ (eqb (sectionOf e) 2 && ltb 64 (getD (padded 10 (entryWords e)) 1 0))
+long-body : (before : List Entry) (e : Entry) → sayable before e ≡ true → tooLong e ≡ (eqb (sectionOf e) ruleName && ltb maxForms (getD (padded 10 (entryWords e)) 1 0))
 unfolding sayable sectionOf entryWords tooLong
-long-body before (row s words) h = by-section before s words (λ s. false ≡ (eqb s 2 && ltb 64 (getD (padded 10 words) 1 0))) (λ h. refl) (λ h. refl) (λ h. refl) (λ h. refl) (λ h. refl) h
+long-body before (row s words) h = by-section before s words (λ s. false ≡ (eqb s ruleName && ltb maxForms (getD (padded 10 words) 1 0))) (λ h. refl) (λ h. refl) (λ h. refl) (λ h. refl) (λ h. refl) (λ h. refl) h
 long-body before (rule t body) h = refl
 
 -- the entry of a row that was held
-row-entry : (o : Option Entry) {held : Row} → held ≡ rowHeld o → held .section < 6 → (e : Entry) × (o ≡ some e) × (held .section ≡ sectionOf e) × (held .words ≡ padded 10 (entryWords e))
+row-entry : (o : Option Entry) {held : Row} → held ≡ rowHeld o → held .section < sectionCount → (e : Entry) × (o ≡ some e) × (held .section ≡ sectionOf e) × (held .words ≡ padded 10 (entryWords e))
 unfolding rowHeld
 row-entry none q h = absurd (omega (arith, h, ap (λ r. r .section) q))
 row-entry (some e) q h = (e, refl, ap (λ r. r .section) q, ap (λ r. r .words) q)
 
-no-entry : (before : List Entry) (line : List ℕ) {held : Row} → held ≡ rowHeld (entryIn before line) → 6 ≤ held .section → entryIn before line ≡ none
+no-entry : (before : List Entry) (line : List ℕ) {held : Row} → held ≡ rowHeld (entryIn before line) → sectionCount ≤ held .section → entryIn before line ≡ none
 unfolding rowHeld
 no-entry before line {held} q h = step (entryIn before line) refl q
   where
@@ -84,7 +84,7 @@ or-none false b h = refl
 
 pub limit-small : (s : ℕ) → limitOf s ≤ 4096
 unfolding limitOf
-limit-small s = leb-true (limitOf s) 4096 (is-true (leb (limitOf s) 4096) (every-getD (λ n. leb n 4096) (32 ∷ 32 ∷ 32 ∷ 1024 ∷ 4096 ∷ 256 ∷ []) s 0 tt tt))
+limit-small s = leb-true (limitOf s) 4096 (is-true (leb (limitOf s) 4096) (every-getD (λ n. leb n 4096) (32 ∷ 256 ∷ 32 ∷ 32 ∷ 1024 ∷ 4096 ∷ 256 ∷ []) s 0 tt tt))
 
 -- ---- what is kept
 
@@ -94,10 +94,10 @@ pub record Looking (text lent : List ℕ) (at n : ℕ) (counts cells : List ℕ)
   pub left : length (drop at text) ≤ fuel
   pub same : readFrom fuel lent n before (drop at text) ≡ readFrom (length text) lent 1 [] text
   pub few : n ≤ at + 1
-  pub counts-held : length counts ≡ 6
+  pub counts-held : length counts ≡ sectionCount
   pub cells-held : length cells ≡ 32
-  pub rows : (s : ℕ) → s < 6 → getD counts s 0 ≡ countOf s before
-  pub within : (s : ℕ) → s < 6 → getD counts s 0 ≤ limitOf s
+  pub rows : (s : ℕ) → s < sectionCount → getD counts s 0 ≡ countOf s before
+  pub within : (s : ℕ) → s < sectionCount → getD counts s 0 ≤ limitOf s
   pub wide : length (tableOf typeName before) ≡ countOf typeName before * 2
   pub cells-of : (t : ℕ) → t < countOf typeName before → getD cells t 0 ≡ cellsIn before t
   pub section-is : section ≡ lastSection 0 before
@@ -107,7 +107,7 @@ zeros zero s = refl
 zeros (suc n) zero = refl
 zeros (suc n) (suc s) = zeros n s
 
-pub look-starts : (text lent : List ℕ) → Looking text lent 0 1 (replicate 6 0) (replicate 32 0) 0
+pub look-starts : (text lent : List ℕ) → Looking text lent 0 1 (replicate sectionCount 0) (replicate 32 0) 0
 unfolding countOf tableOf lastSection
 look-starts text lent =
     record {
@@ -118,8 +118,8 @@ look-starts text lent =
       few = omega arith;
       counts-held = refl;
       cells-held = refl;
-      rows = λ s h. zeros 6 s;
-      within = λ s h. omega (arith, zeros 6 s);
+      rows = λ s h. zeros sectionCount s;
+      within = λ s h. omega (arith, zeros sectionCount s);
       wide = refl;
       cells-of = λ t h. absurd (omega (arith, h));
       section-is = refl;
@@ -150,15 +150,15 @@ unfolding reading
 read-short text lent short q = sym (ap (λ b. cond b (refused 2 0) (readFrom (length text) lent 1 [] text)) (le-ltb maxText (length text) short)) ∙ q
 
 module _ {text lent : List ℕ} {at n : ℕ} {counts cells : List ℕ} {section : ℕ} (k : Looking text lent at n counts cells section) where
-  pub look-follows : Follows (k .before) (getD counts 0 0) (getD counts 1 0) (getD counts 2 0) cells section
+  pub look-follows : Follows (k .before) (getD counts typeName 0) (getD counts relationshipName 0) (getD counts ruleName 0) cells section
   unfolding limitOf
   look-follows =
       record {
-        types-are = k .rows 0 (omega arith);
-        relationships-are = k .rows 1 (omega arith);
-        rules-are = k .rows 2 (omega arith);
-        types-few = k .within 0 (omega arith);
-        cells-are = λ t h. k .cells-of t (omega (arith, h, k .rows 0 (omega arith)));
+        types-are = k .rows typeName (omega arith);
+        relationships-are = k .rows relationshipName (omega arith);
+        rules-are = k .rows ruleName (omega arith);
+        types-few = k .within typeName (omega arith);
+        cells-are = λ t h. k .cells-of t (omega (arith, h, k .rows typeName (omega arith)));
         section-is = k .section-is;
       }
 
@@ -228,19 +228,19 @@ module _ {text lent : List ℕ} {at n : ℕ} {counts cells : List ℕ} {section 
       ∙ ap (λ b. cond b (entryThen lent n (k .before) onwards (entryIn (k .before) (lineIn unread))) (refused 1 n)) (line .ended)
 
   -- a text that is taken has a row there
-  pub section-fine : {es : List Entry} → readFrom (length text) lent 1 [] text ≡ taken es → held .section < 6
+  pub section-fine : {es : List Entry} → readFrom (length text) lent 1 [] text ≡ taken es → held .section < sectionCount
   unfolding entryThen rowHeld
   section-fine {es} t = step (entryIn (k .before) (lineIn unread)) refl (sym at-entry ∙ t) (line .held-is)
     where
-      step : (o : Option Entry) → entryIn (k .before) (lineIn unread) ≡ o → entryThen lent n (k .before) onwards o ≡ taken es → held ≡ rowHeld o → held .section < 6
+      step : (o : Option Entry) → entryIn (k .before) (lineIn unread) ≡ o → entryThen lent n (k .before) onwards o ≡ taken es → held ≡ rowHeld o → held .section < sectionCount
       step none e t r = absurd (false≢true (ap isTaken t))
       step (some f) e t r = omega (arith, ap (λ r. r .section) r, section-small (k .before) f (entry-spelled (k .before) (lineIn unread) f e .fits))
 
-  pub look-bad : 6 ≤ held .section → {seen : Seen} → (seen .number ≡ 1) × (seen .line ≡ n) → Shown (reading lent text) seen
+  pub look-bad : sectionCount ≤ held .section → {seen : Seen} → (seen .number ≡ 1) × (seen .line ≡ n) → Shown (reading lent text) seen
   unfolding entryThen
   look-bad s is = refusing k (line .inside) (line .short) 1 (at-entry ∙ ap (entryThen lent n (k .before) onwards) (no-entry (k .before) (lineIn unread) (line .held-is) s)) is
 
-  module _ (s : held .section < 6) {full : Bool} (f : full ≡ (ltb (min (limitOf (held .section)) (getD lent (held .section) 0)) (suc (getD counts (held .section) 0)) || (eqb (held .section) 2 && ltb 64 (getD (held .words) 1 0)))) where
+  module _ (s : held .section < sectionCount) {full : Bool} (f : full ≡ (ltb (min (limitOf (held .section)) (getD lent (held .section) 0)) (suc (getD counts (held .section) 0)) || (eqb (held .section) ruleName && ltb maxForms (getD (held .words) 1 0)))) where
     pub e : Entry
     e = row-entry (entryIn (k .before) (lineIn unread)) (line .held-is) s .0
 
@@ -263,8 +263,8 @@ module _ {text lent : List ℕ} {at n : ℕ} {counts cells : List ℕ} {section 
     unfolding noRoom
     full-is =
         f
-        ∙ ap₂ (λ c w. ltb (min (limitOf (held .section)) (getD lent (held .section) 0)) (suc c) || (eqb (held .section) 2 && ltb 64 (getD w 1 0))) (k .rows (held .section) s) words-are
-        ∙ ap (λ s. ltb (min (limitOf s) (getD lent s 0)) (suc (countOf s (k .before))) || (eqb s 2 && ltb 64 (getD (padded 10 (entryWords e)) 1 0))) section-of
+        ∙ ap₂ (λ c w. ltb (min (limitOf (held .section)) (getD lent (held .section) 0)) (suc c) || (eqb (held .section) ruleName && ltb maxForms (getD w 1 0))) (k .rows (held .section) s) words-are
+        ∙ ap (λ s. ltb (min (limitOf s) (getD lent s 0)) (suc (countOf s (k .before))) || (eqb s ruleName && ltb maxForms (getD (padded 10 (entryWords e)) 1 0))) section-of
         ∙ ap (λ b. ltb (min (limitOf (sectionOf e)) (getD lent (sectionOf e) 0)) (suc (countOf (sectionOf e) (k .before))) || b) (sym (long-body (k .before) e said))
 
     at-row : readFrom (length text) lent 1 [] text ≡ cond full (refused 2 n) (onwards e)
@@ -315,17 +315,17 @@ module _ {text lent : List ℕ} {at n : ℕ} {counts cells : List ℕ} {section 
           step true = append-nil (entryWords e)
           step false = refl
 
-      count-here : (s : ℕ) → s < 6 → getD (set counts S (getD counts S 0 + 1)) s 0 ≡ cond (eqb S s) (getD counts s 0 + 1) (getD counts s 0)
+      count-here : (s : ℕ) → s < sectionCount → getD (set counts S (getD counts S 0 + 1)) s 0 ≡ cond (eqb S s) (getD counts s 0 + 1) (getD counts s 0)
       count-here t h = step (eqb S t) refl
         where
           step : (b : Bool) → eqb S t ≡ b → getD (set counts S (getD counts S 0 + 1)) t 0 ≡ cond b (getD counts t 0 + 1) (getD counts t 0)
           step true q = ap (λ k. getD (set counts S (getD counts S 0 + 1)) k 0) (sym (eqb-true S t q)) ∙ getD-set-same counts S (getD counts S 0 + 1) 0 (omega (arith, s, k .counts-held)) ∙ ap (λ k. getD counts k 0 + 1) (eqb-true S t q)
           step false q = getD-set-other counts S t (getD counts S 0 + 1) 0 (λ e. eqb-false S t q (sym e))
 
-      rows-next : (s : ℕ) → s < 6 → getD (set counts S (getD counts S 0 + 1)) s 0 ≡ countOf s next
+      rows-next : (s : ℕ) → s < sectionCount → getD (set counts S (getD counts S 0 + 1)) s 0 ≡ countOf s next
       rows-next t h = count-here t h ∙ ap (λ c. cond (eqb S t) (c + 1) c) (k .rows t h) ∙ sym (count-next t)
 
-      within-next : (s : ℕ) → s < 6 → getD (set counts S (getD counts S 0 + 1)) s 0 ≤ limitOf s
+      within-next : (s : ℕ) → s < sectionCount → getD (set counts S (getD counts S 0 + 1)) s 0 ≤ limitOf s
       within-next t h = subst (λ c. c ≤ limitOf t) (sym (count-here t h)) (step (eqb S t) refl)
         where
           step : (b : Bool) → eqb S t ≡ b → cond b (getD counts t 0 + 1) (getD counts t 0) ≤ limitOf t
@@ -339,9 +339,9 @@ module _ {text lent : List ℕ} {at n : ℕ} {counts cells : List ℕ} {section 
           step true q = omega (arith, k .wide, type-wide (k .before) e said (sym section-of ∙ eqb-true S typeName q), count-next typeName ∙ ap (λ b. cond b (countOf typeName (k .before) + 1) (countOf typeName (k .before))) q)
           step false q = omega (arith, k .wide, count-next typeName ∙ ap (λ b. cond b (countOf typeName (k .before) + 1) (countOf typeName (k .before))) q)
 
-      cells-next : (t : ℕ) → t < countOf typeName next → getD (cond (eqb S 0 && ltb (getD counts 0 0) 32) (set cells (getD counts 0 0) (getD (held .words) 1 0)) cells) t 0 ≡ cellsIn next t
+      cells-next : (t : ℕ) → t < countOf typeName next → getD (cond (eqb S typeName && ltb (getD counts typeName 0) 32) (set cells (getD counts typeName 0) (getD (held .words) 1 0)) cells) t 0 ≡ cellsIn next t
       unfolding limitOf
-      cells-next t h = by-section-of (eqb S 0) refl
+      cells-next t h = by-section-of (eqb S typeName) refl
         where
           table : List ℕ
           table = tableOf typeName (k .before)
@@ -350,10 +350,10 @@ module _ {text lent : List ℕ} {at n : ℕ} {counts cells : List ℕ} {section 
           size = getD (held .words) 1 0
 
           N : ℕ
-          N = getD counts 0 0
+          N = getD counts typeName 0
 
           N-is : N ≡ countOf typeName (k .before)
-          N-is = k .rows 0 (omega arith)
+          N-is = k .rows typeName (omega arith)
 
           before-it : t < N → getD cells t 0 ≡ getD table (t * 2 + 1) 0
           before-it l = k .cells-of t (omega (arith, l, N-is))
@@ -375,12 +375,12 @@ module _ {text lent : List ℕ} {at n : ℕ} {counts cells : List ℕ} {section 
               ∙ before-it less
               ∙ sym (List·getD-append table (entryWords e) 0 (t * 2 + 1) (omega (arith, less, N-is, k .wide)))
 
-          limit-here : limitOf 0 ≡ 32
+          limit-here : limitOf typeName ≡ 32
           limit-here = refl
 
-          by-section-of : (b : Bool) → eqb S 0 ≡ b → getD (cond (b && ltb N 32) (set cells N size) cells) t 0 ≡ cellsIn next t
+          by-section-of : (b : Bool) → eqb S typeName ≡ b → getD (cond (b && ltb N 32) (set cells N size) cells) t 0 ≡ cellsIn next t
           by-section-of true q =
-              let few : N < 32 = omega (arith, subst (λ i. suc (getD counts i 0) ≤ limitOf i) (eqb-true S 0 q) count-less, limit-here) in
+              let few : N < 32 = omega (arith, subst (λ i. suc (getD counts i 0) ≤ limitOf i) (eqb-true S typeName q) count-less, limit-here) in
               let one-more : countOf typeName next ≡ countOf typeName (k .before) + 1 = count-next typeName ∙ ap (λ b. cond b (countOf typeName (k .before) + 1) (countOf typeName (k .before))) q in
               ap (λ b. getD (cond b (set cells N size) cells) t 0) (lt-ltb N 32 few)
               ∙ at-type few (eqb t N) refl (omega (arith, h, one-more, N-is))
@@ -390,7 +390,7 @@ module _ {text lent : List ℕ} {at n : ℕ} {counts cells : List ℕ} {section 
               before-it (omega (arith, h, none-more, N-is))
               ∙ sym (ap (λ l. wordAt l 2 t 1) (table-next ∙ ap (λ b. table ++ cond b (entryWords e) []) q ∙ append-nil table))
 
-      goes-on : {after : ℕ} → after ≡ at + length (lineIn unread) + 1 → Looking text lent after (n + 1) (set counts S (getD counts S 0 + 1)) (cond (eqb S 0 && ltb (getD counts 0 0) 32) (set cells (getD counts 0 0) (getD (held .words) 1 0)) cells) S
+      goes-on : {after : ℕ} → after ≡ at + length (lineIn unread) + 1 → Looking text lent after (n + 1) (set counts S (getD counts S 0 + 1)) (cond (eqb S typeName && ltb (getD counts typeName 0) 32) (set cells (getD counts typeName 0) (getD (held .words) 1 0)) cells) S
       goes-on {after} a =
           let place : after ≡ at + suc (length (lineIn unread)) = omega (arith, a) in
           let there : drop after text ≡ afterLine unread = ap (λ m. drop m text) place ∙ sym (drop-drop (suc (length (lineIn unread))) at text) in
@@ -401,7 +401,7 @@ module _ {text lent : List ℕ} {at n : ℕ} {counts cells : List ℕ} {section 
             same = ap₂ (λ m t. readFrom (k .fuel - 1) lent m next t) (add-one n) there ∙ sym (at-row ∙ ap (λ b. cond b (refused 2 n) (onwards e)) room);
             few = omega (arith, a, k .few);
             counts-held = length-set counts S (getD counts S 0 + 1) ∙ k .counts-held;
-            cells-held = step (eqb S 0 && ltb (getD counts 0 0) 32);
+            cells-held = step (eqb S typeName && ltb (getD counts typeName 0) 32);
             rows = rows-next;
             within = within-next;
             wide = wide-next;
@@ -409,17 +409,17 @@ module _ {text lent : List ℕ} {at n : ℕ} {counts cells : List ℕ} {section 
             section-is = section-of ∙ sym (last-one 0 (k .before) e);
           }
         where
-          step : (b : Bool) → length (cond b (set cells (getD counts 0 0) (getD (held .words) 1 0)) cells) ≡ 32
-          step true = length-set cells (getD counts 0 0) (getD (held .words) 1 0) ∙ k .cells-held
+          step : (b : Bool) → length (cond b (set cells (getD counts typeName 0) (getD (held .words) 1 0)) cells) ≡ 32
+          step true = length-set cells (getD counts typeName 0) (getD (held .words) 1 0) ∙ k .cells-held
           step false = k .cells-held
 
-      pub look-goes-on : {end : ℕ} {more-counts more-cells : List ℕ} → end ≡ at + length (lineIn unread) → more-counts ≡ set counts S (getD counts S 0 + 1) → more-cells ≡ cond (eqb S 0 && ltb (getD counts 0 0) 32) (set cells (getD counts 0 0) (getD (held .words) 1 0)) cells → Looking text lent (end + 1) (n + 1) more-counts more-cells S
+      pub look-goes-on : {end : ℕ} {more-counts more-cells : List ℕ} → end ≡ at + length (lineIn unread) → more-counts ≡ set counts S (getD counts S 0 + 1) → more-cells ≡ cond (eqb S typeName && ltb (getD counts typeName 0) 32) (set cells (getD counts typeName 0) (getD (held .words) 1 0)) cells → Looking text lent (end + 1) (n + 1) more-counts more-cells S
       look-goes-on {end} {more-counts} {more-cells} a c d =
           subst (λ l. Looking text lent (end + 1) (n + 1) l more-cells S) (sym c)
           (subst (λ l. Looking text lent (end + 1) (n + 1) (set counts S (getD counts S 0 + 1)) l S) (sym d) (goes-on {after = end + 1} (ap (λ m. m + 1) a)))
 
       -- the same, with the lines before it
-      pub look-with : {end : ℕ} {more-counts more-cells : List ℕ} → end ≡ at + length (lineIn unread) → more-counts ≡ set counts S (getD counts S 0 + 1) → more-cells ≡ cond (eqb S 0 && ltb (getD counts 0 0) 32) (set cells (getD counts 0 0) (getD (held .words) 1 0)) cells → (m : Looking text lent (end + 1) (n + 1) more-counts more-cells S) × (m .before ≡ next)
+      pub look-with : {end : ℕ} {more-counts more-cells : List ℕ} → end ≡ at + length (lineIn unread) → more-counts ≡ set counts S (getD counts S 0 + 1) → more-cells ≡ cond (eqb S typeName && ltb (getD counts typeName 0) 32) (set cells (getD counts typeName 0) (getD (held .words) 1 0)) cells → (m : Looking text lent (end + 1) (n + 1) more-counts more-cells S) × (m .before ≡ next)
       unfolding goes-on
       look-with {end} {more-counts} {more-cells} a c d =
           subst (λ l. (m : Looking text lent (end + 1) (n + 1) l more-cells S) × (m .before ≡ next)) (sym c)

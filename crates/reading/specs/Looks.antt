@@ -3,6 +3,7 @@ use Prim.Native.Nat.{ℕ, _<_}
 use mathlib.Core.Path.{_≡_}
 use mathlib.Core.List.{List}
 use lib.ListN.{getD}
+use Rattle.tables.specs.Layouts.{sectionCount}
 use Rattle.text.specs.Names.{typeName}
 use Rattle.text.specs.Entries.{Entry, countOf, cellsIn}
 use Rattle.text.specs.Texts.{Reading, taken, refused}
@@ -10,7 +11,7 @@ use Rattle.reading.specs.declared.look.Seen.{Seen}
 
 -- the rows of each section, and the cells of each type
 pub record Counted (es : List Entry) (counts cells : List ℕ) : Type 0 where
-  pub rows : (s : ℕ) → s < 6 → getD counts s 0 ≡ countOf s es
+  pub rows : (s : ℕ) → s < sectionCount → getD counts s 0 ≡ countOf s es
   pub cells-of : (t : ℕ) → t < countOf typeName es → getD cells t 0 ≡ cellsIn es t
 
 abbrev pub refusalNumber : Reading → ℕ

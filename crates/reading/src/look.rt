@@ -1,18 +1,24 @@
 // The text looked through, line by line: the first refusal, or how many rows each section has.
 use line_reader::line::read_line;
 use meaning::MAX_EVENTS;
+use meaning::MAX_FLOORS;
 use meaning::MAX_FORMS;
 use meaning::MAX_LINKS;
 use meaning::MAX_OBJECTS;
 use meaning::MAX_RELATIONSHIPS;
 use meaning::MAX_RULES;
 use meaning::MAX_TYPES;
+use text::RULE_SECTION;
+use text::SECTION_COUNT;
+use text::TYPE_SECTION;
 ghost use mathlib.Core.Path.{_≡_};
 ghost use mathlib.Core.Bool.{_&&_, _||_, cond};
 ghost use Prim.Native.Nat.{suc, _+_, min, _≤_, _<_};
 ghost use lib.Dec.{ltb, eqb};
 ghost use lib.ListN.{length, getD, set};
-ghost use Rattle.tables.specs.Layouts.{limitOf};
+ghost use Rattle.meaning.specs.Limits.{maxForms};
+ghost use Rattle.tables.specs.Layouts.{limitOf, sectionCount};
+ghost use Rattle.text.specs.Names.{typeName, ruleName};
 ghost use Rattle.text.specs.Texts.{maxText, reading};
 ghost use Rattle.reading.specs.Looks.{Shown};
 
@@ -20,7 +26,7 @@ ghost use Rattle.reading.specs.Looks.{Shown};
 pub struct Seen {
     pub number: u32,
     pub line: u32,
-    pub counts: [u32; 6],
+    pub counts: [u32; 7],
     pub cells: [u32; 32],
 }
 
@@ -31,18 +37,19 @@ fn refused(number: u32, line: u32) -> Seen
     Seen {
         number,
         line,
-        counts: [0u32; 6],
+        counts: [0u32; 7],
         cells: [0u32; 32],
     }
 }
 
 // The limit on a section's rows.
 fn limit_of(section: u32) -> u32
-    requires { ⌜ section < 6 ⌝ }
+    requires { ⌜ section < sectionCount ⌝ }
     ensures { λ r. ⌜ r ≡ limitOf section ⌝ }
 {
     let limits = [
         MAX_TYPES,
+        MAX_FLOORS,
         MAX_RELATIONSHIPS,
         MAX_RULES,
         MAX_OBJECTS,
@@ -59,16 +66,16 @@ pub fn lesser(a: usize, b: usize) -> usize
 }
 
 // Whether there is no row left for a line of the section, or its body has too many forms.
-fn is_full(section: u32, forms: u32, counts: &[u32; 6], room: &[usize; 6]) -> bool
-    requires { ⌜ section < 6 ⌝ }
-    ensures { λ r. ⌜ r ≡ (ltb (min (limitOf section) (getD (now (room .entry)) section 0)) (suc (getD (now (counts .entry)) section 0)) || (eqb section 2 && ltb 64 forms)) ⌝ }
+fn is_full(section: u32, forms: u32, counts: &[u32; 7], room: &[usize; 7]) -> bool
+    requires { ⌜ section < sectionCount ⌝ }
+    ensures { λ r. ⌜ r ≡ (ltb (min (limitOf section) (getD (now (room .entry)) section 0)) (suc (getD (now (counts .entry)) section 0)) || (eqb section ruleName && ltb maxForms forms)) ⌝ }
 {
     let at = section as usize;
     let most = lesser(limit_of(section) as usize, room[at]) as u32;
     if most <= counts[at] {
         return true;
     }
-    if section == 2 {
+    if section == RULE_SECTION {
         return MAX_FORMS < forms;
     }
     false
@@ -76,10 +83,10 @@ fn is_full(section: u32, forms: u32, counts: &[u32; 6], room: &[usize; 6]) -> bo
 
 // The types' cells, with those of one more where the line is a type's.
 pub fn more_cells(cells: &[u32; 32], types: u32, section: u32, size: u32) -> [u32; 32]
-    ensures { λ r. ⌜ r ≡ cond (eqb section 0 && ltb types 32) (set (now (cells .entry)) types size) (now (cells .entry)) ⌝ }
+    ensures { λ r. ⌜ r ≡ cond (eqb section typeName && ltb types 32) (set (now (cells .entry)) types size) (now (cells .entry)) ⌝ }
 {
     let mut more = *cells;
-    if section == 0 {
+    if section == TYPE_SECTION {
         if types < 32 {
             more[types as usize] = size;
             return more;
@@ -89,8 +96,8 @@ pub fn more_cells(cells: &[u32; 32], types: u32, section: u32, size: u32) -> [u3
 }
 
 // The rows of each section, with one more of a section.
-pub fn more_rows(counts: &[u32; 6], section: u32) -> [u32; 6]
-    requires { ⌜ (section < 6) × (getD (now counts) section 0 < 4096) ⌝ }
+pub fn more_rows(counts: &[u32; 7], section: u32) -> [u32; 7]
+    requires { ⌜ (section < sectionCount) × (getD (now counts) section 0 < 4096) ⌝ }
     ensures { λ r. ⌜ r ≡ set (now (counts .entry)) section (getD (now (counts .entry)) section 0 + 1) ⌝ }
 {
     let mut more = *counts;
@@ -100,11 +107,11 @@ pub fn more_rows(counts: &[u32; 6], section: u32) -> [u32; 6]
 }
 
 // Looks the text through. `room` has the rows lent for each section.
-pub fn look(text: &[u8], room: &[usize; 6]) -> Seen
+pub fn look(text: &[u8], room: &[usize; 7]) -> Seen
     requires { ⌜ length (now text) ≤ maxText ⌝ }
     ensures { λ r. ⌜ Shown (reading (now (room .entry)) (now (text .entry))) r ⌝ }
 {
-    let mut counts = [0u32; 6];
+    let mut counts = [0u32; 7];
     let mut cells = [0u32; 32];
     let mut section: u32 = 0;
     let mut at: usize = 0;
@@ -114,10 +121,10 @@ pub fn look(text: &[u8], room: &[usize; 6]) -> Seen
             return refused(1, n);
         }
         let line = lexical::line(text, at);
-        let row = read_line(line, counts[0], counts[1], counts[2], &cells, section);
+        let row = read_line(line, counts[0], counts[2], counts[3], &cells, section);
         let words = row.words;
         section = row.section;
-        if 6 <= section {
+        if SECTION_COUNT <= section {
             return refused(1, n);
         }
         if is_full(section, words[1], &counts, room) {

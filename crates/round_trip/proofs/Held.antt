@@ -7,7 +7,7 @@ use mathlib.Core.Bool.{Bool, true, false, _&&_, _||_, not, cond, false≢true}
 use mathlib.Core.List.{List, [], _∷_, _++_}
 use mathlib.Core.Option.{Option, none, some, Option·none-ne-some, Option·map}
 use native.Mathlib.Omega.{arith}
-use lib.Dec.{T, ltb, leb, eqb}
+use lib.Dec.{T, ltb, leb, eqb, lit<}
 use lib.ListN.{length, getD, getElem?, replicate, length-append, List·getD-append, List·getD-eq-default}
 use lib.Seq.{getD-append-add}
 use denote.Floats.{passes}
@@ -18,12 +18,12 @@ use Rattle.meaning.specs.Limits.{maxForms}
 use Rattle.meaning.specs.Answers.{refusal}
 use Rattle.meaning.proofs.Lists.{every-getD, every-append, every-replicate}
 use Rattle.meaning.proofs.Agreement.{checked}
-use Rattle.rows.specs.Rows.{wordAt}
+use Rattle.rows.specs.Rows.{wordAt, readRows}
 use Rattle.rows.proofs.Zeros.{past-zero}
 use Rattle.tables.specs.Layouts.{sectionCount, limitOf, widthOf}
 use Rattle.tables.specs.Codes.{Operator, operators, operatorOf, shapeOf}
-use Rattle.tables.specs.Columns.{noEvent, eventRow, bookOf, registerIn, batchIn}
-use Rattle.tables.proofs.Determined.{Clean, CleanBodies, types-determined, relationships-determined, objects-determined, links-determined, events-determined, rules-determined}
+use Rattle.tables.specs.Columns.{floorRow, noEvent, eventRow, bookOf, registerIn, batchIn}
+use Rattle.tables.proofs.Determined.{Clean, CleanBodies, determined, types-determined, relationships-determined, objects-determined, links-determined, events-determined, rules-determined}
 use Rattle.lexical.proofs.Runs.{both}
 use Rattle.checks.proofs.Given.{bodies-whole}
 use Rattle.text.specs.Names.{ruleName}
@@ -86,6 +86,7 @@ good-row before q words h =
     let (long, rest) = sized words 2 _ h in
     let (parent, cells) = both (ltb (getD words 0 0) (2 ^ 31) || eqb (getD words 0 0) (2 ^ 32 - 1)) _ rest in
     record { below = omega arith; other = refl; wide = long; small = two-words words long (parent-word (getD words 0 0) parent) (passes _ cells) })
+    (λ h. let (long, rest) = sized words 2 _ h in record { below = omega arith; other = refl; wide = long; small = passes _ rest })
     (λ h. let (long, rest) = sized words 2 _ h in record { below = omega arith; other = refl; wide = long; small = passes _ rest })
     (λ h.
     let (long, rest) = sized words 10 _ h in
@@ -304,6 +305,10 @@ empty : {A : Type 0} (l : List A) → length l ≡ 0 → l ≡ []
 empty [] e = refl
 empty (x ∷ l) e = absurd (omega (arith, e))
 
+floors-determined : (used : ℕ) (t t′ : List ℕ) → length t ≡ length t′ → Clean 2 used t → Clean 2 used t′ → readRows (floorRow t) used ≡ readRows (floorRow t′) used → t ≡ t′
+unfolding floorRow
+floors-determined used t t′ e c c′ = determined 2 (lit< tt) floorRow (λ f. Unit) (λ f. f .type ∷ f .cell ∷ []) (λ t i w g. refl) used t t′ e c c′ (λ i h. tt)
+
 module _ (es fs : List Entry) (g : Good es) (h : Good fs) (counts : countsOf es ≡ countsOf fs)
     (book : bookOf (countsOf es) (exact es) ≡ bookOf (countsOf es) (exact fs))
     (register : registerIn (countsOf es) (exact es) ≡ registerIn (countsOf es) (exact fs))
@@ -313,13 +318,14 @@ module _ (es fs : List Entry) (g : Good es) (h : Good fs) (counts : countsOf es 
     (known : (i : ℕ) → i < countOf eventSection es → eventRow (tableOf eventSection es) i ≢ noEvent) where
   same-count : (q : ℕ) → countOf q es ≡ countOf q fs
   same-count zero = ap (λ n. n .types) counts
-  same-count (suc zero) = ap (λ n. n .relationships) counts
-  same-count (suc (suc zero)) = ap (λ n. n .rules) counts
-  same-count (suc (suc (suc zero))) = ap (λ n. n .objects) counts
-  same-count (suc (suc (suc (suc zero)))) = ap (λ n. n .links) counts
-  same-count (suc (suc (suc (suc (suc zero))))) = ap (λ n. n .events) counts
-  same-count (suc (suc (suc (suc (suc (suc q)))))) =
-      let k = suc (suc (suc (suc (suc (suc q))))) in
+  same-count (suc zero) = ap (λ n. n .floors) counts
+  same-count (suc (suc zero)) = ap (λ n. n .relationships) counts
+  same-count (suc (suc (suc zero))) = ap (λ n. n .rules) counts
+  same-count (suc (suc (suc (suc zero)))) = ap (λ n. n .objects) counts
+  same-count (suc (suc (suc (suc (suc zero))))) = ap (λ n. n .links) counts
+  same-count (suc (suc (suc (suc (suc (suc zero)))))) = ap (λ n. n .events) counts
+  same-count (suc (suc (suc (suc (suc (suc (suc q))))))) =
+      let k = suc (suc (suc (suc (suc (suc (suc q)))))) in
       none-past k es g (omega arith) ∙ sym (none-past k fs h (omega arith))
 
   same-length : (q : ℕ) → length (tableOf q es) ≡ length (tableOf q fs)
@@ -341,17 +347,18 @@ module _ (es fs : List Entry) (g : Good es) (h : Good fs) (counts : countsOf es 
   same-table : (q : ℕ) → tableOf q es ≡ tableOf q fs
   unfolding widthOf
   same-table zero = types-determined (countOf 0 es) (tableOf 0 es) (tableOf 0 fs) (same-length 0) (table-clean 0 es g) (clean-too 0) (ap (λ b. b .schema .types) book)
-  same-table (suc zero) =
-      relationships-determined (countOf 1 es) (tableOf 1 es) (tableOf 1 fs) (same-length 1) (table-clean 1 es g) (clean-too 1) (ap (λ b. b .schema .relationships) book)
-  same-table (suc (suc zero)) = rules .0
-  same-table (suc (suc (suc zero))) =
-      objects-determined (countOf 3 es) (tableOf 3 es) (tableOf 3 fs) (same-length 3) (table-clean 3 es g) (clean-too 3) (ap (λ r. r .objects) register)
+  same-table (suc zero) = floors-determined (countOf 1 es) (tableOf 1 es) (tableOf 1 fs) (same-length 1) (table-clean 1 es g) (clean-too 1) (ap (λ b. b .schema .floors) book)
+  same-table (suc (suc zero)) =
+      relationships-determined (countOf 2 es) (tableOf 2 es) (tableOf 2 fs) (same-length 2) (table-clean 2 es g) (clean-too 2) (ap (λ b. b .schema .relationships) book)
+  same-table (suc (suc (suc zero))) = rules .0
   same-table (suc (suc (suc (suc zero)))) =
-      links-determined (countOf 4 es) (tableOf 4 es) (tableOf 4 fs) (same-length 4) (table-clean 4 es g) (clean-too 4) (ap (λ r. r .links) register)
+      objects-determined (countOf 4 es) (tableOf 4 es) (tableOf 4 fs) (same-length 4) (table-clean 4 es g) (clean-too 4) (ap (λ r. r .objects) register)
   same-table (suc (suc (suc (suc (suc zero))))) =
-      events-determined (countOf 5 es) (tableOf 5 es) (tableOf 5 fs) (same-length 5) (table-clean 5 es g) (clean-too 5) known batch
-  same-table (suc (suc (suc (suc (suc (suc q)))))) =
-      let k = suc (suc (suc (suc (suc (suc q))))) in
+      links-determined (countOf 5 es) (tableOf 5 es) (tableOf 5 fs) (same-length 5) (table-clean 5 es g) (clean-too 5) (ap (λ r. r .links) register)
+  same-table (suc (suc (suc (suc (suc (suc zero)))))) =
+      events-determined (countOf 6 es) (tableOf 6 es) (tableOf 6 fs) (same-length 6) (table-clean 6 es g) (clean-too 6) known batch
+  same-table (suc (suc (suc (suc (suc (suc (suc q))))))) =
+      let k = suc (suc (suc (suc (suc (suc (suc q)))))) in
       let none-of : (ds : List Entry) → Good ds → tableOf k ds ≡ [] =
       λ ds d.
       let count = none-past k ds d (omega arith) in

@@ -9,7 +9,7 @@ use native.Mathlib.Decide.{decLt}
 use lib.Dec.{eqb}
 use lib.ListN.{length, getD, replicate, length-replicate, List·getD-append, List·getD-eq-default, getD-replicate}
 use Rattle.meaning.specs.Limits.{cellCount}
-use Rattle.meaning.specs.Schema.{ObjectType, Relationship}
+use Rattle.meaning.specs.Schema.{ObjectType, Floor, Relationship}
 use Rattle.meaning.specs.Register.{Object}
 use Rattle.meaning.specs.Forms.{Rule}
 use Rattle.meaning.specs.Events.{linkOf}
@@ -19,10 +19,10 @@ use Rattle.rows.proofs.Meet.{getD-past}
 use Rattle.rows.proofs.Offsets.{row-before}
 use Rattle.tables.specs.Layouts.{Sheet, sheetOf}
 use Rattle.tables.specs.Bodies.{BodyRow, bodyRow, readBody}
-use Rattle.tables.specs.Columns.{noParent, typeRow, relationshipRow, ruleRow, objectRow, linkRow, eventOf, eventRow, bookOf, registerIn, batchIn}
+use Rattle.tables.specs.Columns.{noParent, typeRow, floorRow, relationshipRow, ruleRow, objectRow, linkRow, eventOf, eventRow, bookOf, registerIn, batchIn}
 use Rattle.tables.specs.declared.Counts.{Counts}
 use Rattle.body_rows.specs.Marks.{bodyOf}
-use Rattle.text.specs.Names.{typeName, relationshipName, ruleName, objectName, linkName}
+use Rattle.text.specs.Names.{typeName, floorName, relationshipName, ruleName, objectName, linkName}
 use Rattle.text.specs.Entries.{Entry, eventSection, tableOf, bodiesOf}
 use Rattle.text.specs.Texts.{filled}
 use Rattle.text.specs.Sheets.{wordsAt}
@@ -35,6 +35,10 @@ unfolding typeRow
 type-by t u i e =
     let read : List ℕ → ObjectType = λ w. record { parent = cond (eqb (getD w 0 0) noParent) none (some (getD w 0 0)); cells = getD w 1 0 } in
     ap read e
+
+floor-by : (t u : List ℕ) (i : ℕ) → wordsAt t 2 i ≡ wordsAt u 2 i → floorRow t i ≡ floorRow u i
+unfolding floorRow
+floor-by t u i e = let read : List ℕ → Floor = λ w. record { type = getD w 0 0; cell = getD w 1 0 } in ap read e
 
 relationship-by : (t u : List ℕ) (i : ℕ) → wordsAt t 2 i ≡ wordsAt u 2 i → relationshipRow t i ≡ relationshipRow u i
 unfolding relationshipRow
@@ -68,6 +72,7 @@ module _ {A : Type 0} (width : ℕ) (read : List ℕ → ℕ → A) (by : (t u :
 
 pub record SameUsed (n : Counts) (s u : Sheet) : Type 0 where
   pub types : Alike (n .types * 2) (s .types) (u .types)
+  pub floors : Alike (n .floors * 2) (s .floors) (u .floors)
   pub relationships : Alike (n .relationships * 2) (s .relationships) (u .relationships)
   pub rules : (i : ℕ) → i < n .rules → ruleRow (s .rules) (s .bodies) i ≡ ruleRow (u .rules) (u .bodies) i
   pub objects : Alike (n .objects * 10) (s .objects) (u .objects)
@@ -78,10 +83,11 @@ module _ {n : Counts} {s u : Sheet} (same : SameUsed n s u) where
   pub same-book : bookOf n s ≡ bookOf n u
   same-book =
       let a = rows-alike 2 typeRow type-by (n .types) (s .types) (u .types) (same .types) in
+      let f = rows-alike 2 floorRow floor-by (n .floors) (s .floors) (u .floors) (same .floors) in
       let b = rows-alike 2 relationshipRow relationship-by (n .relationships) (s .relationships) (u .relationships) (same .relationships) in
       let c : readRows (ruleRow (s .rules) (s .bodies)) (n .rules) ≡ readRows (ruleRow (u .rules) (u .bodies)) (n .rules) =
       rows-same (ruleRow (u .rules) (u .bodies)) (ruleRow (s .rules) (s .bodies)) 0 (n .rules) (λ i l h. same .rules i (omega arith)) in
-      cc (a, b, c)
+      cc (a, f, b, c)
 
   pub same-register : registerIn n s ≡ registerIn n u
   same-register =
@@ -121,8 +127,8 @@ rule-by r q b c i e f =
 -- the tables of lines, without the zeros
 abbrev pub exact : List Entry → Sheet
 exact es =
-    sheetOf (tableOf typeName es) (tableOf relationshipName es) (tableOf ruleName es) (bodiesOf es) (tableOf objectName es) (tableOf linkName es)
-    (tableOf eventSection es)
+    sheetOf (tableOf typeName es) (tableOf floorName es) (tableOf relationshipName es) (tableOf ruleName es) (bodiesOf es) (tableOf objectName es)
+    (tableOf linkName es) (tableOf eventSection es)
 
 module _ (es : List Entry) (into : Sheet) where
   abbrev rules : List ℕ
@@ -146,6 +152,7 @@ module _ (es : List Entry) (into : Sheet) where
   exact-used n =
       record {
         types = λ k h. filled-word (length (into .types)) (tableOf typeName es) k;
+        floors = λ k h. filled-word (length (into .floors)) (tableOf floorName es) k;
         relationships = λ k h. filled-word (length (into .relationships)) (tableOf relationshipName es) k;
         rules = λ i h. rule-by rules (tableOf ruleName es) bodies (bodiesOf es) i (rule-words i) (fun-ext (λ j. body-words (i * 64 + j)));
         objects = λ k h. filled-word (length (into .objects)) (tableOf objectName es) k;

@@ -9,11 +9,11 @@ use lib.ListN.{length, getD, take, drop, replicate, length-drop}
 use lib.Seq.{drop-at, take-at, drop-cons, drop-drop, length-take-le}
 use borrow.Author.Tests.{eqb-true}
 use Rattle.rows.specs.Rows.{wordAt, rowsFrom, readRows}
-use Rattle.tables.specs.Layouts.{Sheet, Layout, typeTable, relationshipTable, objectTable, linkTable, eventTable}
+use Rattle.tables.specs.Layouts.{Sheet, Layout, typeTable, floorTable, relationshipTable, objectTable, linkTable, eventTable}
 use Rattle.tables.specs.Columns.{ruleRow}
 use Rattle.tables.specs.declared.Counts.{Counts}
 use Rattle.checks.specs.Given.{Given, EventsLent, EventsKnown}
-use Rattle.text.specs.Names.{typeName, relationshipName, ruleName, objectName, linkName}
+use Rattle.text.specs.Names.{typeName, floorName, relationshipName, ruleName, objectName, linkName}
 use Rattle.text.specs.Bodies.{Written, padded, rowsOf, writtenOf}
 use Rattle.text.specs.Entries.{Entry, row, rule, eventSection, sectionOf, entryWords, countOf, tableOf, bodiesOf}
 use Rattle.text.specs.Sheets.{rowEntry, ruleEntry, rowEntries, ruleEntries, entriesOf}
@@ -43,16 +43,19 @@ module _ (p : ℕ) (read : ℕ → Entry) (of : (i : ℕ) → sectionOf (read i)
 
 -- ---- counts and tables of all sections
 
-pub counts-are : {a b c d e f : ℕ} (n : Counts) → a ≡ n .types → b ≡ n .relationships → c ≡ n .rules → d ≡ n .objects → e ≡ n .links → f ≡ n .events
-    → record { types = a; relationships = b; rules = c; objects = d; links = e; events = f } ≡ n
-counts-are n p q r t u v = rw (p, q, r, t, u, v)
+pub counts-are : {a b c d e f g : ℕ} (n : Counts) → a ≡ n .types → b ≡ n .floors → c ≡ n .relationships → d ≡ n .rules → e ≡ n .objects → f ≡ n .links → g ≡ n .events
+    → record { types = a; floors = b; relationships = c; rules = d; objects = e; links = f; events = g } ≡ n
+counts-are n p q r t u v w = rw (p, q, r, t, u, v, w)
 
 module _ (n : Counts) (s : Sheet) where
   abbrev A : List Entry
   A = rowEntries typeTable n s
 
+  abbrev F : List Entry
+  F = A ++ rowEntries floorTable n s
+
   abbrev B : List Entry
-  B = A ++ rowEntries relationshipTable n s
+  B = F ++ rowEntries relationshipTable n s
 
   abbrev C : List Entry
   C = B ++ ruleEntries n s
@@ -65,7 +68,7 @@ module _ (n : Counts) (s : Sheet) where
 
   -- as many lines of a section as its table has used rows
   section-counts : (q : ℕ)
-      → countOf q (entriesOf n s) ≡ cond (eqb typeName q) (n .types) 0 + cond (eqb relationshipName q) (n .relationships) 0
+      → countOf q (entriesOf n s) ≡ cond (eqb typeName q) (n .types) 0 + cond (eqb floorName q) (n .floors) 0 + cond (eqb relationshipName q) (n .relationships) 0
       + cond (eqb ruleName q) (n .rules) 0 + cond (eqb objectName q) (n .objects) 0 + cond (eqb linkName q) (n .links) 0
       + cond (eqb eventSection q) (n .events) 0
   unfolding entriesOf sectionOf
@@ -74,17 +77,19 @@ module _ (n : Counts) (s : Sheet) where
       (count-more linkName (rowEntry linkTable (s .links)) (λ i. refl) q (n .links) D
       (count-more objectName (rowEntry objectTable (s .objects)) (λ i. refl) q (n .objects) C
       (count-more ruleName (ruleEntry (s .rules) (s .bodies)) (λ i. refl) q (n .rules) B
-      (count-more relationshipName (rowEntry relationshipTable (s .relationships)) (λ i. refl) q (n .relationships) A
-      (count-block typeName (rowEntry typeTable (s .types)) (λ i. refl) q 0 (n .types))))))
+      (count-more relationshipName (rowEntry relationshipTable (s .relationships)) (λ i. refl) q (n .relationships) F
+      (count-more floorName (rowEntry floorTable (s .floors)) (λ i. refl) q (n .floors) A
+      (count-block typeName (rowEntry typeTable (s .types)) (λ i. refl) q 0 (n .types)))))))
 
   pub same-counts : countsOf (entriesOf n s) ≡ n
   same-counts =
-      counts-are n (section-counts typeName ∙ omega arith) (section-counts relationshipName ∙ omega arith) (section-counts ruleName ∙ omega arith)
+      counts-are n (section-counts typeName ∙ omega arith) (section-counts floorName ∙ omega arith) (section-counts relationshipName ∙ omega arith) (section-counts ruleName ∙ omega arith)
       (section-counts objectName ∙ omega arith) (section-counts linkName ∙ omega arith) (section-counts eventSection ∙ omega arith)
 
   -- the table of a section is that of its lines
   section-tables : (q : ℕ)
       → tableOf q (entriesOf n s) ≡ cond (eqb typeName q) (tableOf typeName A) []
+      ++ cond (eqb floorName q) (tableOf floorName (rowEntries floorTable n s)) []
       ++ cond (eqb relationshipName q) (tableOf relationshipName (rowEntries relationshipTable n s)) []
       ++ cond (eqb ruleName q) (tableOf ruleName (ruleEntries n s)) []
       ++ cond (eqb objectName q) (tableOf objectName (rowEntries objectTable n s)) []
@@ -96,8 +101,9 @@ module _ (n : Counts) (s : Sheet) where
       (table-more linkName (rowEntry linkTable (s .links)) (λ i. refl) q (n .links) D
       (table-more objectName (rowEntry objectTable (s .objects)) (λ i. refl) q (n .objects) C
       (table-more ruleName (ruleEntry (s .rules) (s .bodies)) (λ i. refl) q (n .rules) B
-      (table-more relationshipName (rowEntry relationshipTable (s .relationships)) (λ i. refl) q (n .relationships) A
-      (block-table typeName (rowEntry typeTable (s .types)) (λ i. refl) q (n .types))))))
+      (table-more relationshipName (rowEntry relationshipTable (s .relationships)) (λ i. refl) q (n .relationships) F
+      (table-more floorName (rowEntry floorTable (s .floors)) (λ i. refl) q (n .floors) A
+      (block-table typeName (rowEntry typeTable (s .types)) (λ i. refl) q (n .types)))))))
 
 -- ---- the words of used rows
 
@@ -146,7 +152,9 @@ all-bodies n s =
     ∙ last-rows (C n s) objectTable (s .objects) (n .objects)
     ∙ bodies-append (B n s) (ruleEntries n s)
     ∙ ap (λ l. l ++ bodiesOf (ruleEntries n s))
-    (last-rows (A n s) relationshipTable (s .relationships) (n .relationships) ∙ no-bodies typeTable (s .types) 0 (n .types))
+    (last-rows (F n s) relationshipTable (s .relationships) (n .relationships)
+    ∙ last-rows (A n s) floorTable (s .floors) (n .floors)
+    ∙ no-bodies typeTable (s .types) 0 (n .types))
 
 -- ---- the rows that are written
 
@@ -156,6 +164,7 @@ bodyAt s i = writtenOf ((ruleRow (s .rules) (s .bodies) i) .body)
 
 pub record SameRows (n : Counts) (s : Sheet) (es : List Entry) : Type 0 where
   pub types-same : tableOf typeName es ≡ take (n .types * 2) (s .types)
+  pub floors-same : tableOf floorName es ≡ take (n .floors * 2) (s .floors)
   pub relationships-same : tableOf relationshipName es ≡ take (n .relationships * 2) (s .relationships)
   pub rules-same : tableOf ruleName es ≡ take (n .rules * 2) (s .rules)
   pub bodies-same : (i : ℕ) → i < n .rules → take (wordAt (s .rules) 2 i 1 * 4) (drop (i * 256) (bodiesOf es)) ≡ rowsOf (bodyAt s i)
@@ -235,7 +244,8 @@ module _ (n : Counts) (s : Sheet) (small : SmallWords s) (sound : Given n s × E
       let table = section-tables n s in
       let given = sound .0 in
       record {
-        types-same = table typeName ∙ append-nil _ ∙ nil-4 _ ∙ used-rows typeTable (s .types) (n .types) (given .types-lent);
+        types-same = table typeName ∙ nil-2 _ ∙ nil-4 _ ∙ used-rows typeTable (s .types) (n .types) (given .types-lent);
+        floors-same = table floorName ∙ append-nil _ ∙ nil-4 _ ∙ used-rows floorTable (s .floors) (n .floors) (given .floors-lent);
         relationships-same =
             table relationshipName ∙ nil-4 _ ∙ used-rows relationshipTable (s .relationships) (n .relationships) (given .relationships-lent);
         rules-same = table ruleName ∙ append-nil _ ∙ nil-2 _ ∙ rules-rows;

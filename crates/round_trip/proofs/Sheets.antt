@@ -21,7 +21,7 @@ use Rattle.meaning.proofs.Lists.{element-in, or-right}
 use Rattle.meaning.proofs.Registers.{object-parts}
 use Rattle.meaning.proofs.Agreement.{Checked, checked}
 use Rattle.rows.specs.Rows.{wordAt, readRows, rowsFrom, signed, allZero}
-use Rattle.tables.specs.Layouts.{Sheet, typeTable, relationshipTable, objectTable, linkTable, eventTable, limitOf}
+use Rattle.tables.specs.Layouts.{Sheet, typeTable, floorTable, relationshipTable, objectTable, linkTable, eventTable, limitOf}
 use Rattle.tables.specs.Bodies.{readBody}
 use Rattle.tables.specs.Columns.{noParent, bookOf, registerIn, typeRow, ruleRow, objectRow, eventRow}
 use Rattle.tables.specs.declared.Counts.{Counts}
@@ -31,7 +31,7 @@ use Rattle.tables.proofs.Determined.{event-back}
 use Rattle.schema.proofs.Rows.{row-there, row-at}
 use Rattle.body_rows.specs.Marks.{bodyOf}
 use Rattle.checks.specs.Given.{Given, EventsLent, EventsKnown}
-use Rattle.text.specs.Names.{typeName, relationshipName, ruleName, objectName, linkName}
+use Rattle.text.specs.Names.{typeName, floorName, relationshipName, ruleName, objectName, linkName}
 use Rattle.text.specs.Tokens.{dash, isWord}
 use Rattle.text.specs.Bodies.{wellWritten, formsIn, rowsOf, writtenOf}
 use Rattle.text.specs.Entries.{Entry, row, eventSection, sectionOf, entryWords, countOf, tableOf, cellsIn, eventFields}
@@ -113,6 +113,10 @@ module _ (n : Counts) (s : Sheet) (small : SmallWords s) (sound : Given n s × E
   type-said : (b : List Entry) (i : ℕ) → i < n .types → sayable b (rowEntry typeTable (s .types) i) ≡ true
   unfolding sayable
   type-said b i h = ap₂ (λ x y. x && y) (parent-small i h) (lt-ltb (wordAt (s .types) 2 i 1) dash (small .of-types (i * 2 + 1)))
+
+  floor-said : (b : List Entry) (i : ℕ) → sayable b (rowEntry floorTable (s .floors) i) ≡ true
+  unfolding sayable
+  floor-said b i = row-words (s .floors) (small .of-floors) 2 i 0 2
 
   relationship-said : (b : List Entry) (i : ℕ) → sayable b (rowEntry relationshipTable (s .relationships) i) ≡ true
   unfolding sayable
@@ -219,7 +223,7 @@ module _ (n : Counts) (s : Sheet) (small : SmallWords s) (sound : Given n s × E
   object-said b i h types =
       let o = objectRow (s .objects) i in
       let u = wordAt (s .objects) 10 i 1 in
-      let fits = object-parts (S .types) o (known .register .objects-fit o (object-there i h)) in
+      let fits = object-parts S o (known .register .objects-fit o (object-there i h)) in
       let inside : u < n .types = sound .0 .typed i h in
       let same : cellsIn b u ≡ cellsOf (S .types) u = types .cells u inside in
       let two : 2 + cellsIn b u ≡ suc (suc (cellsOf (S .types) u)) = omega (arith, same) in
@@ -268,8 +272,11 @@ module _ (n : Counts) (s : Sheet) (small : SmallWords s) (sound : Given n s × E
   abbrev A : List Entry
   A = rowEntries typeTable n s
 
+  abbrev F : List Entry
+  F = A ++ rowEntries floorTable n s
+
   abbrev B : List Entry
-  B = A ++ rowEntries relationshipTable n s
+  B = F ++ rowEntries relationshipTable n s
 
   abbrev C : List Entry
   C = B ++ ruleEntries n s
@@ -281,34 +288,39 @@ module _ (n : Counts) (s : Sheet) (small : SmallWords s) (sound : Given n s × E
   L = D ++ rowEntries linkTable n s
 
   pub record Room (lent : List ℕ) : Type 0 where
-    pub types-room : n .types ≤ getD lent 0 0
-    pub relationships-room : n .relationships ≤ getD lent 1 0
-    pub rules-room : n .rules ≤ getD lent 2 0
-    pub objects-room : n .objects ≤ getD lent 3 0
-    pub links-room : n .links ≤ getD lent 4 0
-    pub events-room : n .events ≤ getD lent 5 0
+    pub types-room : n .types ≤ getD lent typeName 0
+    pub floors-room : n .floors ≤ getD lent floorName 0
+    pub relationships-room : n .relationships ≤ getD lent relationshipName 0
+    pub rules-room : n .rules ≤ getD lent ruleName 0
+    pub objects-room : n .objects ≤ getD lent objectName 0
+    pub links-room : n .links ≤ getD lent linkName 0
+    pub events-room : n .events ≤ getD lent eventSection 0
 
   both-rooms : (limit lent : ℕ) {used : ℕ} → used ≤ limit → used ≤ lent → used ≤ min limit lent
   both-rooms limit lent h g = omega (arith, h, g)
 
   module _ (lent : List ℕ) (room : Room lent) where
-    at-relationships : At 1 A
+    at-floors : At floorName A
     unfolding sectionOf
-    at-relationships = at-block typeName (rowEntry typeTable (s .types)) (λ i. refl) [] (n .types) at-start
+    at-floors = at-block typeName (rowEntry typeTable (s .types)) (λ i. refl) [] (n .types) at-start
 
-    at-rules : At 2 B
+    at-relationships : At relationshipName F
     unfolding sectionOf
-    at-rules = at-block relationshipName (rowEntry relationshipTable (s .relationships)) (λ i. refl) A (n .relationships) at-relationships
+    at-relationships = at-block floorName (rowEntry floorTable (s .floors)) (λ i. refl) A (n .floors) at-floors
 
-    at-objects : At 3 C
+    at-rules : At ruleName B
+    unfolding sectionOf
+    at-rules = at-block relationshipName (rowEntry relationshipTable (s .relationships)) (λ i. refl) F (n .relationships) at-relationships
+
+    at-objects : At objectName C
     unfolding sectionOf
     at-objects = at-block ruleName (ruleEntry (s .rules) (s .bodies)) (λ i. refl) B (n .rules) at-rules
 
-    at-links : At 4 D
+    at-links : At linkName D
     unfolding sectionOf
     at-links = at-block objectName (rowEntry objectTable (s .objects)) (λ i. refl) C (n .objects) at-objects
 
-    at-events : At 5 L
+    at-events : At eventSection L
     unfolding sectionOf
     at-events = at-block linkName (rowEntry linkTable (s .links)) (λ i. refl) D (n .links) at-links
 
@@ -316,7 +328,8 @@ module _ (n : Counts) (s : Sheet) (small : SmallWords s) (sound : Given n s × E
     unfolding sectionOf
     types-objects =
         block-types (ruleEntry (s .rules) (s .bodies)) (λ i. refl) B (n .rules)
-        (block-types (rowEntry relationshipTable (s .relationships)) (λ i. refl) A (n .relationships) types-are)
+        (block-types (rowEntry relationshipTable (s .relationships)) (λ i. refl) F (n .relationships)
+        (block-types (rowEntry floorTable (s .floors)) (λ i. refl) A (n .floors) types-are))
 
     -- a section whose lines can be said after any others
     fits-plain : (q : ℕ) (read : ℕ → Entry) → ((i : ℕ) → sectionOf (read i) ≡ q) → (used : ℕ)
@@ -332,11 +345,17 @@ module _ (n : Counts) (s : Sheet) (small : SmallWords s) (sound : Given n s × E
         fits-plain typeName (rowEntry typeTable (s .types)) (λ i. refl) (n .types) type-said (λ i h. refl)
         (sound .0 .few-types) (room .types-room) [] at-start
 
-    fits-relationships : fitFrom lent A (rowEntries relationshipTable n s) ≡ true
+    fits-floors : fitFrom lent A (rowEntries floorTable n s) ≡ true
+    unfolding sectionOf limitOf tooLong
+    fits-floors =
+        fits-plain floorName (rowEntry floorTable (s .floors)) (λ i. refl) (n .floors) (λ b i h. floor-said b i) (λ i h. refl)
+        (sound .0 .few-floors) (room .floors-room) A at-floors
+
+    fits-relationships : fitFrom lent F (rowEntries relationshipTable n s) ≡ true
     unfolding sectionOf limitOf tooLong
     fits-relationships =
         fits-plain relationshipName (rowEntry relationshipTable (s .relationships)) (λ i. refl) (n .relationships) (λ b i h. relationship-said b i)
-        (λ i h. refl) (sound .0 .few-relationships) (room .relationships-room) A at-relationships
+        (λ i h. refl) (sound .0 .few-relationships) (room .relationships-room) F at-relationships
 
     fits-rules : fitFrom lent B (ruleEntries n s) ≡ true
     unfolding sectionOf limitOf
@@ -349,7 +368,7 @@ module _ (n : Counts) (s : Sheet) (small : SmallWords s) (sound : Given n s × E
     fits-objects =
         block-fits objectName (rowEntry objectTable (s .objects)) (λ i. refl) lent (n .objects) TypesAre
         (λ b i p. types-stay b (rowEntry objectTable (s .objects) i) refl p) object-said (λ i h. refl)
-        (both-rooms 1024 (getD lent 3 0) (sound .0 .few-objects) (room .objects-room)) C at-objects types-objects
+        (both-rooms 1024 (getD lent objectName 0) (sound .0 .few-objects) (room .objects-room)) C at-objects types-objects
 
     fits-links : fitFrom lent D (rowEntries linkTable n s) ≡ true
     unfolding sectionOf limitOf tooLong
@@ -370,7 +389,8 @@ module _ (n : Counts) (s : Sheet) (small : SmallWords s) (sound : Given n s × E
         (fit-append lent D (rowEntries linkTable n s) []
         (fit-append lent C (rowEntries objectTable n s) []
         (fit-append lent B (ruleEntries n s) []
-        (fit-append lent A (rowEntries relationshipTable n s) [] fits-types fits-relationships) fits-rules) fits-objects) fits-links) fits-events
+        (fit-append lent F (rowEntries relationshipTable n s) []
+        (fit-append lent A (rowEntries floorTable n s) [] fits-types fits-floors) fits-relationships) fits-rules) fits-objects) fits-links) fits-events
 
     -- their text is read as these lines
     pub sheet-read : length (spelled (entriesOf n s)) ≤ maxText → reading lent (spelled (entriesOf n s)) ≡ taken (entriesOf n s)

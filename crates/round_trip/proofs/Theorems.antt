@@ -19,7 +19,7 @@ use Rattle.meaning.specs.Events.{Event, Refusal, knownEvent}
 use Rattle.meaning.specs.Answers.{refusal}
 use Rattle.meaning.proofs.Lists.{first-of-none}
 use Rattle.rows.specs.Rows.{wordAt, readRows, rowsLent}
-use Rattle.tables.specs.Layouts.{Sheet, Layout, typeTable, relationshipTable, ruleTable, bodyTable, objectTable, linkTable, eventTable, layouts, linesLent}
+use Rattle.tables.specs.Layouts.{Sheet, Layout, typeTable, floorTable, relationshipTable, ruleTable, bodyTable, objectTable, linkTable, eventTable, layouts, linesLent}
 use Rattle.tables.specs.Bodies.{readBody, writeForm}
 use Rattle.tables.specs.Columns.{ruleRow, noEvent, eventRow, bookOf, registerIn, batchIn}
 use Rattle.tables.specs.Refusals.{notWhole, sheetRefusal}
@@ -30,7 +30,7 @@ use Rattle.body_rows.specs.Marks.{bodyOf}
 use Rattle.checks.specs.Given.{Given, EventsLent, EventsKnown}
 use Rattle.checks.proofs.Given.{any-off, lent, given-sheet}
 use Rattle.checks.proofs.Stages.{over}
-use Rattle.text.specs.Names.{typeName, relationshipName, ruleName, objectName, linkName}
+use Rattle.text.specs.Names.{typeName, floorName, relationshipName, ruleName, objectName, linkName}
 use Rattle.text.specs.Entries.{Entry, eventSection, countOf, tableOf, bodiesOf}
 use Rattle.text.specs.Texts.{maxText, spelled, Reading, taken, refused, reading}
 use Rattle.text.specs.Sheets.{entriesOf, textOf}
@@ -104,12 +104,13 @@ module _ (n : Counts) (s : Sheet) (out : List ℕ) (small : SmallWords s) (clear
 
   -- the lines that are read are good, in tables of whatever size
   abbrev exactRoom : List ℕ
-  exactRoom = n .types ∷ n .relationships ∷ n .rules ∷ n .objects ∷ n .links ∷ n .events ∷ []
+  exactRoom = n .types ∷ n .floors ∷ n .relationships ∷ n .rules ∷ n .objects ∷ n .links ∷ n .events ∷ []
 
   roomy : Room n s small sound exactRoom
   roomy =
       record {
         types-room = omega arith;
+        floors-room = omega arith;
         relationships-room = omega arith;
         rules-room = omega arith;
         objects-room = omega arith;
@@ -163,6 +164,7 @@ module _ (n : Counts) (s : Sheet) (out : List ℕ) (small : SmallWords s) (clear
   used-same =
       record {
         types = front (s .types) (tableOf typeName lines) (n .types * 2) (rows .types-same);
+        floors = front (s .floors) (tableOf floorName lines) (n .floors * 2) (rows .floors-same);
         relationships = front (s .relationships) (tableOf relationshipName lines) (n .relationships * 2) (rows .relationships-same);
         rules = rule-same;
         objects = front (s .objects) (tableOf objectName lines) (n .objects * 10) (rows .objects-same);
@@ -179,16 +181,17 @@ module _ (n : Counts) (s : Sheet) (out : List ℕ) (small : SmallWords s) (clear
     room : Room n s small sound (linesLent into)
     unfolding linesLent layouts
     room =
-        let bodies = few 3 bodyTable refl in
+        let bodies = few 4 bodyTable refl in
         let bodies-lent : n .rules * 256 ≤ length (into .bodies) = omega (arith, bodies, div-mul-le-self (length (into .bodies)) 4) in
         let bodies-room : n .rules ≤ length (into .bodies) / 256 = le-div-iff-mul-le (lit< tt) .1 bodies-lent in
         record {
           types-room = few 0 typeTable refl;
-          relationships-room = few 1 relationshipTable refl;
-          rules-room = omega (arith, few 2 ruleTable refl, bodies-room);
-          objects-room = few 4 objectTable refl;
-          links-room = few 5 linkTable refl;
-          events-room = few 6 eventTable refl;
+          floors-room = few 1 floorTable refl;
+          relationships-room = few 2 relationshipTable refl;
+          rules-room = omega (arith, few 3 ruleTable refl, bodies-room);
+          objects-room = few 5 objectTable refl;
+          links-room = few 6 linkTable refl;
+          events-room = few 7 eventTable refl;
         }
 
     is-read : lentReading (writtenText n s out) into ≡ taken lines
@@ -237,6 +240,7 @@ module _ (n : Counts) (s : Sheet) (out : List ℕ) (small : SmallWords s) (clear
     counts-same =
         counts-are n
         (length-same _ _ (m .types) (n .types) (ap (λ b. b .schema .types) (r .book-is)))
+        (length-same _ _ (m .floors) (n .floors) (ap (λ b. b .schema .floors) (r .book-is)))
         (length-same _ _ (m .relationships) (n .relationships) (ap (λ b. b .schema .relationships) (r .book-is)))
         (length-same _ _ (m .rules) (n .rules) (ap (λ b. b .rules) (r .book-is)))
         (length-same _ _ (m .objects) (n .objects) (ap (λ g. g .objects) (r .register-is)))

@@ -27,6 +27,7 @@ Small t = (k : ℕ) → getD t k 0 < 2 ^ 32
 
 pub record SmallWords (s : Sheet) : Type 0 where
   pub of-types : Small (s .types)
+  pub of-floors : Small (s .floors)
   pub of-relationships : Small (s .relationships)
   pub of-rules : Small (s .rules)
   pub of-bodies : Small (s .bodies)

@@ -36,6 +36,7 @@ row-shaped before s words h =
     by-section before s words (λ s. shaped (row s words) ≡ true)
     (λ h. both (eqb (length words) 2) _ h .0)
     (λ h. both (eqb (length words) 2) _ h .0)
+    (λ h. both (eqb (length words) 2) _ h .0)
     (λ h. both (eqb (length words) 10) _ h .0)
     (λ h. both (eqb (length words) 3) _ h .0)
     (λ h. both (eqb (length words) 4) _ h .0)

@@ -15,13 +15,14 @@ use Rattle.meaning.specs.Lists.{every}
 use Rattle.meaning.specs.Limits.{cellCount}
 use Rattle.meaning.proofs.Lists.{length-keep, every-append, every-replicate, every-getD, every-take}
 use Rattle.rows.specs.Rows.{allZero}
+use Rattle.tables.specs.Layouts.{Layout, floorTable, linkTable}
 use Rattle.tables.specs.Columns.{noParent}
 use Rattle.lexical.specs.Lines.{isInner}
 use Rattle.lexical.proofs.Runs.{both}
-use Rattle.text.specs.Names.{typeName, relationshipName, ruleName, objectName, linkName, firstEvent, nameCount}
+use Rattle.text.specs.Names.{typeName, floorName, relationshipName, ruleName, objectName, linkName, firstEvent, nameCount}
 use Rattle.text.specs.Tokens.{Token, begin, item, end, dash, isWord, Bracket, spellBracket, bracketIn}
 use Rattle.text.specs.Bodies.{Written, wellWritten, padded, closing, tokensOf, formIn}
-use Rattle.text.specs.Entries.{Entry, row, rule, sectionOf, isOf, countOf, cellsIn, lastSection, eventSection, parentItem, parentWord, isTypeLine, isRelationshipLine, isObjectLine, isLinkLine, isEventLine, eventFields, itemsOf, nameFor, bracketOf, spellEntry, itemsIn, rowIf, typeIn, relationshipIn, objectIn, linkIn, eventIn, rowIn, onlyEnd, bodyIn, ruleIn, insideIn, inOrder, entryIn}
+use Rattle.text.specs.Entries.{Entry, row, rule, sectionOf, isOf, countOf, cellsIn, lastSection, eventSection, parentItem, parentWord, isTypeLine, isRelationshipLine, isObjectLine, isPlainLine, isEventLine, eventFields, itemsOf, nameFor, bracketOf, spellEntry, itemsIn, rowIf, typeIn, relationshipIn, objectIn, plainIn, eventIn, rowIn, onlyEnd, bodyIn, ruleIn, insideIn, inOrder, entryIn}
 use Rattle.text.proofs.Tokens.{validToken, bracket-read, bracket-spelled, bracket-inner}
 use Rattle.text.proofs.Bodies.{close-valid, form-read, form-spelled, tokens-valid}
 
@@ -46,10 +47,11 @@ eventWords words =
 abbrev pub rowFits : List Entry → ℕ → List ℕ → Bool
 rowFits before s words =
     cond (eqb s typeName) (typeWords words)
+    (cond (eqb s floorName) (plainWords 2 words)
     (cond (eqb s relationshipName) (plainWords 2 words)
     (cond (eqb s objectName) (objectWords before words)
     (cond (eqb s linkName) (plainWords 3 words)
-    (eqb s eventSection && eventWords words))))
+    (eqb s eventSection && eventWords words)))))
 
 unfoldable pub sayable : List Entry → Entry → Bool
 sayable before (row s words) = rowFits before s words
@@ -223,11 +225,11 @@ object-spelled before (a ∷ t ∷ vs) e q =
           (and-true (leb (cellsIn before t) cellCount) _ few (padded-zero 10 is room (2 + cellsIn before t) size))));
     }
 
-link-spelled : (before : List Entry) (is : List ℕ) (e : Entry) → linkIn is ≡ some e → Said before linkName is e
-unfolding linkIn isLinkLine itemsOf nameFor
-link-spelled before is e q =
-    let (fits, same) = row-if (isLinkLine is) linkName _ e q in
-    record { section = linkName; words = is; is-row = same; items = refl; named = refl; fits = fits }
+plain-spelled : (before : List Entry) (l : Layout) (is : List ℕ) (e : Entry) → itemsOf before (l .section) is ≡ is → nameFor (l .section) is ≡ l .section → (isPlainLine l is ≡ true → rowFits before (l .section) is ≡ true) → plainIn l is ≡ some e → Said before (l .section) is e
+unfolding plainIn
+plain-spelled before l is e items named good q =
+    let (fits, same) = row-if (isPlainLine l is) (l .section) is e q in
+    record { section = l .section; words = is; is-row = same; items = items; named = named; fits = good fits }
 
 pub fields-few : (kind : ℕ) → eventFields kind ≤ 3
 unfolding eventFields
@@ -258,17 +260,19 @@ pick true x y e q = inl (refl, q)
 pick false x y e q = inr (refl, q)
 
 row-spelled : (before : List Entry) (name : ℕ) (is : List ℕ) (e : Entry) → rowIn before name is ≡ some e → Said before name is e
-unfolding rowIn
+unfolding rowIn itemsOf nameFor isPlainLine
 row-spelled before name is e q =
     ⊎-elim (λ c. named typeName (c .0) (type-spelled before is e (c .1)))
+    (λ c. ⊎-elim (λ c. named floorName (c .0) (plain-spelled before floorTable is e refl refl (λ h. h) (c .1)))
     (λ c. ⊎-elim (λ c. named relationshipName (c .0) (relationship-spelled before is e (c .1)))
     (λ c. ⊎-elim (λ c. named objectName (c .0) (object-spelled before is e (c .1)))
-    (λ c. ⊎-elim (λ c. named linkName (c .0) (link-spelled before is e (c .1)))
+    (λ c. ⊎-elim (λ c. named linkName (c .0) (plain-spelled before linkTable is e refl refl (λ h. h) (c .1)))
     (λ c. ⊎-elim (λ c. event-spelled before name is e (leb-true firstEvent name (c .0)) (c .1)) (λ c. absurd (Option·none-ne-some e (c .1)))
     (pick (leb firstEvent name) _ _ e (c .1)))
     (pick (eqb name linkName) _ _ e (c .1)))
     (pick (eqb name objectName) _ _ e (c .1)))
     (pick (eqb name relationshipName) _ _ e (c .1)))
+    (pick (eqb name floorName) _ _ e (c .1)))
     (pick (eqb name typeName) _ _ e q)
   where
     named : (n : ℕ) → eqb name n ≡ true → Said before n is e → Said before name is e
@@ -422,6 +426,7 @@ inside-spelled before b e q =
 -- what holds of every row that fits: by its section
 module _ (before : List Entry) (s : ℕ) (words : List ℕ) (P : ℕ → Type 0)
     (types : typeWords words ≡ true → P typeName)
+    (floors : plainWords 2 words ≡ true → P floorName)
     (relationships : plainWords 2 words ≡ true → P relationshipName)
     (objects : objectWords before words ≡ true → P objectName)
     (links : plainWords 3 words ≡ true → P linkName)
@@ -436,10 +441,11 @@ module _ (before : List Entry) (s : ℕ) (words : List ℕ) (P : ℕ → Type 0)
   pub by-section : rowFits before s words ≡ true → P s
   by-section h =
       branch typeName (typeWords words) _ h types
+      (λ h. branch floorName (plainWords 2 words) _ h floors
       (λ h. branch relationshipName (plainWords 2 words) _ h relationships
       (λ h. branch objectName (objectWords before words) _ h objects
       (λ h. branch linkName (plainWords 3 words) _ h links
-      (λ h. let (q, w) = both (eqb s eventSection) (eventWords words) h in subst P (sym (eqb-true s eventSection q)) (events w)))))
+      (λ h. let (q, w) = both (eqb s eventSection) (eventWords words) h in subst P (sym (eqb-true s eventSection q)) (events w))))))
 
 counts-few : (before : List Entry) → length before < dash → (s : ℕ) → countOf s before < dash
 unfolding countOf
@@ -491,24 +497,25 @@ module _ (before : List Entry) (few : (s : ℕ) → countOf s before < dash) whe
       let (all, more) = both (every isWord (kind ∷ ws)) _ (both (eqb (length (kind ∷ ws)) 4) _ h .1) in
       let known = ltb-true kind 7 (both (ltb kind 7) _ more .0) in
       let name = eventSection + kind in
-      let other : (n : ℕ) → n < 5 → eqb name n ≡ false = λ n l. ne-eqb name n (λ q. omega (arith, l, q)) in
+      let other : (n : ℕ) → n < eventSection → eqb name n ≡ false = λ n l. ne-eqb name n (λ q. omega (arith, l, q)) in
       record {
         named = omega (arith, known);
         valid = close-valid (take (eventFields kind) ws) (some-words (eventFields kind) ws (both (isWord kind) _ all .1));
-        says = flat-says eventSection (kind ∷ ws) (other ruleName (omega arith)) (by-name name (itemsOf before eventSection (kind ∷ ws)) (other 0 (omega arith)) (other 1 (omega arith)) (other 3 (omega arith)) (other 4 (omega arith)) (le-leb 5 name (omega arith)) ∙ ap (λ k. eventIn k (itemsOf before eventSection (kind ∷ ws))) (omega arith) ∙ event-read before (kind ∷ ws) h);
+        says = flat-says eventSection (kind ∷ ws) (other ruleName (omega arith)) (by-name name (itemsOf before eventSection (kind ∷ ws)) other (le-leb firstEvent name (omega arith)) ∙ ap (λ k. eventIn k (itemsOf before eventSection (kind ∷ ws))) (omega arith) ∙ event-read before (kind ∷ ws) h);
       }
     where
-      by-name : (name : ℕ) (is : List ℕ) → eqb name 0 ≡ false → eqb name 1 ≡ false → eqb name 3 ≡ false → eqb name 4 ≡ false → leb 5 name ≡ true → rowIn before name is ≡ eventIn (name - 5) is
-      by-name name is a b c d l = rw (a, b, c, d, l)
+      by-name : (name : ℕ) (is : List ℕ) → ((n : ℕ) → n < eventSection → eqb name n ≡ false) → leb firstEvent name ≡ true → rowIn before name is ≡ eventIn (name - firstEvent) is
+      by-name name is other l = rw (other typeName (omega arith), other floorName (omega arith), other relationshipName (omega arith), other objectName (omega arith), other linkName (omega arith), l)
 
   row-sayable : (s : ℕ) (words : List ℕ) → rowFits before s words ≡ true → Sayable before (row s words)
-  unfolding bracketOf nameFor itemsOf rowIn linkIn isLinkLine
+  unfolding bracketOf nameFor itemsOf rowIn plainIn isPlainLine
   row-sayable s words h =
       by-section before s words (λ s. Sayable before (row s words))
       (type-sayable words)
+      (λ h. record { named = omega arith; valid = close-valid words (both (eqb (length words) 2) _ h .1); says = flat-says floorName words refl (row-so (isPlainLine floorTable words) floorName h refl) })
       (λ h. record { named = omega arith; valid = and-true (leb (countOf relationshipName before) dash) _ (counted relationshipName) (close-valid words (both (eqb (length words) 2) _ h .1)); says = flat-says relationshipName words refl (relationship-read before words (few relationshipName) h) })
       (λ h. record { named = omega arith; valid = close-valid (itemsOf before objectName words) (some-words (2 + cellsIn before (getD words 1 0)) words (both (every isWord words) _ (both (eqb (length words) 10) _ h .1) .0)); says = flat-says objectName words refl (object-read before words h) })
-      (λ h. record { named = omega arith; valid = close-valid words (both (eqb (length words) 3) _ h .1); says = flat-says linkName words refl (row-so (isLinkLine words) linkName h refl) })
+      (λ h. record { named = omega arith; valid = close-valid words (both (eqb (length words) 3) _ h .1); says = flat-says linkName words refl (row-so (isPlainLine linkTable words) linkName h refl) })
       (event-sayable words)
       h
 

@@ -1,4 +1,4 @@
--- The lines of the text as rows of tables: `(type n p c)`, `(rel r s t)`, `(rule n t body)`, `(ent id t v..)`, `(link r a b)`, events.
+-- The lines of the text as rows of tables: `(type n p c)`, `(floor t k)`, `(rel r s t)`, `(rule n t body)`, `(ent id t v..)`, `(link r a b)`, events.
 use Prim.Native.Nat.{ℕ, _+_, _*_, _-_, _^_}
 use mathlib.Core.Bool.{Bool, true, false, _&&_, _||_, cond}
 use mathlib.Core.List.{List, [], _∷_, _++_}
@@ -8,13 +8,13 @@ use lib.ListN.{length, getD, take, drop}
 use Rattle.meaning.specs.Lists.{every, keep}
 use Rattle.meaning.specs.Limits.{cellCount}
 use Rattle.rows.specs.Rows.{wordAt}
-use Rattle.tables.specs.Layouts.{bodyWords, typeTable}
+use Rattle.tables.specs.Layouts.{Layout, bodyWords, typeTable, floorTable, linkTable}
 use Rattle.tables.specs.Columns.{noParent}
-use Rattle.text.specs.Names.{typeName, relationshipName, ruleName, objectName, linkName, firstEvent}
+use Rattle.text.specs.Names.{typeName, floorName, relationshipName, ruleName, objectName, linkName, firstEvent}
 use Rattle.text.specs.Tokens.{Token, begin, item, end, dash, isWord, Bracket, spellBracket, bracketIn}
 use Rattle.text.specs.Bodies.{Written, formsIn, padded, rowsOf, closing, tokensOf, formIn}
 
--- A line: a row of words of a section (0 types, 1 relationships, 3 objects, 4 links, 5 events), or a rule (2).
+-- A line: a row of words of a section (0 types, 1 floors, 2 relationships, 4 objects, 5 links, 6 events), or a rule (3).
 pub data Entry : Type 0 where
   row : (section : ℕ) → List ℕ → Entry
   rule : (context : ℕ) → Written → Entry
@@ -72,10 +72,11 @@ eventFields kind = getD (2 ∷ 1 ∷ 3 ∷ 3 ∷ 3 ∷ 2 ∷ 2 ∷ []) kind 0
 unfoldable pub itemsOf : List Entry → ℕ → List ℕ → List ℕ
 itemsOf before s words =
     cond (eqb s typeName) (countOf typeName before ∷ parentItem (getD words 0 0) ∷ getD words 1 0 ∷ [])
+    (cond (eqb s floorName) words
     (cond (eqb s relationshipName) (countOf relationshipName before ∷ words)
     (cond (eqb s objectName) (take (2 + cellsIn before (getD words 1 0)) words)
     (cond (eqb s linkName) words
-    (take (eventFields (getD words 0 0)) (drop 1 words)))))
+    (take (eventFields (getD words 0 0)) (drop 1 words))))))
 
 -- an event's name is that of its kind
 unfoldable pub nameFor : ℕ → List ℕ → ℕ
@@ -129,11 +130,12 @@ isObjectLine before is =
 unfoldable pub objectIn : List Entry → List ℕ → Option Entry
 objectIn before is = rowIf (isObjectLine before is) objectName (padded (2 + cellCount) is)
 
-unfoldable pub isLinkLine : List ℕ → Bool
-isLinkLine is = eqb (length is) 3 && every isWord is
+-- a line whose items are its row's words: a floor, whose type and cell are met at 3, and a link
+unfoldable pub isPlainLine : Layout → List ℕ → Bool
+isPlainLine l is = eqb (length is) (l .width) && every isWord is
 
-unfoldable pub linkIn : List ℕ → Option Entry
-linkIn is = rowIf (isLinkLine is) linkName is
+unfoldable pub plainIn : Layout → List ℕ → Option Entry
+plainIn l is = rowIf (isPlainLine l is) (l .section) is
 
 unfoldable pub isEventLine : ℕ → List ℕ → Bool
 isEventLine kind is = ltb kind 7 && (eqb (length is) (eventFields kind) && every isWord is)
@@ -144,10 +146,11 @@ eventIn kind is = rowIf (isEventLine kind is) eventSection (kind ∷ padded 3 is
 unfoldable pub rowIn : List Entry → ℕ → List ℕ → Option Entry
 rowIn before name is =
     cond (eqb name typeName) (typeIn before is)
+    (cond (eqb name floorName) (plainIn floorTable is)
     (cond (eqb name relationshipName) (relationshipIn before is)
     (cond (eqb name objectName) (objectIn before is)
-    (cond (eqb name linkName) (linkIn is)
-    (cond (leb firstEvent name) (eventIn (name - firstEvent) is) none))))
+    (cond (eqb name linkName) (plainIn linkTable is)
+    (cond (leb firstEvent name) (eventIn (name - firstEvent) is) none)))))
 
 abbrev pub onlyEnd : List Token → Bool
 onlyEnd [] = false

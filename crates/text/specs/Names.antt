@@ -6,7 +6,7 @@ use mathlib.Core.Option.{Option, none, some}
 use lib.Dec.{leb}
 use lib.ListN.{getD}
 use Rattle.meaning.specs.Lists.{sameList}
-use Rattle.tables.specs.Layouts.{typeTable, relationshipTable, ruleTable, objectTable, linkTable, eventTable}
+use Rattle.tables.specs.Layouts.{typeTable, floorTable, relationshipTable, ruleTable, objectTable, linkTable, eventTable}
 use Rattle.tables.specs.Codes.{operators, operatorName}
 use Rattle.lexical.specs.Runs.{run}
 
@@ -15,6 +15,7 @@ unfoldable pub names : List (List ℕ)
 unfolding operators operatorName
 names =
     (116 ∷ 121 ∷ 112 ∷ 101 ∷ [])  -- type
+    ∷ (102 ∷ 108 ∷ 111 ∷ 111 ∷ 114 ∷ [])  -- floor
     ∷ (114 ∷ 101 ∷ 108 ∷ [])  -- rel
     ∷ (114 ∷ 117 ∷ 108 ∷ 101 ∷ [])  -- rule
     ∷ (101 ∷ 110 ∷ 116 ∷ [])  -- ent
@@ -32,6 +33,9 @@ names =
 abbrev pub typeName : ℕ
 typeName = typeTable .section
 
+abbrev pub floorName : ℕ
+floorName = floorTable .section
+
 abbrev pub relationshipName : ℕ
 relationshipName = relationshipTable .section
 
@@ -48,10 +52,10 @@ abbrev pub firstEvent : ℕ
 firstEvent = eventTable .section
 
 abbrev pub firstOperator : ℕ
-firstOperator = 12
+firstOperator = 13
 
 abbrev pub nameCount : ℕ
-nameCount = 35
+nameCount = 36
 
 abbrev pub nameOf : ℕ → List ℕ
 nameOf k = getD names k []

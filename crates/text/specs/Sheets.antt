@@ -2,7 +2,7 @@
 use Prim.Native.Nat.{ℕ}
 use mathlib.Core.List.{List, _++_}
 use Rattle.rows.specs.Rows.{wordAt, readRows}
-use Rattle.tables.specs.Layouts.{Sheet, Layout, typeTable, relationshipTable, ruleTable, objectTable, linkTable, eventTable}
+use Rattle.tables.specs.Layouts.{Sheet, Layout, typeTable, floorTable, relationshipTable, ruleTable, objectTable, linkTable, eventTable}
 use Rattle.tables.specs.Columns.{ruleRow}
 use Rattle.tables.specs.declared.Counts.{Counts}
 use Rattle.text.specs.Bodies.{writtenOf}
@@ -27,10 +27,11 @@ rowEntries l n s = readRows (rowEntry l (l .words s)) (l .used n)
 abbrev pub ruleEntries : Counts → Sheet → List Entry
 ruleEntries n s = readRows (ruleEntry (s .rules) (s .bodies)) (n .rules)
 
--- "Sections in order": types, relationships, rules, objects, links, events
+-- "Sections in order": types, floors, relationships, rules, objects, links, events
 unfoldable pub entriesOf : Counts → Sheet → List Entry
 entriesOf n s =
     rowEntries typeTable n s
+    ++ rowEntries floorTable n s
     ++ rowEntries relationshipTable n s
     ++ ruleEntries n s
     ++ rowEntries objectTable n s

@@ -14,7 +14,7 @@ use Rattle.rows.specs.Rows.{wordOf}
 use Rattle.lexical.specs.Decimals.{Numeral, numberIn, numberAt}
 use Rattle.lexical.specs.declared.Number.the-variants.{Value as Read, Bad as Unread}
 use Rattle.lexical.proofs.Runs.{run-within}
-use Rattle.text.specs.Names.{isLetter, lettersIn, placeOf}
+use Rattle.text.specs.Names.{nameCount, isLetter, lettersIn, placeOf}
 use Rattle.text.specs.Tokens.{Token, begin, item, end, dash, Lexed, lexed, dashIn, itemOr, afterSpace, tokenIn, tokensIn}
 use Rattle.text.proofs.Names.{name-found}
 use Rattle.text.proofs.Tokens.{tokens-none, tokens-step}
@@ -54,14 +54,14 @@ after-past t i h = rw (drop-of-length-le t h)
 abbrev opening : List ℕ → Option ℕ → Option Lexed
 opening l o = Option·map (λ k. lexed (begin k) (2 + length l)) o
 
-pub named : (l : List ℕ) (at place next : ℕ) → place ≡ placeOr (placeOf l) → next ≡ at + (2 + length l) → place ≤ 34 → Begin place next ≡ foundAt at (opening l (placeOf l))
+pub named : (l : List ℕ) (at place next : ℕ) → place ≡ placeOr (placeOf l) → next ≡ at + (2 + length l) → place < nameCount → Begin place next ≡ foundAt at (opening l (placeOf l))
 named l at place next p n h = go (placeOf l) p
   where
     go : (o : Option ℕ) → place ≡ placeOr o → Begin place next ≡ foundAt at (opening l o)
     go none q = absurd (omega arith)
     go (some k) q = ap₂ Begin q n
 
-pub unnamed : (l : List ℕ) (at place : ℕ) → place ≡ placeOr (placeOf l) → 34 < place → foundAt at (opening l (placeOf l)) ≡ Bad
+pub unnamed : (l : List ℕ) (at place : ℕ) → place ≡ placeOr (placeOf l) → nameCount ≤ place → foundAt at (opening l (placeOf l)) ≡ Bad
 unnamed l at place p h = go (placeOf l) refl p
   where
     go : (o : Option ℕ) → placeOf l ≡ o → place ≡ placeOr o → foundAt at (opening l o) ≡ Bad

@@ -1,4 +1,5 @@
 // A line of the text by its bytes: names, tokens, and the items of a line without an inner bracket.
+use text::NAME_COUNT;
 ghost use mathlib.Core.Path.{_≡_};
 ghost use mathlib.Core.Bool.{true};
 ghost use mathlib.Core.List.{List};
@@ -26,15 +27,16 @@ pub struct ItemsFound {
     pub values: [u64; 10],
 }
 
-// A name: its place among the names, 35 where it is none of them, and the place after its letters.
+// A name: its place among the names, NAME_COUNT where it is none of them, and the place after its letters.
 pub struct NameFound {
     pub place: u32,
     pub end: usize,
 }
 
 // The names in the order of the text, each as one number: its letters are the digits at base 256, the first the least.
-const NAMES: [u64; 35] = [
+const NAMES: [u64; 36] = [
     1701869940, // type
+    491495844966, // floor
     7103858, // rel
     1701606770, // rule
     7630437, // ent
@@ -108,7 +110,7 @@ fn place(value: u64) -> u32
     ensures { λ r. ⌜ ((l : List ℕ) → every isLetter l ≡ true → packed l ≡ value → r ≡ placeOr (placeOf l)) ⌝ }
 {
     let mut k: u32 = 0;
-    while k < 35 {
+    while k < NAME_COUNT {
         let row = k as usize;
         if NAMES[row] == value {
             return k;
@@ -124,7 +126,10 @@ pub fn name(line: &[u8], at: usize) -> NameFound
 {
     let end = letters_end(line, at);
     if 7 < end - at {
-        return NameFound { place: 35, end };
+        return NameFound {
+            place: NAME_COUNT,
+            end,
+        };
     }
     let place = place(pack(line, at, end));
     NameFound { place, end }
@@ -167,7 +172,7 @@ fn after_space(line: &[u8], at: usize) -> Found
     }
     let n = name(line, from + 1);
     let place = n.place;
-    if 34 < place {
+    if NAME_COUNT <= place {
         return Found::Bad;
     }
     Found::Begin {

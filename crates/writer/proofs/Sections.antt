@@ -1,11 +1,12 @@
 -- The lines of a section, one after the other, and what they need.
-use Prim.Native.Nat.{ℕ, zero, suc, _+_, _<_}
+use Prim.Native.Nat.{ℕ, _+_, _<_}
 use mathlib.Core.Path.{_≡_, refl, sym, ap, subst}
 use mathlib.Core.List.{List, [], _++_}
 use native.Mathlib.Numerals.{add-one}
 use native.Mathlib.Omega.{arith}
 use Rattle.tables.specs.Layouts.{Sheet, sectionCount}
 use Rattle.tables.specs.declared.Counts.{Counts}
+use Rattle.text.specs.Names.{floorName, ruleName, objectName, linkName, firstEvent}
 use Rattle.checks.specs.Given.{Given, EventsLent, EventsKnown}
 use Rattle.line_writer.specs.Lines.{Fit, rowsIn, linesOf}
 
@@ -17,14 +18,6 @@ pub lines-more : (line : ℕ → List ℕ) (k : ℕ) → linesOf line k ++ line 
 unfolding linesOf
 lines-more line k = ap (linesOf line) (sym (add-one k))
 
-pub last-section : (s : ℕ) → s < sectionCount → (s ≡ 0 → ⊥) → (s ≡ 1 → ⊥) → (s ≡ 2 → ⊥) → (s ≡ 3 → ⊥) → (s ≡ 4 → ⊥) → s ≡ 5
-last-section zero h a b c d e = absurd (a refl)
-last-section (suc zero) h a b c d e = absurd (b refl)
-last-section (suc (suc zero)) h a b c d e = absurd (c refl)
-last-section (suc (suc (suc zero))) h a b c d e = absurd (d refl)
-last-section (suc (suc (suc (suc zero)))) h a b c d e = absurd (e refl)
-last-section (suc (suc (suc (suc (suc s))))) h a b c d e = omega arith
-
 -- the used rows of tables that are not refused have what their lines need
 module _ {n : Counts} {s : Sheet} (sound : Given n s × EventsLent n s × EventsKnown n s) where
   pub sound-fit : (section i : ℕ) → section < sectionCount → i < rowsIn n section → Fit s section i
@@ -33,10 +26,11 @@ module _ {n : Counts} {s : Sheet} (sound : Given n s × EventsLent n s × Events
       let used : (k : ℕ) → section ≡ k → i < rowsIn n k = λ k e. subst (λ m. i < rowsIn n m) e h in
       record {
         there = there;
-        whole = λ e. sound .0 .whole i (used 2 e);
-        cells = λ e. sound .0 .cells i (used 3 e);
-        object-lent = λ e. omega (arith, used 3 e, sound .0 .objects-lent);
-        link-lent = λ e. omega (arith, used 4 e, sound .0 .links-lent);
-        kind = λ e. sound .2 .kinds i (used 5 e);
-        event-lent = λ e. omega (arith, used 5 e, sound .1 .events-lent);
+        whole = λ e. sound .0 .whole i (used ruleName e);
+        cells = λ e. sound .0 .cells i (used objectName e);
+        object-lent = λ e. omega (arith, used objectName e, sound .0 .objects-lent);
+        floor-lent = λ e. omega (arith, used floorName e, sound .0 .floors-lent);
+        link-lent = λ e. omega (arith, used linkName e, sound .0 .links-lent);
+        kind = λ e. sound .2 .kinds i (used firstEvent e);
+        event-lent = λ e. omega (arith, used firstEvent e, sound .1 .events-lent);
       }

@@ -1,24 +1,25 @@
 -- The lines of all sections are the text of the tables' entries.
 use Prim.Native.Nat.{ℕ, zero, suc, _+_, _*_, _≤_, _<_}
 use mathlib.Core.Path.{_≡_, refl, sym, ap, ap₂, _∙_}
-use mathlib.Core.Bool.{false}
+use mathlib.Core.Bool.{false, cond}
 use mathlib.Core.List.{List, [], _∷_, _++_, append-assoc, append-nil}
 use native.Mathlib.Nat.{add-zero, zero-add, suc-add, add-suc}
 use native.Mathlib.Omega.{arith}
 use lib.Dec.{eqb}
+use borrow.Author.Tests.{eq-eqb}
 use lib.ListN.{length, getD, take, drop}
 use lib.Seq.{drop-cons, take-take}
 use Rattle.meaning.specs.Limits.{cellCount}
 use Rattle.rows.specs.Rows.{wordAt, rowsFrom, readRows}
-use Rattle.tables.specs.Layouts.{Sheet, typeTable, relationshipTable, objectTable, linkTable, eventTable}
+use Rattle.tables.specs.Layouts.{Sheet, typeTable, floorTable, relationshipTable, objectTable, linkTable, eventTable}
 use Rattle.tables.specs.declared.Counts.{Counts}
-use Rattle.text.specs.Names.{typeName, relationshipName, ruleName, objectName, linkName}
+use Rattle.text.specs.Names.{typeName, floorName, relationshipName, ruleName, objectName, linkName, firstEvent}
 use Rattle.text.specs.Entries.{Entry, row, sectionOf, entryWords, countOf, tableOf, cellsIn, parentItem, eventFields, itemsOf, nameFor, bracketOf, spellEntry}
 use Rattle.text.specs.Texts.{spellFrom, spelled}
 use Rattle.text.specs.Sheets.{wordsAt, rowEntry, ruleEntry, entriesOf, textOf}
-use Rattle.text.proofs.Blocks.{count-append, table-append, count-block, table-other}
+use Rattle.text.proofs.Blocks.{At, at-start, at-block, count-append, table-append, count-block, table-other}
 use Rattle.checks.specs.Given.{Given, EventsLent, EventsKnown}
-use Rattle.line_writer.specs.Lines.{rowLine, typeLine, relationshipLine, ruleLine, cellsFor, objectLine, linkLine, eventLine, lineOf, rowsIn, linesOf, sectionText, sheetText}
+use Rattle.line_writer.specs.Lines.{rowLine, typeLine, relationshipLine, ruleLine, cellsFor, objectLine, plainLine, eventLine, lineOf, rowsIn, linesOf, sectionText, sheetText}
 use Rattle.line_writer.proofs.Spellings.{few-fields}
 
 -- ---- the text of entries after entries
@@ -72,6 +73,9 @@ module _ (n : Counts) (s : Sheet) (sound : Given n s × EventsLent n s × Events
   abbrev typeEntry : ℕ → Entry
   typeEntry = rowEntry typeTable (s .types)
 
+  abbrev floorEntry : ℕ → Entry
+  floorEntry = rowEntry floorTable (s .floors)
+
   abbrev relationshipEntry : ℕ → Entry
   relationshipEntry = rowEntry relationshipTable (s .relationships)
 
@@ -91,40 +95,38 @@ module _ (n : Counts) (s : Sheet) (sound : Given n s × EventsLent n s × Events
   one = readRows typeEntry (n .types)
 
   abbrev two : List Entry
-  two = one ++ readRows relationshipEntry (n .relationships)
+  two = one ++ readRows floorEntry (n .floors)
 
   abbrev three : List Entry
-  three = two ++ readRows bodyEntry (n .rules)
+  three = two ++ readRows relationshipEntry (n .relationships)
 
   abbrev four : List Entry
-  four = three ++ readRows objectEntry (n .objects)
+  four = three ++ readRows bodyEntry (n .rules)
 
   abbrev five : List Entry
-  five = four ++ readRows linkEntry (n .links)
+  five = four ++ readRows objectEntry (n .objects)
 
-  -- the position of a row among those of its section
-  type-count : (i : ℕ) → countOf typeName (readRows typeEntry i) ≡ i
-  unfolding sectionOf
-  type-count i = count-block typeName typeEntry (λ k. refl) typeName 0 i
+  abbrev six : List Entry
+  six = five ++ readRows linkEntry (n .links)
 
-  relationship-count : (i : ℕ) → countOf relationshipName (one ++ readRows relationshipEntry i) ≡ i
-  unfolding sectionOf
-  relationship-count i =
-      count-append relationshipName one (readRows relationshipEntry i)
-      ∙ ap₂ (λ a b. a + b)
-      (count-block typeName typeEntry (λ k. refl) relationshipName 0 (n .types))
-      (count-block relationshipName relationshipEntry (λ k. refl) relationshipName 0 i)
+  -- the position of a row among those of its section, of which there is none before
+  row-count : (q : ℕ) (read : ℕ → Entry) → ((k : ℕ) → sectionOf (read k) ≡ q) → {before : List Entry} → At q before → (i : ℕ) → countOf q (before ++ readRows read i) ≡ i
+  row-count q read of {before} at i =
+      count-append q before (readRows read i)
+      ∙ ap₂ (λ a b. a + b) (at .none-yet q (omega arith)) (count-block q read of q 0 i ∙ ap (λ b. cond b i 0) (eq-eqb q q refl))
       ∙ zero-add i
 
-  rule-count : (i : ℕ) → countOf ruleName (two ++ readRows bodyEntry i) ≡ i
+  at-one : At floorName one
   unfolding sectionOf
-  rule-count i =
-      let a = count-block typeName typeEntry (λ k. refl) ruleName 0 (n .types) in
-      let b = count-block relationshipName relationshipEntry (λ k. refl) ruleName 0 (n .relationships) in
-      let c = count-block ruleName bodyEntry (λ k. refl) ruleName 0 i in
-      let d = count-append ruleName one (readRows relationshipEntry (n .relationships)) in
-      let e = count-append ruleName two (readRows bodyEntry i) in
-      omega arith
+  at-one = at-block typeName typeEntry (λ k. refl) [] (n .types) at-start
+
+  at-two : At relationshipName two
+  unfolding sectionOf
+  at-two = at-block floorName floorEntry (λ k. refl) one (n .floors) at-one
+
+  at-three : At ruleName three
+  unfolding sectionOf
+  at-three = at-block relationshipName relationshipEntry (λ k. refl) two (n .relationships) at-two
 
   -- lines of another section add nothing to the types' table
   types-only : (before : List Entry) (q : ℕ) (read : ℕ → Entry) → ((i : ℕ) → sectionOf (read i) ≡ q) → eqb q typeName ≡ false → (m : ℕ)
@@ -134,32 +136,37 @@ module _ (n : Counts) (s : Sheet) (sound : Given n s × EventsLent n s × Events
       ∙ ap (λ y. tableOf typeName before ++ y) (table-other q read of typeName 0 m other)
       ∙ append-nil (tableOf typeName before)
 
-  object-cells : (i t : ℕ) → t < n .types → cellsIn (three ++ readRows objectEntry i) t ≡ wordAt (s .types) 2 t 1
+  object-cells : (i t : ℕ) → t < n .types → cellsIn (four ++ readRows objectEntry i) t ≡ wordAt (s .types) 2 t 1
   unfolding sectionOf
   object-cells i t h =
-      let all : tableOf typeName (three ++ readRows objectEntry i) ≡ tableOf typeName one =
-      types-only three objectName objectEntry (λ k. refl) refl i
-      ∙ types-only two ruleName bodyEntry (λ k. refl) refl (n .rules)
-      ∙ types-only one relationshipName relationshipEntry (λ k. refl) refl (n .relationships) in
+      let all : tableOf typeName (four ++ readRows objectEntry i) ≡ tableOf typeName one =
+      types-only four objectName objectEntry (λ k. refl) refl i
+      ∙ types-only three ruleName bodyEntry (λ k. refl) refl (n .rules)
+      ∙ types-only two relationshipName relationshipEntry (λ k. refl) refl (n .relationships)
+      ∙ types-only one floorName floorEntry (λ k. refl) refl (n .floors) in
       ap (λ l. wordAt l 2 t 1) all ∙ cells-from (s .types) 0 (n .types) t h ∙ ap (λ k. wordAt (s .types) 2 k 1) (zero-add t)
 
   -- the lines
   type-line : (i : ℕ) → spellEntry (readRows typeEntry i) (typeEntry i) ++ 10 ∷ [] ≡ typeLine (s .types) i
-  unfolding spellEntry bracketOf itemsOf nameFor typeLine rowLine
-  type-line i = ap (λ k. rowLine typeName (k ∷ parentItem (wordAt (s .types) 2 i 0) ∷ wordAt (s .types) 2 i 1 ∷ [])) (type-count i)
+  unfolding sectionOf spellEntry bracketOf itemsOf nameFor typeLine rowLine
+  type-line i = ap (λ k. rowLine typeName (k ∷ parentItem (wordAt (s .types) 2 i 0) ∷ wordAt (s .types) 2 i 1 ∷ [])) (row-count typeName typeEntry (λ k. refl) at-start i)
+
+  floor-line : (i : ℕ) → i < n .floors → spellEntry (one ++ readRows floorEntry i) (floorEntry i) ++ 10 ∷ [] ≡ plainLine floorName (s .floors) 2 i
+  unfolding spellEntry bracketOf itemsOf nameFor plainLine rowLine
+  floor-line i h = ap (rowLine floorName) (words-lent (s .floors) 2 i (omega (arith, sound .0 .floors-lent)))
 
   relationship-line : (i : ℕ)
-      → spellEntry (one ++ readRows relationshipEntry i) (relationshipEntry i) ++ 10 ∷ [] ≡ relationshipLine (s .relationships) i
-  unfolding spellEntry bracketOf itemsOf nameFor relationshipLine rowLine
+      → spellEntry (two ++ readRows relationshipEntry i) (relationshipEntry i) ++ 10 ∷ [] ≡ relationshipLine (s .relationships) i
+  unfolding sectionOf spellEntry bracketOf itemsOf nameFor relationshipLine rowLine
   relationship-line i =
-      ap (λ k. rowLine relationshipName (k ∷ wordAt (s .relationships) 2 i 0 ∷ wordAt (s .relationships) 2 i 1 ∷ [])) (relationship-count i)
+      ap (λ k. rowLine relationshipName (k ∷ wordAt (s .relationships) 2 i 0 ∷ wordAt (s .relationships) 2 i 1 ∷ [])) (row-count relationshipName relationshipEntry (λ k. refl) at-two i)
 
-  rule-line : (i : ℕ) → spellEntry (two ++ readRows bodyEntry i) (bodyEntry i) ++ 10 ∷ [] ≡ ruleLine (s .rules) (s .bodies) i
-  unfolding spellEntry bracketOf ruleLine
-  rule-line i = rw (rule-count i)
+  rule-line : (i : ℕ) → spellEntry (three ++ readRows bodyEntry i) (bodyEntry i) ++ 10 ∷ [] ≡ ruleLine (s .rules) (s .bodies) i
+  unfolding sectionOf spellEntry bracketOf ruleLine
+  rule-line i = rw (row-count ruleName bodyEntry (λ k. refl) at-three i)
 
   object-line : (i : ℕ) → i < n .objects
-      → spellEntry (three ++ readRows objectEntry i) (objectEntry i) ++ 10 ∷ [] ≡ objectLine (s .types) (s .objects) i
+      → spellEntry (four ++ readRows objectEntry i) (objectEntry i) ++ 10 ∷ [] ≡ objectLine (s .types) (s .objects) i
   unfolding spellEntry bracketOf itemsOf nameFor objectLine rowLine
   object-line i h =
       let objects = s .objects in
@@ -169,11 +176,11 @@ module _ (n : Counts) (s : Sheet) (sound : Given n s × EventsLent n s × Events
       ap (λ k. rowLine objectName (take (2 + k) (wordsAt objects 10 i))) (object-cells i (wordAt objects 10 i 1) (sound .0 .typed i h))
       ∙ ap (rowLine objectName) (ap (take (2 + c)) (words-lent objects 10 i lent) ∙ take-take (2 + c) 10 (drop (i * 10) objects) (omega arith))
 
-  link-line : (i : ℕ) → i < n .links → spellEntry (four ++ readRows linkEntry i) (linkEntry i) ++ 10 ∷ [] ≡ linkLine (s .links) i
-  unfolding spellEntry bracketOf itemsOf nameFor linkLine rowLine
+  link-line : (i : ℕ) → i < n .links → spellEntry (five ++ readRows linkEntry i) (linkEntry i) ++ 10 ∷ [] ≡ plainLine linkName (s .links) 3 i
+  unfolding spellEntry bracketOf itemsOf nameFor plainLine rowLine
   link-line i h = ap (rowLine linkName) (words-lent (s .links) 3 i (omega (arith, sound .0 .links-lent)))
 
-  event-line : (i : ℕ) → i < n .events → spellEntry (five ++ readRows eventEntry i) (eventEntry i) ++ 10 ∷ [] ≡ eventLine (s .events) i
+  event-line : (i : ℕ) → i < n .events → spellEntry (six ++ readRows eventEntry i) (eventEntry i) ++ 10 ∷ [] ≡ eventLine (s .events) i
   unfolding spellEntry bracketOf itemsOf nameFor eventLine rowLine
   event-line i h =
       let events = s .events in
@@ -182,26 +189,29 @@ module _ (n : Counts) (s : Sheet) (sound : Given n s × EventsLent n s × Events
       let few : f ≤ 3 = few-fields kind in
       let lent : i * 4 + 4 ≤ length events = omega (arith, sound .1 .events-lent) in
       let rest : drop 1 (wordsAt events 4 i) ≡ take 3 (drop (i * 4 + 1) events) = words-from events (i * 4) 1 3 (omega arith) in
-      ap (rowLine (5 + kind)) (ap (take f) rest ∙ take-take f 3 (drop (i * 4 + 1) events) few)
+      ap (rowLine (firstEvent + kind)) (ap (take f) rest ∙ take-take f 3 (drop (i * 4 + 1) events) few)
 
   -- section after section
   pub text-spelled : sheetText n s ≡ textOf n s
   unfolding textOf sheetText sectionText linesOf spelled entriesOf lineOf rowsIn
   text-spelled =
       sym
-      (spell-both [] five (readRows eventEntry (n .events))
+      (spell-both [] six (readRows eventEntry (n .events))
       ∙ ap₂ (λ s t. s ++ t)
-      (spell-both [] four (readRows linkEntry (n .links))
+      (spell-both [] five (readRows linkEntry (n .links))
       ∙ ap₂ (λ s t. s ++ t)
-      (spell-both [] three (readRows objectEntry (n .objects))
+      (spell-both [] four (readRows objectEntry (n .objects))
       ∙ ap₂ (λ s t. s ++ t)
-      (spell-both [] two (readRows bodyEntry (n .rules))
+      (spell-both [] three (readRows bodyEntry (n .rules))
       ∙ ap₂ (λ s t. s ++ t)
-      (spell-both [] one (readRows relationshipEntry (n .relationships))
+      (spell-both [] two (readRows relationshipEntry (n .relationships))
       ∙ ap₂ (λ s t. s ++ t)
-      (spell-rows [] typeEntry (lineOf s 0) (n .types) (λ i h. type-line i))
-      (spell-rows one relationshipEntry (lineOf s 1) (n .relationships) (λ i h. relationship-line i)))
-      (spell-rows two bodyEntry (lineOf s 2) (n .rules) (λ i h. rule-line i)))
-      (spell-rows three objectEntry (lineOf s 3) (n .objects) object-line))
-      (spell-rows four linkEntry (lineOf s 4) (n .links) link-line))
-      (spell-rows five eventEntry (lineOf s 5) (n .events) event-line))
+      (spell-both [] one (readRows floorEntry (n .floors))
+      ∙ ap₂ (λ s t. s ++ t)
+      (spell-rows [] typeEntry (lineOf s typeName) (n .types) (λ i h. type-line i))
+      (spell-rows one floorEntry (lineOf s floorName) (n .floors) floor-line))
+      (spell-rows two relationshipEntry (lineOf s relationshipName) (n .relationships) (λ i h. relationship-line i)))
+      (spell-rows three bodyEntry (lineOf s ruleName) (n .rules) (λ i h. rule-line i)))
+      (spell-rows four objectEntry (lineOf s objectName) (n .objects) object-line))
+      (spell-rows five linkEntry (lineOf s linkName) (n .links) link-line))
+      (spell-rows six eventEntry (lineOf s firstEvent) (n .events) event-line))

@@ -1,8 +1,17 @@
 // The writer: lent tables as their one text.
 use line_writer::lines;
 use tables::Counts;
+use tables::FLOOR_WIDTH;
 use tables::Found;
+use tables::LINK_WIDTH;
 use tables::Verdict;
+use text::FLOOR_SECTION;
+use text::LINK_SECTION;
+use text::OBJECT_SECTION;
+use text::RELATIONSHIP_SECTION;
+use text::RULE_SECTION;
+use text::SECTION_COUNT;
+use text::TYPE_SECTION;
 ghost use mathlib.Core.Path.{_≡_};
 ghost use mathlib.Core.List.{List};
 ghost use Prim.Native.Nat.{ℕ, _+_, _<_, _≤_};
@@ -20,11 +29,12 @@ pub enum Written {
     Refused(u32, u32),
 }
 
-// The line of a row, by its section: 0 types, 1 relationships, 2 rules, 3 objects, 4 links, 5 events.
+// The line of a row, by its section.
 fn line(
     out: &mut [u8],
     at: usize,
     types: &[u32],
+    floors: &[u32],
     relationships: &[u32],
     rules: &[u32],
     bodies: &[u32],
@@ -34,23 +44,26 @@ fn line(
     section: u32,
     row: u32,
 ) -> usize
-    requires { ⌜ Fit (sheetOf (now types) (now relationships) (now rules) (now bodies) (now objects) (now links) (now events)) section row ⌝ }
-    ensures { λ r. ⌜ Put (now (out .entry)) at (lineOf (sheetOf (now (types .entry)) (now (relationships .entry)) (now (rules .entry)) (now (bodies .entry)) (now (objects .entry)) (now (links .entry)) (now (events .entry))) section row) (now (out .exit)) r ⌝ }
+    requires { ⌜ Fit (sheetOf (now types) (now floors) (now relationships) (now rules) (now bodies) (now objects) (now links) (now events)) section row ⌝ }
+    ensures { λ r. ⌜ Put (now (out .entry)) at (lineOf (sheetOf (now (types .entry)) (now (floors .entry)) (now (relationships .entry)) (now (rules .entry)) (now (bodies .entry)) (now (objects .entry)) (now (links .entry)) (now (events .entry))) section row) (now (out .exit)) r ⌝ }
 {
-    if section == 0 {
+    if section == TYPE_SECTION {
         return lines::type_line(out, at, types, row);
     }
-    if section == 1 {
+    if section == FLOOR_SECTION {
+        return lines::plain_line(out, at, FLOOR_SECTION, floors, FLOOR_WIDTH, row);
+    }
+    if section == RELATIONSHIP_SECTION {
         return lines::relationship_line(out, at, relationships, row);
     }
-    if section == 2 {
+    if section == RULE_SECTION {
         return lines::rule_line(out, at, rules, bodies, row);
     }
-    if section == 3 {
+    if section == OBJECT_SECTION {
         return lines::object_line(out, at, types, objects, row);
     }
-    if section == 4 {
-        return lines::link_line(out, at, links, row);
+    if section == LINK_SECTION {
+        return lines::plain_line(out, at, LINK_SECTION, links, LINK_WIDTH, row);
     }
     lines::event_line(out, at, events, row)
 }
@@ -60,6 +73,7 @@ fn section_lines(
     out: &mut [u8],
     at: usize,
     types: &[u32],
+    floors: &[u32],
     relationships: &[u32],
     rules: &[u32],
     bodies: &[u32],
@@ -69,8 +83,8 @@ fn section_lines(
     section: u32,
     count: u32,
 ) -> usize
-    requires { ⌜ ((i : ℕ) → i < count → Fit (sheetOf (now types) (now relationships) (now rules) (now bodies) (now objects) (now links) (now events)) section i) × (at ≤ length (now out) + 1) ⌝ }
-    ensures { λ r. ⌜ Put (now (out .entry)) at (linesOf (lineOf (sheetOf (now (types .entry)) (now (relationships .entry)) (now (rules .entry)) (now (bodies .entry)) (now (objects .entry)) (now (links .entry)) (now (events .entry))) section) count) (now (out .exit)) r ⌝ }
+    requires { ⌜ ((i : ℕ) → i < count → Fit (sheetOf (now types) (now floors) (now relationships) (now rules) (now bodies) (now objects) (now links) (now events)) section i) × (at ≤ length (now out) + 1) ⌝ }
+    ensures { λ r. ⌜ Put (now (out .entry)) at (linesOf (lineOf (sheetOf (now (types .entry)) (now (floors .entry)) (now (relationships .entry)) (now (rules .entry)) (now (bodies .entry)) (now (objects .entry)) (now (links .entry)) (now (events .entry))) section) count) (now (out .exit)) r ⌝ }
 {
     let mut next = at;
     let mut row: u32 = 0;
@@ -79,6 +93,7 @@ fn section_lines(
             &mut *out,
             next,
             types,
+            floors,
             relationships,
             rules,
             bodies,
@@ -100,6 +115,7 @@ fn rows_in(n: Counts, section: u32) -> u32
 {
     let counts = [
         n.types,
+        n.floors,
         n.relationships,
         n.rules,
         n.objects,
@@ -114,6 +130,7 @@ fn text(
     out: &mut [u8],
     n: Counts,
     types: &[u32],
+    floors: &[u32],
     relationships: &[u32],
     rules: &[u32],
     bodies: &[u32],
@@ -121,17 +138,18 @@ fn text(
     links: &[u32],
     events: &[u32],
 ) -> usize
-    requires { ⌜ (let s = sheetOf (now types) (now relationships) (now rules) (now bodies) (now objects) (now links) (now events) in Given n s × EventsLent n s × EventsKnown n s) ⌝ }
-    ensures { λ r. ⌜ Put (now (out .entry)) 0 (sheetText n (sheetOf (now (types .entry)) (now (relationships .entry)) (now (rules .entry)) (now (bodies .entry)) (now (objects .entry)) (now (links .entry)) (now (events .entry)))) (now (out .exit)) r ⌝ }
+    requires { ⌜ (let s = sheetOf (now types) (now floors) (now relationships) (now rules) (now bodies) (now objects) (now links) (now events) in Given n s × EventsLent n s × EventsKnown n s) ⌝ }
+    ensures { λ r. ⌜ Put (now (out .entry)) 0 (sheetText n (sheetOf (now (types .entry)) (now (floors .entry)) (now (relationships .entry)) (now (rules .entry)) (now (bodies .entry)) (now (objects .entry)) (now (links .entry)) (now (events .entry)))) (now (out .exit)) r ⌝ }
 {
     let mut next = 0;
     let mut section: u32 = 0;
-    while section < 6 {
+    while section < SECTION_COUNT {
         let count = rows_in(n, section);
         next = section_lines(
             &mut *out,
             next,
             types,
+            floors,
             relationships,
             rules,
             bodies,
@@ -166,6 +184,7 @@ fn deliver(buffer: &[u8], end: usize, out: &mut [u8]) -> Written
 fn refused(
     n: Counts,
     types: &[u32],
+    floors: &[u32],
     relationships: &[u32],
     rules: &[u32],
     bodies: &[u32],
@@ -173,11 +192,12 @@ fn refused(
     links: &[u32],
     events: &[u32],
 ) -> Verdict
-    ensures { λ r. ⌜ r ≡ verdictOf (sheetRefusal n (sheetOf (now (types .entry)) (now (relationships .entry)) (now (rules .entry)) (now (bodies .entry)) (now (objects .entry)) (now (links .entry)) (now (events .entry)))) ⌝ }
+    ensures { λ r. ⌜ r ≡ verdictOf (sheetRefusal n (sheetOf (now (types .entry)) (now (floors .entry)) (now (relationships .entry)) (now (rules .entry)) (now (bodies .entry)) (now (objects .entry)) (now (links .entry)) (now (events .entry)))) ⌝ }
 {
     match checks::check_all(
         n,
         types,
+        floors,
         relationships,
         rules,
         bodies,
@@ -199,6 +219,7 @@ fn unless_refused(
     verdict: Verdict,
     n: Counts,
     types: &[u32],
+    floors: &[u32],
     relationships: &[u32],
     rules: &[u32],
     bodies: &[u32],
@@ -207,8 +228,8 @@ fn unless_refused(
     events: &[u32],
     out: &mut [u8],
 ) -> Written
-    requires { ⌜ verdict ≡ verdictOf (sheetRefusal n (sheetOf (now types) (now relationships) (now rules) (now bodies) (now objects) (now links) (now events))) ⌝ }
-    ensures { λ r. ⌜ (let s = sheetOf (now (types .entry)) (now (relationships .entry)) (now (rules .entry)) (now (bodies .entry)) (now (objects .entry)) (now (links .entry)) (now (events .entry)) in
+    requires { ⌜ verdict ≡ verdictOf (sheetRefusal n (sheetOf (now types) (now floors) (now relationships) (now rules) (now bodies) (now objects) (now links) (now events))) ⌝ }
+    ensures { λ r. ⌜ (let s = sheetOf (now (types .entry)) (now (floors .entry)) (now (relationships .entry)) (now (rules .entry)) (now (bodies .entry)) (now (objects .entry)) (now (links .entry)) (now (events .entry)) in
         (r ≡ answerFor n s (now (out .entry))) × (now (out .exit) ≡ bytesLeft n s (now (out .entry)))) ⌝ }
 {
     if let Verdict::Refused(number, place) = verdict {
@@ -219,6 +240,7 @@ fn unless_refused(
         &mut buffer,
         n,
         types,
+        floors,
         relationships,
         rules,
         bodies,
@@ -233,6 +255,7 @@ fn unless_refused(
 pub fn write(
     n: Counts,
     types: &[u32],
+    floors: &[u32],
     relationships: &[u32],
     rules: &[u32],
     bodies: &[u32],
@@ -241,12 +264,13 @@ pub fn write(
     events: &[u32],
     out: &mut [u8],
 ) -> Written
-    ensures { λ r. ⌜ (let s = sheetOf (now (types .entry)) (now (relationships .entry)) (now (rules .entry)) (now (bodies .entry)) (now (objects .entry)) (now (links .entry)) (now (events .entry)) in
+    ensures { λ r. ⌜ (let s = sheetOf (now (types .entry)) (now (floors .entry)) (now (relationships .entry)) (now (rules .entry)) (now (bodies .entry)) (now (objects .entry)) (now (links .entry)) (now (events .entry)) in
         (r ≡ answerFor n s (now (out .entry))) × (now (out .exit) ≡ bytesLeft n s (now (out .entry)))) ⌝ }
 {
     let verdict = refused(
         n,
         types,
+        floors,
         relationships,
         rules,
         bodies,
@@ -258,6 +282,7 @@ pub fn write(
         verdict,
         n,
         types,
+        floors,
         relationships,
         rules,
         bodies,

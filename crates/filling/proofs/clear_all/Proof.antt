@@ -26,6 +26,9 @@ clear-requires-6 c κs = search needs
 clear-requires-7 : tie.Need-clear-requires-7
 clear-requires-7 c κs = search needs
 
+clear-requires-8 : tie.Need-clear-requires-8
+clear-requires-8 c κs = search needs
+
 same-length : tie.Need-same-length
 same-length c = search needs
 
@@ -47,6 +50,9 @@ same-length-6 c = search needs
 same-length-7 : tie.Need-same-length-7
 same-length-7 c = search needs
 
+same-length-8 : tie.Need-same-length-8
+same-length-8 c = search needs
+
 returns : tie.Need-returns
 unfolding tableOf bodiesOf
 returns c =
@@ -56,9 +62,10 @@ returns c =
     let bodies = objects .before .before .before .before in
     let rules = bodies .before .before .before .before in
     let relationships = rules .before .before .before .before in
-    let types = relationships .before .before .before .before in
-    λ j. sheetOf (types .clear .ensures j) (relationships .clear2 .ensures j) (rules .clear3 .ensures j) (bodies .clear4 .ensures j)
-    (objects .clear5 .ensures j) (links .clear6 .ensures j) (events .clear7 .ensures j)
+    let floors = relationships .before .before .before .before in
+    let types = floors .before .before .before .before in
+    λ j. sheetOf (types .clear .ensures j) (floors .clear2 .ensures j) (relationships .clear3 .ensures j) (rules .clear4 .ensures j)
+    (bodies .clear5 .ensures j) (objects .clear6 .ensures j) (links .clear7 .ensures j) (events .clear8 .ensures j)
 
 pub clear-all-spec : {M : Type 1} → statement M
 clear-all-spec =
@@ -71,6 +78,7 @@ clear-all-spec =
     clear-requires-5
     clear-requires-6
     clear-requires-7
+    clear-requires-8
     same-length
     same-length-2
     same-length-3
@@ -78,4 +86,5 @@ clear-all-spec =
     same-length-5
     same-length-6
     same-length-7
+    same-length-8
     returns)

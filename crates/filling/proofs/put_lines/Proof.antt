@@ -14,22 +14,22 @@ use Rattle.filling.proofs.put_lines.Statement.{statement}
 use Rattle.filling.proofs.put_lines.Tie as tie
 
 abbrev Inv-loop : tie.InvT-loop
-Inv-loop text types₀ relationships₀ rules₀ bodies₀ objects₀ links₀ events₀ counts₀ cells₀ section₀ at₀ types relationships rules bodies objects links events counts cells section at =
-    Filling text (sheetOf types₀ relationships₀ rules₀ bodies₀ objects₀ links₀ events₀) at counts cells section
-    (sheetOf types relationships rules bodies objects links events)
+Inv-loop text types₀ floors₀ relationships₀ rules₀ bodies₀ objects₀ links₀ events₀ counts₀ cells₀ section₀ at₀ types floors relationships rules bodies objects links events counts cells section at =
+    Filling text (sheetOf types₀ floors₀ relationships₀ rules₀ bodies₀ objects₀ links₀ events₀) at counts cells section
+    (sheetOf types floors relationships rules bodies objects links events)
 
 abbrev μ-loop : tie.MeasureT-loop
-μ-loop text types₀ relationships₀ rules₀ bodies₀ objects₀ links₀ events₀ counts₀ cells₀ section₀ at₀ types relationships rules bodies objects links events counts cells section at =
+μ-loop text types₀ floors₀ relationships₀ rules₀ bodies₀ objects₀ links₀ events₀ counts₀ cells₀ section₀ at₀ types floors relationships rules bodies objects links events counts cells section at =
     length text - at
 
 -- the call, from the loop
 abbrev start : tie.At-loop Inv-loop μ-loop → tie.Start Inv-loop μ-loop
-start c = let known = c .before .before .before .before in known .before .before .before .before .before
+start c = let known = c .before .before .before .before in known .before .before .before .before .before .before
 
 loop-holds : tie.Need-loop-holds Inv-loop μ-loop
 loop-holds c =
     let known = c .before .before .before .before in
-    let s = known .before .before .before .before in
+    let s = known .before .before .before .before .before in
     fill-starts (s .args .text .now) (s .pre .1)
 
 line-requires : tie.Need-line-requires Inv-loop μ-loop
@@ -64,7 +64,7 @@ module _ (c : tie.After-read-line Inv-loop μ-loop) where
 put-line-requires : tie.Need-put-line-requires Inv-loop μ-loop
 put-line-requires c κs =
     let at-args = c .before .before .before .before in
-    let r = at-args .before .before .before .before .before in
+    let r = at-args .before .before .before .before .before .before in
     let s = start (at-loop r) in
     let k = at-loop r .loop .inv in
     let line = r .before .before .line .ensures in
@@ -75,10 +75,11 @@ abbrev put-at : tie.After-cells2 Inv-loop μ-loop → tie.After-put-line Inv-loo
 put-at c =
     let at-objects = c .before .before .before .before .before .before in
     let at-bodies = at-objects .before .before .before .before in
-    at-bodies .before .before .before .before .before
+    let at-rules = at-bodies .before .before .before .before in
+    at-rules .before .before .before
 
 abbrev read-at : tie.After-put-line Inv-loop μ-loop → tie.After-read-line Inv-loop μ-loop
-read-at c = let at-args = c .before .before .before .before .before in at-args .before .before .before .before .before
+read-at c = let at-args = c .before .before .before .before .before in at-args .before .before .before .before .before .before
 
 array-read-more-cells : tie.Need-array-read-more-cells Inv-loop μ-loop
 array-read-more-cells c = search needs
@@ -122,22 +123,25 @@ same-length : tie.Need-same-length Inv-loop μ-loop
 same-length c = c .before .loop .inv .types-held .same
 
 same-length-2 : tie.Need-same-length-2 Inv-loop μ-loop
-same-length-2 c = c .before .loop .inv .relationships-held .same
+same-length-2 c = c .before .loop .inv .floors-held .same
 
 same-length-3 : tie.Need-same-length-3 Inv-loop μ-loop
-same-length-3 c = c .before .loop .inv .rules-held .same
+same-length-3 c = c .before .loop .inv .relationships-held .same
 
 same-length-4 : tie.Need-same-length-4 Inv-loop μ-loop
-same-length-4 c = c .before .loop .inv .bodies-held .same
+same-length-4 c = c .before .loop .inv .rules-held .same
 
 same-length-5 : tie.Need-same-length-5 Inv-loop μ-loop
-same-length-5 c = c .before .loop .inv .objects-held .same
+same-length-5 c = c .before .loop .inv .bodies-held .same
 
 same-length-6 : tie.Need-same-length-6 Inv-loop μ-loop
-same-length-6 c = c .before .loop .inv .links-held .same
+same-length-6 c = c .before .loop .inv .objects-held .same
 
 same-length-7 : tie.Need-same-length-7 Inv-loop μ-loop
-same-length-7 c = c .before .loop .inv .events-held .same
+same-length-7 c = c .before .loop .inv .links-held .same
+
+same-length-8 : tie.Need-same-length-8 Inv-loop μ-loop
+same-length-8 c = c .before .loop .inv .events-held .same
 
 returns : tie.Need-returns Inv-loop μ-loop
 returns c = fill-ends (c .before .loop .inv) (start (c .before) .pre .0) (c .loop-test .left)
@@ -170,4 +174,5 @@ put-lines-spec =
     same-length-5
     same-length-6
     same-length-7
+    same-length-8
     returns)

@@ -9,13 +9,13 @@ use Rattle.reader.proofs.any_broken.Statement.{statement}
 use Rattle.reader.proofs.any_broken.Tie as tie
 
 -- the call, from where its tables are known
-abbrev start : tie.After-shared-slice-known7 → tie.Start
-start c = c .before .before .before .before .before .before .before
+abbrev start : tie.After-shared-slice-known8 → tie.Start
+start c = let objects = c .before .before .before .before in objects .before .before .before .before
 
 abbrev sheet : tie.Start → Sheet
 sheet c =
     let a = c .args in
-    sheetOf (now (a .types)) (now (a .relationships)) (now (a .rules)) (now (a .bodies)) (now (a .objects)) (now (a .links)) (now (a .events))
+    sheetOf (now (a .types)) (now (a .floors)) (now (a .relationships)) (now (a .rules)) (now (a .bodies)) (now (a .objects)) (now (a .links)) (now (a .events))
 
 any-broken-requires : tie.Need-any-broken-requires
 any-broken-requires c κs = search needs

@@ -18,14 +18,14 @@ use Rattle.reader.proofs.examine.Tie as tie
 abbrev sheet : tie.Start → Sheet
 sheet s =
     let a = s .args in
-    sheetOf (a .types .now) (a .relationships .now) (a .rules .now) (a .bodies .now) (a .objects .now) (a .links .now) (a .events .now)
+    sheetOf (a .types .now) (a .floors .now) (a .relationships .now) (a .rules .now) (a .bodies .now) (a .objects .now) (a .links .now) (a .events .now)
 
 abbrev text : tie.Start → List ℕ
 text s = s .args .text .now
 
 -- the call, from where the text's length is known to be kept
 abbrev start : tie.Else1 → tie.Start
-start c = let known = c .before .before .before .before in known .before .before .before .before .before
+start c = let known = c .before .before .before .before in known .before .before .before .before .before .before
 
 -- what was seen is of the rows lent
 seen : (c : tie.After-look) → let s = start (c .before .before .before) in Shown (reading (linesLent (sheet s)) (text s)) (c .look .result)
@@ -44,7 +44,7 @@ returns : tie.Need-returns
 unfolding lentReading
 returns c =
     let known = c .before .before .before .before in
-    let s = known .before .before .before .before .before in
+    let s = known .before .before .before .before .before .before in
     refused-so (too-long (linesLent (sheet s)) (text s) (notWhole layouts (sheet s)) (c .if1 .taken))
 
 room-of-requires : tie.Need-room-of-requires
@@ -66,23 +66,26 @@ returns-3 : tie.Need-returns-3
 unfolding lentReading
 returns-3 c = refused-so (unless-broken (good (c .before .before) .1) (sym (c .before .any-broken .ensures) ∙ c .if3 .taken))
 
-array-read-t19 : tie.Need-array-read-t19
-array-read-t19 c = search needs
+array-read-t20 : tie.Need-array-read-t20
+array-read-t20 c = search needs
 
-array-read-t22 : tie.Need-array-read-t22
-array-read-t22 c = search needs
+array-read-t23 : tie.Need-array-read-t23
+array-read-t23 c = search needs
 
-array-read-t25 : tie.Need-array-read-t25
-array-read-t25 c = search needs
+array-read-t26 : tie.Need-array-read-t26
+array-read-t26 c = search needs
 
-array-read-t28 : tie.Need-array-read-t28
-array-read-t28 c = search needs
+array-read-t29 : tie.Need-array-read-t29
+array-read-t29 c = search needs
 
-array-read-t31 : tie.Need-array-read-t31
-array-read-t31 c = search needs
+array-read-t32 : tie.Need-array-read-t32
+array-read-t32 c = search needs
 
-array-read-t34 : tie.Need-array-read-t34
-array-read-t34 c = search needs
+array-read-t35 : tie.Need-array-read-t35
+array-read-t35 c = search needs
+
+array-read-t38 : tie.Need-array-read-t38
+array-read-t38 c = search needs
 
 returns-4 : tie.Need-returns-4
 unfolding lentReading
@@ -103,10 +106,11 @@ examine-spec =
     returns-2
     any-broken-requires
     returns-3
-    array-read-t19
-    array-read-t22
-    array-read-t25
-    array-read-t28
-    array-read-t31
-    array-read-t34
+    array-read-t20
+    array-read-t23
+    array-read-t26
+    array-read-t29
+    array-read-t32
+    array-read-t35
+    array-read-t38
     returns-4)

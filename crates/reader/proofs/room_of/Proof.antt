@@ -16,17 +16,17 @@ rows-lent-requires-2 c κs = search needs
 rows-lent-requires-3 : tie.Need-rows-lent-requires-3
 rows-lent-requires-3 c κs = search needs
 
-mul-rows-lent : tie.Need-mul-rows-lent
-mul-rows-lent c = search needs
-
 rows-lent-requires-4 : tie.Need-rows-lent-requires-4
 rows-lent-requires-4 c κs = search needs
 
-lesser-requires : tie.Need-lesser-requires
-lesser-requires c κs = search needs
+mul-rows-lent : tie.Need-mul-rows-lent
+mul-rows-lent c = search needs
 
 rows-lent-requires-5 : tie.Need-rows-lent-requires-5
 rows-lent-requires-5 c κs = search needs
+
+lesser-requires : tie.Need-lesser-requires
+lesser-requires c κs = search needs
 
 rows-lent-requires-6 : tie.Need-rows-lent-requires-6
 rows-lent-requires-6 c κs = search needs
@@ -34,15 +34,23 @@ rows-lent-requires-6 c κs = search needs
 rows-lent-requires-7 : tie.Need-rows-lent-requires-7
 rows-lent-requires-7 c κs = search needs
 
+rows-lent-requires-8 : tie.Need-rows-lent-requires-8
+rows-lent-requires-8 c κs = search needs
+
 returns : tie.Need-returns
 unfolding linesLent
 returns c =
-    ap₂ (λ x l. x ∷ l) (c .before .before .before .before .before .before .before .rows-lent .ensures)
-    (ap₂ (λ x l. x ∷ l) (c .before .before .before .before .before .before .rows-lent2 .ensures)
-    (ap₂ (λ x l. x ∷ l) (c .before .before .before .lesser .ensures ∙ ap₂ min (c .before .before .before .before .before .rows-lent3 .ensures) (c .before .before .before .before .rows-lent4 .ensures))
-    (ap₂ (λ x l. x ∷ l) (c .before .before .rows-lent5 .ensures)
-    (ap₂ (λ x l. x ∷ l) (c .before .rows-lent6 .ensures)
-    (ap₂ (λ x l. x ∷ l) (c .rows-lent7 .ensures) refl)))))
+    let least = c .before .before .before in
+    let rules = least .before .before in
+    let relationships = rules .before in
+    let floors = relationships .before in
+    ap₂ (λ x l. x ∷ l) (floors .before .rows-lent .ensures)
+    (ap₂ (λ x l. x ∷ l) (floors .rows-lent2 .ensures)
+    (ap₂ (λ x l. x ∷ l) (relationships .rows-lent3 .ensures)
+    (ap₂ (λ x l. x ∷ l) (least .lesser .ensures ∙ ap₂ min (rules .rows-lent4 .ensures) (least .before .rows-lent5 .ensures))
+    (ap₂ (λ x l. x ∷ l) (c .before .before .rows-lent6 .ensures)
+    (ap₂ (λ x l. x ∷ l) (c .before .rows-lent7 .ensures)
+    (ap₂ (λ x l. x ∷ l) (c .rows-lent8 .ensures) refl))))))
 
 pub room-of-spec : {M : Type 1} → statement M
 room-of-spec =
@@ -51,10 +59,11 @@ room-of-spec =
     rows-lent-requires
     rows-lent-requires-2
     rows-lent-requires-3
-    mul-rows-lent
     rows-lent-requires-4
-    lesser-requires
+    mul-rows-lent
     rows-lent-requires-5
+    lesser-requires
     rows-lent-requires-6
     rows-lent-requires-7
+    rows-lent-requires-8
     returns)

@@ -13,11 +13,11 @@ use Rattle.writer.proofs.refused.Tie as tie
 abbrev sheet : tie.Start → Sheet
 sheet s =
     let a = s .args in
-    sheetOf (a .types .now) (a .relationships .now) (a .rules .now) (a .bodies .now) (a .objects .now) (a .links .now) (a .events .now)
+    sheetOf (a .types .now) (a .floors .now) (a .relationships .now) (a .rules .now) (a .bodies .now) (a .objects .now) (a .links .now) (a .events .now)
 
 -- the call, from the answer about all tables
 abbrev start : tie.After-check-all → tie.Start
-start c = let known = c .before .before .before .before in known .before .before .before .before
+start c = let known = c .before .before .before .before in known .before .before .before .before .before
 
 -- no table is refused
 clear : (c : tie.After-enum-told) → let s = start (c .before .before) in Clear ≡ verdictOf (refusalOf layouts (s .args .n) (sheet s) false)
@@ -30,7 +30,7 @@ looked c = c .first-unknown .result
 found : (c : tie.After-first-unknown) → let s = start (c .before .before .before) in looked c ≡ foundOf (eventFault (s .args .n) (sheet s))
 found c =
     let a = start (c .before .before .before) .args in
-    c .first-unknown .ensures (a .types .now) (a .relationships .now) (a .rules .now) (a .bodies .now) (a .objects .now) (a .links .now)
+    c .first-unknown .ensures (a .types .now) (a .floors .now) (a .relationships .now) (a .rules .now) (a .bodies .now) (a .objects .now) (a .links .now)
 
 check-all-requires : tie.Need-check-all-requires
 check-all-requires c κs = search needs

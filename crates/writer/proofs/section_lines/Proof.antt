@@ -12,25 +12,25 @@ use Rattle.writer.proofs.section_lines.Statement.{statement}
 use Rattle.writer.proofs.section_lines.Tie as tie
 
 abbrev Inv-loop : tie.InvT-loop
-Inv-loop out₀ at types relationships rules bodies objects links events section count next₀ row₀ out next row =
-    (row ≤ count) × Put out₀ at (linesOf (lineOf (sheetOf types relationships rules bodies objects links events) section) row) out next
+Inv-loop out₀ at types floors relationships rules bodies objects links events section count next₀ row₀ out next row =
+    (row ≤ count) × Put out₀ at (linesOf (lineOf (sheetOf types floors relationships rules bodies objects links events) section) row) out next
 
 abbrev μ-loop : tie.MeasureT-loop
-μ-loop out₀ at types relationships rules bodies objects links events section count next₀ row₀ out next row = count - row
+μ-loop out₀ at types floors relationships rules bodies objects links events section count next₀ row₀ out next row = count - row
 
 -- the call, from the loop
 abbrev start : tie.At-loop Inv-loop μ-loop → tie.Start Inv-loop μ-loop
-start c = let known = c .before .before .before .before in known .before .before .before .before .before
+start c = let known = c .before .before .before .before in known .before .before .before .before .before .before
 
 abbrev sheet : tie.Start Inv-loop μ-loop → Sheet
 sheet s =
     let a = s .args in
-    sheetOf (a .types .now) (a .relationships .now) (a .rules .now) (a .bodies .now) (a .objects .now) (a .links .now) (a .events .now)
+    sheetOf (a .types .now) (a .floors .now) (a .relationships .now) (a .rules .now) (a .bodies .now) (a .objects .now) (a .links .now) (a .events .now)
 
 loop-holds : tie.Need-loop-holds Inv-loop μ-loop
 loop-holds c =
     let known = c .before .before .before .before in
-    let s = known .before .before .before .before in
+    let s = known .before .before .before .before .before in
     (search needs, put-as (put-nothing _ _ (s .pre .1)) (sym (lines-none _)))
 
 line-requires : tie.Need-line-requires Inv-loop μ-loop

@@ -3,7 +3,7 @@ use Prim.Native.Nat.{_-_, _≤_, _<_}
 use mathlib.Core.Path.{_≡_, sym, ap, subst, _∙_}
 use mathlib.Core.List.{_++_}
 use native.Mathlib.Omega.{arith}
-use Rattle.tables.specs.Layouts.{Sheet, sheetOf}
+use Rattle.tables.specs.Layouts.{Sheet, sheetOf, sectionCount}
 use Rattle.line_writer.specs.Put.{Put}
 use Rattle.line_writer.specs.Lines.{lineOf, linesOf, sectionText, sheetText}
 use Rattle.line_writer.proofs.Puts.{put-nothing, put-then, put-as, put-within}
@@ -13,20 +13,20 @@ use Rattle.writer.proofs.text.Statement.{statement}
 use Rattle.writer.proofs.text.Tie as tie
 
 abbrev Inv-loop : tie.InvT-loop
-Inv-loop out₀ n types relationships rules bodies objects links events next₀ section₀ out next section =
-    (section ≤ 6) × Put out₀ 0 (linesOf (sectionText n (sheetOf types relationships rules bodies objects links events)) section) out next
+Inv-loop out₀ n types floors relationships rules bodies objects links events next₀ section₀ out next section =
+    (section ≤ sectionCount) × Put out₀ 0 (linesOf (sectionText n (sheetOf types floors relationships rules bodies objects links events)) section) out next
 
 abbrev μ-loop : tie.MeasureT-loop
-μ-loop out₀ n types relationships rules bodies objects links events next₀ section₀ out next section = 6 - section
+μ-loop out₀ n types floors relationships rules bodies objects links events next₀ section₀ out next section = sectionCount - section
 
 -- the call, from the loop
 abbrev start : tie.At-loop Inv-loop μ-loop → tie.Start Inv-loop μ-loop
-start c = let known = c .before .before .before .before in known .before .before .before .before .before
+start c = let known = c .before .before .before .before in known .before .before .before .before .before .before
 
 abbrev sheet : tie.Start Inv-loop μ-loop → Sheet
 sheet s =
     let a = s .args in
-    sheetOf (a .types .now) (a .relationships .now) (a .rules .now) (a .bodies .now) (a .objects .now) (a .links .now) (a .events .now)
+    sheetOf (a .types .now) (a .floors .now) (a .relationships .now) (a .rules .now) (a .bodies .now) (a .objects .now) (a .links .now) (a .events .now)
 
 loop-holds : tie.Need-loop-holds Inv-loop μ-loop
 loop-holds c = (search needs, put-as (put-nothing _ _ (omega arith)) (sym (lines-none _)))
@@ -69,7 +69,7 @@ unfolding sheetText
 returns c =
     let at-loop = c .before in
     let s = start at-loop in
-    let past : at-loop .loop .section ≡ 6 = omega arith in
+    let past : at-loop .loop .section ≡ sectionCount = omega arith in
     put-as (at-loop .loop .inv .1) (ap (linesOf (sectionText (s .args .n) (sheet s))) past)
 
 pub text-spec : {M : Type 1} → statement M

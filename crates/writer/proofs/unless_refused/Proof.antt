@@ -13,11 +13,11 @@ use Rattle.writer.proofs.unless_refused.Tie as tie
 abbrev sheet : tie.Start → Sheet
 sheet s =
     let a = s .args in
-    sheetOf (a .types .now) (a .relationships .now) (a .rules .now) (a .bodies .now) (a .objects .now) (a .links .now) (a .events .now)
+    sheetOf (a .types .now) (a .floors .now) (a .relationships .now) (a .rules .now) (a .bodies .now) (a .objects .now) (a .links .now) (a .events .now)
 
 -- the call, from where no refusal is told
 abbrev start : tie.After-enum-told → tie.Start
-start c = let known = c .before .before .before .before .before in known .before .before .before .before .before
+start c = let known = c .before .before .before .before .before in known .before .before .before .before .before .before
 
 clear : (c : tie.After-enum-told) → let s = start c in Clear ≡ verdictOf (sheetRefusal (s .args .n) (sheet s))
 clear c = sym (c .enum-told .given .1) ∙ start c .pre
@@ -29,7 +29,7 @@ returns : tie.Need-returns
 returns c =
     let at-verdict = c .before in
     let known = at-verdict .before .before .before .before .before in
-    let s = known .before .before .before .before .before in
+    let s = known .before .before .before .before .before .before in
     refused-answer (s .args .n) (sheet s) (sym (at-verdict .verdict .given .1) ∙ s .pre) (s .args .out .now)
 
 enum-told : tie.Need-enum-told

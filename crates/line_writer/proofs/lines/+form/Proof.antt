@@ -15,6 +15,7 @@ use Rattle.tables.proofs.Readings.{ending-start, sound-pos}
 use Rattle.body_rows.specs.Marks.{bodyOf, firstSort, secondSort, Starts}
 use Rattle.body_rows.proofs.Kept.{starts-less}
 use Rattle.typing.proofs.Types.{operatorHere, partsHere, coded-here, code-here, second-here, first-here}
+use Rattle.text.specs.Names.{firstOperator}
 use Rattle.text.specs.Tokens.{begin, spellToken}
 use Rattle.line_writer.specs.Lines.{spellClosing, spellForm}
 use Rattle.line_writer.proofs.Puts.{put-then, put-as}
@@ -103,7 +104,7 @@ module _ (t : ℕ) where
 
   -- a form by what the code read: its name, what stands between, and its fields
   abbrev pieces : Start → ℕ → List ℕ → ℕ → List ℕ
-  pieces s code inner n = (spellToken (begin (12 + code)) ++ inner) ++ spellClosing (take n ((rows s (row s)) .x ∷ (rows s (row s)) .y ∷ []))
+  pieces s code inner n = (spellToken (begin (firstOperator + code)) ++ inner) ++ spellClosing (take n ((rows s (row s)) .x ∷ (rows s (row s)) .y ∷ []))
 
   -- ---- the parts
 
@@ -163,7 +164,7 @@ module _ (t : ℕ) where
       let s = known .before .before in
       put-as (put-then (at-open-inner .open-inner .ensures) (c .before .before .close .ensures))
       (spelled s
-      (ap₂ (λ k n. spellToken (begin (12 + k)) ++ spellClosing (take n ((rows s (row s)) .x ∷ (rows s (row s)) .y ∷ []))) (at-field .field .ensures) (count at-shape)
+      (ap₂ (λ k n. spellToken (begin (firstOperator + k)) ++ spellClosing (take n ((rows s (row s)) .x ∷ (rows s (row s)) .y ∷ []))) (at-field .field .ensures) (count at-shape)
       ∙ leaf-spelled (rows s) (row s) (sound s) (word known) (sym (second (c .before .before .before .before .before)) ∙ c .before .before .before .before .if1 .taken)))
 
   same-length : form-lts.Need-same-length (calls t) (form-at t) form.Post
@@ -256,8 +257,8 @@ module _ (t : ℕ) where
       let s = known .before .before in
       put-as (put-then (put-then (put-then (at-open-inner .open-inner .ensures) (at-form2 .form2 .ensures)) (at-form3 .form3 .ensures)) (c .before .before .close3 .ensures))
       (spelled s
-      (ap₂ (λ k n. ((spellToken (begin (12 + k)) ++ spellForm (rows s) (getD (s .args .starts .now) (row s) 0)) ++ spellForm (rows s) (row s)) ++ spellClosing (take n ((rows s (row s)) .x ∷ (rows s (row s)) .y ∷ []))) (at-field .field .ensures) (count at-shape)
-      ∙ ap (λ m. ((spellToken (begin (12 + (rows s (row s)) .code)) ++ spellForm (rows s) m) ++ spellForm (rows s) (row s)) ++ spellClosing (take ((shapeOf (operator s)) .fields) ((rows s (row s)) .x ∷ (rows s (row s)) .y ∷ []))) (middle-is s)
+      (ap₂ (λ k n. ((spellToken (begin (firstOperator + k)) ++ spellForm (rows s) (getD (s .args .starts .now) (row s) 0)) ++ spellForm (rows s) (row s)) ++ spellClosing (take n ((rows s (row s)) .x ∷ (rows s (row s)) .y ∷ []))) (at-field .field .ensures) (count at-shape)
+      ∙ ap (λ m. ((spellToken (begin (firstOperator + (rows s (row s)) .code)) ++ spellForm (rows s) m) ++ spellForm (rows s) (row s)) ++ spellClosing (take ((shapeOf (operator s)) .fields) ((rows s (row s)) .x ∷ (rows s (row s)) .y ∷ []))) (middle-is s)
       ∙ both-spelled (rows s) (row s) (sound s) (word known) (second-some else1) (first-some else2)))
 
   same-length-3 : form-lts.Need-same-length-3 (calls t) (form-at t) form.Post

@@ -3,6 +3,7 @@ use native.Mathlib.Omega.{arith}
 use Prim.Native.Nat.{_+_, _*_}
 use mathlib.Core.Path.{ap}
 use lib.ListN.{take, drop}
+use Rattle.text.specs.Names.{firstEvent}
 use Rattle.text.specs.Entries.{eventFields}
 use Rattle.line_writer.specs.Lines.{rowLine, eventLine}
 use Rattle.line_writer.proofs.Puts.{put-as}
@@ -46,7 +47,7 @@ returns : tie.Need-returns
 unfolding eventLine eventFields
 returns c =
     let s = c .before .before .before .before .before .before .before in
-    put-as (c .before .before .row-line .ensures) (ap (λ k. rowLine (5 + k) (take (eventFields k) (drop (s .args .row * 4 + 1) (s .args .events .now)))) (c .before .before .before .before .word .ensures))
+    put-as (c .before .before .row-line .ensures) (ap (λ k. rowLine (firstEvent + k) (take (eventFields k) (drop (s .args .row * 4 + 1) (s .args .events .now)))) (c .before .before .before .before .word .ensures))
 
 pub event-line-spec : {M : Type 1} → statement M
 event-line-spec =

@@ -4,6 +4,7 @@ use Prim.Native.Nat.{_+_, _*_}
 use mathlib.Core.Path.{_≡_, ap, _∙_}
 use lib.ListN.{take, drop}
 use Rattle.rows.specs.Rows.{wordAt}
+use Rattle.text.specs.Names.{objectName}
 use Rattle.line_writer.specs.Lines.{rowLine, cellsFor, objectLine}
 use Rattle.line_writer.proofs.Puts.{put-as}
 use borrow.Author.Needs.{needs}
@@ -40,7 +41,7 @@ returns c =
     let known = c .before .before .before .before .before .before in
     let s = known .before .before .before in
     let cells : c .before .before .before .before .word2 .result ≡ cellsFor (s .args .types .now) (s .args .objects .now) (s .args .row) = c .before .before .before .before .word2 .ensures ∙ ap (λ t. wordAt (s .args .types .now) 2 t 1) (c .before .before .before .before .before .word .ensures) in
-    put-as (c .before .before .row-line .ensures) (ap (λ k. rowLine 3 (take (2 + k) (drop (s .args .row * 10) (s .args .objects .now)))) cells)
+    put-as (c .before .before .row-line .ensures) (ap (λ k. rowLine objectName (take (2 + k) (drop (s .args .row * 10) (s .args .objects .now)))) cells)
 
 pub object-line-spec : {M : Type 1} → statement M
 object-line-spec =

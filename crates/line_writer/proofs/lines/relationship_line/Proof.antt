@@ -1,6 +1,7 @@
 -- `line_writer::lines::relationship_line` meets its contract.
 use mathlib.Core.Path.{ap₂}
 use mathlib.Core.List.{[], _∷_}
+use Rattle.text.specs.Names.{relationshipName}
 use Rattle.line_writer.specs.Lines.{rowLine, relationshipLine}
 use Rattle.line_writer.proofs.Puts.{put-as}
 use borrow.Author.Needs.{needs}
@@ -27,7 +28,7 @@ unfolding relationshipLine
 returns c =
     let at-word = c .before .before .before .before .before .before in
     let entry = at-word .before .before .before in
-    put-as (c .before .before .row-line .ensures) (ap₂ (λ p q. rowLine 1 (entry .args .row ∷ p ∷ q ∷ [])) (at-word .word .ensures) (c .before .before .before .before .before .word2 .ensures))
+    put-as (c .before .before .row-line .ensures) (ap₂ (λ p q. rowLine relationshipName (entry .args .row ∷ p ∷ q ∷ [])) (at-word .word .ensures) (c .before .before .before .before .before .word2 .ensures))
 
 pub relationship-line-spec : {M : Type 1} → statement M
 relationship-line-spec =

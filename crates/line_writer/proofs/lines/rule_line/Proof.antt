@@ -6,7 +6,7 @@ use lib.Dec.{T}
 use Rattle.tables.specs.Bodies.{ending}
 use Rattle.tables.proofs.Forms.{whole-body}
 use Rattle.body_rows.specs.Marks.{bodyOf}
-use Rattle.text.specs.Names.{nameOf}
+use Rattle.text.specs.Names.{ruleName, nameOf}
 use Rattle.text.specs.Tokens.{spellToken, item}
 use Rattle.line_writer.specs.Lines.{spellForm}
 use Rattle.line_writer.proofs.Puts.{put-then, put-as}
@@ -59,7 +59,7 @@ returns c =
     let s = at-word .before .before .before .before in
     let put = put-then (put-then (put-then (put-then (at-open .«open» .ensures) (at-number .number .ensures)) (at-number2 .number2 .ensures)) (at-form .form .ensures)) (c .before .before .end-line .ensures) in
     put-as put
-    (ap₂ (λ x n. ((((40 ∷ nameOf 2) ++ spellToken (item (s .args .row))) ++ spellToken (item x)) ++ spellForm (bodyOf (s .args .bodies .now) (s .args .row)) n) ++ 41 ∷ 10 ∷ []) (at-word2 .word2 .ensures) (at-word .word .ensures)
+    (ap₂ (λ x n. ((((40 ∷ nameOf ruleName) ++ spellToken (item (s .args .row))) ++ spellToken (item x)) ++ spellForm (bodyOf (s .args .bodies .now) (s .args .row)) n) ++ 41 ∷ 10 ∷ []) (at-word2 .word2 .ensures) (at-word .word .ensures)
     ∙ rule-spelled (s .args .rules .now) (s .args .bodies .now) (s .args .row) (s .pre))
 
 pub rule-line-spec : {M : Type 1} → statement M

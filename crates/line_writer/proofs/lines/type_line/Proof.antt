@@ -1,7 +1,7 @@
 -- `line_writer::lines::type_line` meets its contract: a line of three items.
 use mathlib.Core.Path.{ap₂, _∙_}
 use mathlib.Core.List.{[], _∷_, _++_}
-use Rattle.text.specs.Names.{nameOf}
+use Rattle.text.specs.Names.{typeName, nameOf}
 use Rattle.text.specs.Tokens.{spellToken, item}
 use Rattle.text.specs.Entries.{parentItem}
 use Rattle.line_writer.specs.Lines.{typeLine}
@@ -47,8 +47,8 @@ returns c =
     let start = at-open .before .before .before .before in
     let put = put-then (put-then (put-then (put-then (at-open .«open» .ensures) (at-number .number .ensures)) (at-parent .parent .ensures)) (at-number2 .number2 .ensures)) (c .before .before .end-line .ensures) in
     put-as put
-    (ap₂ (λ p q. ((((40 ∷ nameOf 0) ++ spellToken (item (start .args .row))) ++ spellToken (item (parentItem p))) ++ spellToken (item q)) ++ 41 ∷ 10 ∷ []) (at-word .word .ensures) (at-word2 .word2 .ensures)
-    ∙ three-line 0 _ _ _)
+    (ap₂ (λ p q. ((((40 ∷ nameOf typeName) ++ spellToken (item (start .args .row))) ++ spellToken (item (parentItem p))) ++ spellToken (item q)) ++ 41 ∷ 10 ∷ []) (at-word .word .ensures) (at-word2 .word2 .ensures)
+    ∙ three-line typeName _ _ _)
 
 pub type-line-spec : {M : Type 1} → statement M
 type-line-spec =

@@ -10,7 +10,7 @@ use Rattle.reader.proofs.fill.fill.Tie as tie
 abbrev sheet : tie.Start → Sheet
 sheet s =
     let a = s .args in
-    sheetOf (a .types .now) (a .relationships .now) (a .rules .now) (a .bodies .now) (a .objects .now) (a .links .now) (a .events .now)
+    sheetOf (a .types .now) (a .floors .now) (a .relationships .now) (a .rules .now) (a .bodies .now) (a .objects .now) (a .links .now) (a .events .now)
 
 abbrev text : tie.Start → List ℕ
 text s = s .args .text .now
@@ -20,14 +20,16 @@ abbrev start : tie.After-clear-all → tie.Start
 start c =
     let at-args = c .before .before .before .before .before in
     let known = at-args .before .before .before .before .before .before in
-    known .before .before .before .before .before
+    let first = known .before .before .before .before .before in
+    first .before .before
 
 -- the cleared tables, from where the lines are put
-abbrev cleared-at : tie.After-put-lines-arg7 → tie.After-clear-all
+abbrev cleared-at : tie.After-put-lines-arg8 → tie.After-clear-all
 cleared-at c =
     let at-args = c .before .before .before .before .before .before .before in
-    let at-rules = at-args .before .before .before .before .before .before .before in
-    at-rules .before .before .before .before .before .before .before
+    let at-objects = at-args .before .before .before .before .before .before in
+    let at-relationships = at-objects .before .before .before .before .before .before in
+    at-relationships .before .before .before .before .before
 
 clear-all-requires : tie.Need-clear-all-requires
 clear-all-requires c κs = search needs
@@ -59,10 +61,14 @@ same-length-6 c = search needs
 same-length-7 : tie.Need-same-length-7
 same-length-7 c = search needs
 
+same-length-8 : tie.Need-same-length-8
+same-length-8 c = search needs
+
 returns : tie.Need-returns
 returns c =
     let at-bodies = c .before .before .before .before .before .before .before in
-    let put = at-bodies .before .before .before .before .before .before .before in
+    let at-relationships = at-bodies .before .before .before .before in
+    let put = at-relationships .before .before .before .before .before in
     let at-clear = cleared-at (put .before) in
     let s = start at-clear in
     filled-so (text s) (sheet s) (s .pre .1) (at-clear .clear-all .ensures)
@@ -81,4 +87,5 @@ fill-spec =
     same-length-5
     same-length-6
     same-length-7
+    same-length-8
     returns)
