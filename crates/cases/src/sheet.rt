@@ -1,5 +1,5 @@
-// The seven tables of a case as one row of words, each table with the words of the most rows that the limits allow. Tables are numbered:
-// 0 types, 1 relationships, 2 rules, 3 bodies, 4 objects, 5 links, 6 events. Every function is total: a word past the end is 0.
+// The eight tables of a case as one row of words, each table with the words of the most rows that the limits allow. Tables are numbered:
+// 0 types, 1 floors, 2 relationships, 3 rules, 4 bodies, 5 objects, 6 links, 7 events. Every function is total: a word past the end is 0.
 use crate::line;
 use meaning::MAX_FORMS;
 use tables::BODY_WIDTH;
@@ -9,45 +9,47 @@ use tables::OBJECT_WIDTH;
 use tables::TYPE_WIDTH;
 ghost use Prim.Native.Nat.{_≤_};
 
-pub const LENGTH: usize = 31936;
+pub const LENGTH: usize = 32448;
 
 // Where a table starts; past the last, where the words end.
 pub fn base(table: u32) -> u32 {
     match table {
         0 => 0,
         1 => 64,
-        2 => 128,
-        3 => 192,
-        4 => 8384,
-        5 => 18624,
-        6 => 30912,
-        _ => 31936,
+        2 => 576,
+        3 => 640,
+        4 => 704,
+        5 => 8896,
+        6 => 19136,
+        7 => 31424,
+        _ => 32448,
     }
 }
 
-// Where a row of a table starts among its words; a row of the bodies is a rule's.
+// Where a row of a table starts among its words; a row of the bodies is a rule's. The first four tables have two words a row.
 pub fn row(table: u32, number: u32) -> u32 {
     let r = number % 65536;
     match table {
-        3 => r * (BODY_WIDTH * MAX_FORMS),
-        4 => r * OBJECT_WIDTH,
-        5 => r * LINK_WIDTH,
-        6 => r * EVENT_WIDTH,
+        4 => r * (BODY_WIDTH * MAX_FORMS),
+        5 => r * OBJECT_WIDTH,
+        6 => r * LINK_WIDTH,
+        7 => r * EVENT_WIDTH,
         _ => r * TYPE_WIDTH,
     }
 }
 
-// The table that a line is about, by the first letters of its name; 7 where it is about none.
+// The table that a line is about, by the first letters of its name; 8 where it is about none.
 pub fn named(line: &[u8]) -> u32 {
     let second = line::byte(line, 1);
     match line::byte(line, 0) {
         116 => 0,
-        114 => if second == 101 { 1 } else { 2 },
-        98 => 3,
-        111 => 4,
-        108 => if second == 105 { 5 } else { 7 },
-        101 => 6,
-        _ => 7,
+        102 => 1,
+        114 => if second == 101 { 2 } else { 3 },
+        98 => 4,
+        111 => 5,
+        108 => if second == 105 { 6 } else { 8 },
+        101 => 7,
+        _ => 8,
     }
 }
 

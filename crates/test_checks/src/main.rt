@@ -7,17 +7,17 @@ use cases::sheet;
 use tables::Counts;
 use tables::Verdict;
 
-// The words of the tables. After them: how many words of each of the six tables are lent; how many rows of each of the five sections are
+// The words of the tables. After them: how many words of each of the seven tables are lent; how many rows of each of the six sections are
 // used; whether the scratch is too short; and how many cases there were.
-type Words = [u32; 31949];
+type Words = [u32; 32463];
 
-const LENT: u32 = 31936;
+const LENT: u32 = 32448;
 
-const USED: u32 = 31942;
+const USED: u32 = 32455;
 
-const SCRATCH: u32 = 31947;
+const SCRATCH: u32 = 32461;
 
-const CASES: u32 = 31948;
+const CASES: u32 = 32462;
 
 fn of(all: &Words, at: u32) -> u32 {
     sheet::get(all, sheet::size(at))
@@ -29,11 +29,12 @@ fn set(all: &mut Words, at: u32, value: u32) {
 
 fn counts(all: &Words) -> Counts {
     Counts {
-        types: of(all, 31942),
-        relationships: of(all, 31943),
-        rules: of(all, 31944),
-        objects: of(all, 31945),
-        links: of(all, 31946),
+        types: of(all, 32455),
+        floors: of(all, 32456),
+        relationships: of(all, 32457),
+        rules: of(all, 32458),
+        objects: of(all, 32459),
+        links: of(all, 32460),
         events: 0,
     }
 }
@@ -53,6 +54,7 @@ fn ask(all: &Words) -> Verdict {
         part(all, 3),
         part(all, 4),
         part(all, 5),
+        part(all, 6),
         of(all, SCRATCH) == 1,
     )
 }
@@ -96,22 +98,22 @@ fn about_table(line: &[u8], colon: usize, table: u32, all: &mut Words) {
 }
 
 fn lend(line: &[u8], all: &mut Words) {
+    let mut n = [0u32; 7];
+    line::numbers(line, &mut n);
+    put7(all, &n);
+}
+
+fn put7(all: &mut Words, n: &[u32; 7]) {
+    sheet::give(all, LENT, n);
+}
+
+fn use_rows(line: &[u8], all: &mut Words) {
     let mut n = [0u32; 6];
     line::numbers(line, &mut n);
     put6(all, &n);
 }
 
 fn put6(all: &mut Words, n: &[u32; 6]) {
-    sheet::give(all, LENT, n);
-}
-
-fn use_rows(line: &[u8], all: &mut Words) {
-    let mut n = [0u32; 5];
-    line::numbers(line, &mut n);
-    put5(all, &n);
-}
-
-fn put5(all: &mut Words, n: &[u32; 5]) {
     sheet::give(all, USED, n);
 }
 
@@ -136,7 +138,7 @@ fn settle(line: &[u8], colon: usize, all: &mut Words) {
 fn one_line(line: &[u8], all: &mut Words) {
     let colon = line::find(line, 0, 58);
     let table = sheet::named(line);
-    if table < 7 {
+    if table < 8 {
         about_table(line, colon, table, all);
         return;
     }
@@ -144,7 +146,7 @@ fn one_line(line: &[u8], all: &mut Words) {
 }
 
 fn all_lines(input: &[u8]) {
-    let mut all = [0u32; 31949];
+    let mut all = [0u32; 32463];
     let mut at: usize = 0;
     while at < input.len() {
         one_line(line::at(input, at), &mut all);
