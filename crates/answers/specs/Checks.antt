@@ -27,10 +27,10 @@ pub record Room : Type 0 where
 abbrev pub checkRoom : Room
 checkRoom = record { bytes = 8192; objects = 128; links = 512; rules = 8; events = 64; words = 2048 }
 
--- its tables, and those for every type and relationship that there can be, each rows times the words of a row; nothing stands in them yet
+-- its tables, and those for every type, floor and relationship that there can be, each rows times the words of a row; nothing stands in them yet
 unfoldable pub lentSheet : Room → Sheet
 lentSheet room =
-    sheetOf (replicate (32 * 2) 0) (replicate (32 * 2) 0) (replicate (room .rules * 2) 0) (replicate (room .rules * 64 * 4) 0) (replicate (room .objects * 10) 0) (replicate (room .links * 3) 0)
+    sheetOf (replicate (32 * 2) 0) (replicate (256 * 2) 0) (replicate (32 * 2) 0) (replicate (room .rules * 2) 0) (replicate (room .rules * 64 * 4) 0) (replicate (room .objects * 10) 0) (replicate (room .links * 3) 0)
     (replicate (room .events * 4) 0)
 
 unfoldable pub outcomePrinted : Outcome → List ℕ

@@ -15,6 +15,7 @@ ghost use Rattle.answers.specs.Checks.{batchPrinted, checkPrints};
 pub fn check_tables(
     n: Counts,
     types: &[u32],
+    floors: &[u32],
     relationships: &[u32],
     rules: &[u32],
     bodies: &[u32],
@@ -27,13 +28,14 @@ pub fn check_tables(
     out: &mut [u8],
 ) -> usize
     requires { ⌜ (length (now objects) ≤ length (now «scratch_objects»)) × (length (now links) ≤ length (now «scratch_links»)) × (roomFor (length (now list) / 2) ≤ length (now out)) ⌝ }
-    ensures { λ r. ⌜ (let s = sheetOf (now (types .entry)) (now (relationships .entry)) (now (rules .entry)) (now (bodies .entry)) (now (objects .entry)) (now (links .entry)) (now (events .entry)) in
+    ensures { λ r. ⌜ (let s = sheetOf (now (types .entry)) (now (floors .entry)) (now (relationships .entry)) (now (rules .entry)) (now (bodies .entry)) (now (objects .entry)) (now (links .entry)) (now (events .entry)) in
         let bytes = batchPrinted (length (now (list .entry))) n s in
         (now (out .exit) ≡ inFront bytes (now (out .entry))) × (r ≡ length bytes)) ⌝ }
 {
     let checked = batch::check(
         n,
         types,
+        floors,
         relationships,
         rules,
         bodies,
@@ -52,6 +54,7 @@ pub fn check_tables(
 fn check_read(
     n: Counts,
     types: &[u32],
+    floors: &[u32],
     relationships: &[u32],
     rules: &[u32],
     bodies: &[u32],
@@ -61,7 +64,7 @@ fn check_read(
     out: &mut [u8],
 ) -> usize
     requires { ⌜ (length (now objects) ≤ 1280) × (length (now links) ≤ 1536) × (roomFor 1024 ≤ length (now out)) ⌝ }
-    ensures { λ r. ⌜ (let s = sheetOf (now (types .entry)) (now (relationships .entry)) (now (rules .entry)) (now (bodies .entry)) (now (objects .entry)) (now (links .entry)) (now (events .entry)) in
+    ensures { λ r. ⌜ (let s = sheetOf (now (types .entry)) (now (floors .entry)) (now (relationships .entry)) (now (rules .entry)) (now (bodies .entry)) (now (objects .entry)) (now (links .entry)) (now (events .entry)) in
         let bytes = batchPrinted 2048 n s in
         (now (out .exit) ≡ inFront bytes (now (out .entry))) × (r ≡ length bytes)) ⌝ }
 {
@@ -71,6 +74,7 @@ fn check_read(
     check_tables(
         n,
         types,
+        floors,
         relationships,
         rules,
         bodies,
@@ -92,6 +96,7 @@ pub fn check(text: &[u8], out: &mut [u8; 32768]) -> usize
         return refuse(2, 0, out);
     }
     let mut types = [0u32; 64];
+    let mut floors = [0u32; 512];
     let mut relationships = [0u32; 64];
     let mut rules = [0u32; 16];
     let mut bodies = [0u32; 2048];
@@ -101,6 +106,7 @@ pub fn check(text: &[u8], out: &mut [u8; 32768]) -> usize
     match reader::read(
         text,
         &mut types,
+        &mut floors,
         &mut relationships,
         &mut rules,
         &mut bodies,
@@ -112,6 +118,7 @@ pub fn check(text: &[u8], out: &mut [u8; 32768]) -> usize
         Outcome::Done(n) => check_read(
             n,
             &types,
+            &floors,
             &relationships,
             &rules,
             &bodies,

@@ -23,6 +23,7 @@ fn print_tables(
     asked: Asked,
     n: Counts,
     types: &[u32],
+    floors: &[u32],
     relationships: &[u32],
     rules: &[u32],
     bodies: &[u32],
@@ -32,7 +33,7 @@ fn print_tables(
     out: &mut [u8],
 ) -> usize
     requires { ⌜ (length (now objects) ≤ 10240) × (length (now links) ≤ 12288) × (1048576 ≤ length (now out)) ⌝ }
-    ensures { λ r. ⌜ (let s = sheetOf (now (types .entry)) (now (relationships .entry)) (now (rules .entry)) (now (bodies .entry)) (now (objects .entry)) (now (links .entry)) (now (events .entry)) in
+    ensures { λ r. ⌜ (let s = sheetOf (now (types .entry)) (now (floors .entry)) (now (relationships .entry)) (now (rules .entry)) (now (bodies .entry)) (now (objects .entry)) (now (links .entry)) (now (events .entry)) in
         let bytes = tablesPrinted asked n s in
         (now (out .exit) ≡ inFront bytes (now (out .entry))) × (r ≡ length bytes)) ⌝ }
 {
@@ -40,6 +41,7 @@ fn print_tables(
         Asked::Check => park_tables::print_check(
             n,
             types,
+            floors,
             relationships,
             rules,
             bodies,
@@ -51,6 +53,7 @@ fn print_tables(
         Asked::Full => park_tables::print_full(
             n,
             types,
+            floors,
             relationships,
             rules,
             bodies,
@@ -58,10 +61,11 @@ fn print_tables(
             &*links,
             out,
         ),
-        Asked::Events => park_tables::print_events(n, types, relationships, rules, bodies, out),
+        Asked::Events => park_tables::print_events(n, types, floors, relationships, rules, bodies, out),
         Asked::After => park_tables::print_after(
             n,
             types,
+            floors,
             relationships,
             rules,
             bodies,
@@ -81,6 +85,7 @@ pub fn print(asked: Asked, text: &[u8], out: &mut [u8; 1048576]) -> usize
         return printing::refuse(2, 0, out);
     }
     let mut types = [0u32; 64];
+    let mut floors = [0u32; 512];
     let mut relationships = [0u32; 64];
     let mut rules = [0u32; 64];
     let mut bodies = [0u32; 8192];
@@ -90,6 +95,7 @@ pub fn print(asked: Asked, text: &[u8], out: &mut [u8; 1048576]) -> usize
     match reader::read(
         text,
         &mut types,
+        &mut floors,
         &mut relationships,
         &mut rules,
         &mut bodies,
@@ -102,6 +108,7 @@ pub fn print(asked: Asked, text: &[u8], out: &mut [u8; 1048576]) -> usize
             asked,
             n,
             &types,
+            &floors,
             &relationships,
             &rules,
             &bodies,

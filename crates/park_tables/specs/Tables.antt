@@ -49,6 +49,7 @@ unfoldable pub countsLeft : Outcome → Counts → Counts
 countsLeft o n =
     record {
       types = n .types;
+      floors = n .floors;
       relationships = n .relationships;
       rules = n .rules;
       objects = length (o .register .objects);
@@ -59,7 +60,7 @@ countsLeft o n =
 -- the tables after a batch, without its events
 unfoldable pub sheetLeft : Outcome → Sheet → Sheet
 sheetLeft o s =
-    sheetOf (s .types) (s .relationships) (s .rules) (s .bodies)
+    sheetOf (s .types) (s .floors) (s .relationships) (s .rules) (s .bodies)
     (tableAfter (o .answer) (flatMap objectWords (o .register .objects)) (s .objects))
     (tableAfter (o .answer) (flatMap linkWords (o .register .links)) (s .links))
     []

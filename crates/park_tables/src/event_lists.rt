@@ -21,18 +21,19 @@ fn rule_line(
     at: usize,
     n: Counts,
     types: &[u32],
+    floors: &[u32],
     relationships: &[u32],
     rules: &[u32],
     bodies: &[u32],
     rule: u32,
 ) -> usize
-    requires { ⌜ (lentBookRefusal n (sheetOf (now types) (now relationships) (now rules) (now bodies) [] [] []) ≡ none) × («rule» < n .rules) ⌝ }
-    ensures { λ r. ⌜ (let k = bookOf n (sheetOf (now (types .entry)) (now (relationships .entry)) (now (rules .entry)) (now (bodies .entry)) [] [] []) in
+    requires { ⌜ (lentBookRefusal n (sheetOf (now types) (now floors) (now relationships) (now rules) (now bodies) [] [] []) ≡ none) × («rule» < n .rules) ⌝ }
+    ensures { λ r. ⌜ (let k = bookOf n (sheetOf (now (types .entry)) (now (floors .entry)) (now (relationships .entry)) (now (rules .entry)) (now (bodies .entry)) [] [] []) in
         let bytes = eventsLine «rule» (listOf k «rule») in
         (Put (now (out .entry)) at bytes (now (out .exit)) r) × (length bytes ≤ roomForEvents 1792)) ⌝ }
 {
     let mut words = [0u16; 5376];
-    match event_list::list(n, types, relationships, rules, bodies, rule, &mut words) {
+    match event_list::list(n, types, floors, relationships, rules, bodies, rule, &mut words) {
         Listed::Refused(_, _) => at,
         Listed::Types(count) => event_lines::line(out, at, rule, count, &words),
     }
@@ -43,12 +44,13 @@ fn rule_lines(
     out: &mut [u8],
     n: Counts,
     types: &[u32],
+    floors: &[u32],
     relationships: &[u32],
     rules: &[u32],
     bodies: &[u32],
 ) -> usize
-    requires { ⌜ lentBookRefusal n (sheetOf (now types) (now relationships) (now rules) (now bodies) [] [] []) ≡ none ⌝ }
-    ensures { λ r. ⌜ (let bytes = ruleLines (bookOf n (sheetOf (now (types .entry)) (now (relationships .entry)) (now (rules .entry)) (now (bodies .entry)) [] [] [])) (n .rules) in
+    requires { ⌜ lentBookRefusal n (sheetOf (now types) (now floors) (now relationships) (now rules) (now bodies) [] [] []) ≡ none ⌝ }
+    ensures { λ r. ⌜ (let bytes = ruleLines (bookOf n (sheetOf (now (types .entry)) (now (floors .entry)) (now (relationships .entry)) (now (rules .entry)) (now (bodies .entry)) [] [] [])) (n .rules) in
         (Put (now (out .entry)) 0 bytes (now (out .exit)) r) × (length bytes ≤ roomForEvents 1792 * n .rules)) ⌝ }
 {
     let mut next: usize = 0;
@@ -59,6 +61,7 @@ fn rule_lines(
             next,
             n,
             types,
+            floors,
             relationships,
             rules,
             bodies,
@@ -73,17 +76,18 @@ fn rule_lines(
 pub fn print_events(
     n: Counts,
     types: &[u32],
+    floors: &[u32],
     relationships: &[u32],
     rules: &[u32],
     bodies: &[u32],
     out: &mut [u8],
 ) -> usize
     requires { ⌜ roomForEvents 1792 * 32 ≤ length (now out) ⌝ }
-    ensures { λ r. ⌜ (let bytes = eventsPrinted n (sheetOf (now (types .entry)) (now (relationships .entry)) (now (rules .entry)) (now (bodies .entry)) [] [] []) in
+    ensures { λ r. ⌜ (let bytes = eventsPrinted n (sheetOf (now (types .entry)) (now (floors .entry)) (now (relationships .entry)) (now (rules .entry)) (now (bodies .entry)) [] [] []) in
         (now (out .exit) ≡ inFront bytes (now (out .entry))) × (r ≡ length bytes)) ⌝ }
 {
-    match event_list::book_verdict(n, types, relationships, rules, bodies) {
+    match event_list::book_verdict(n, types, floors, relationships, rules, bodies) {
         Verdict::Refused(number, place) => printing::refuse(number, place, out),
-        Verdict::Clear => rule_lines(out, n, types, relationships, rules, bodies),
+        Verdict::Clear => rule_lines(out, n, types, floors, relationships, rules, bodies),
     }
 }

@@ -15,6 +15,7 @@ ghost use Rattle.park_tables.specs.Tables.{textPrinted, afterPrinted};
 fn print_text(
     n: Counts,
     types: &[u32],
+    floors: &[u32],
     relationships: &[u32],
     rules: &[u32],
     bodies: &[u32],
@@ -23,7 +24,7 @@ fn print_text(
     out: &mut [u8],
 ) -> usize
     requires { ⌜ 65536 ≤ length (now out) ⌝ }
-    ensures { λ r. ⌜ (let s = sheetOf (now (types .entry)) (now (relationships .entry)) (now (rules .entry)) (now (bodies .entry)) (now (objects .entry)) (now (links .entry)) [] in
+    ensures { λ r. ⌜ (let s = sheetOf (now (types .entry)) (now (floors .entry)) (now (relationships .entry)) (now (rules .entry)) (now (bodies .entry)) (now (objects .entry)) (now (links .entry)) [] in
         let bytes = textPrinted n s in
         (now (out .exit) ≡ inFront bytes (now (out .entry))) × (r ≡ length bytes)) ⌝ }
 {
@@ -31,6 +32,7 @@ fn print_text(
     match writer::write(
         n,
         types,
+        floors,
         relationships,
         rules,
         bodies,
@@ -48,6 +50,7 @@ fn print_text(
 pub fn print_after(
     n: Counts,
     types: &[u32],
+    floors: &[u32],
     relationships: &[u32],
     rules: &[u32],
     bodies: &[u32],
@@ -57,7 +60,7 @@ pub fn print_after(
     out: &mut [u8],
 ) -> usize
     requires { ⌜ (length (now objects) ≤ 10240) × (length (now links) ≤ 12288) × (roomFor 32768 ≤ length (now out)) ⌝ }
-    ensures { λ r. ⌜ (let s = sheetOf (now (types .entry)) (now (relationships .entry)) (now (rules .entry)) (now (bodies .entry)) (now (objects .entry)) (now (links .entry)) (now (events .entry)) in
+    ensures { λ r. ⌜ (let s = sheetOf (now (types .entry)) (now (floors .entry)) (now (relationships .entry)) (now (rules .entry)) (now (bodies .entry)) (now (objects .entry)) (now (links .entry)) (now (events .entry)) in
         let bytes = afterPrinted 65536 n s in
         (now (out .exit) ≡ inFront bytes (now (out .entry))) × (r ≡ length bytes)) ⌝ }
 {
@@ -67,6 +70,7 @@ pub fn print_after(
     let checked = batch::check(
         n,
         types,
+        floors,
         relationships,
         rules,
         bodies,
@@ -80,6 +84,7 @@ pub fn print_after(
     let answer = checked.answer;
     let left = Counts {
         types: n.types,
+        floors: n.floors,
         relationships: n.relationships,
         rules: n.rules,
         objects: checked.objects,
@@ -90,6 +95,7 @@ pub fn print_after(
         return print_text(
             left,
             types,
+            floors,
             relationships,
             rules,
             bodies,

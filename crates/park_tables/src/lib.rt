@@ -19,6 +19,7 @@ ghost use Rattle.park_tables.specs.Tables.{fullPrinted};
 pub fn print_full(
     n: Counts,
     types: &[u32],
+    floors: &[u32],
     relationships: &[u32],
     rules: &[u32],
     bodies: &[u32],
@@ -27,11 +28,11 @@ pub fn print_full(
     out: &mut [u8],
 ) -> usize
     requires { ⌜ roomFor 0 ≤ length (now out) ⌝ }
-    ensures { λ r. ⌜ (let s = sheetOf (now (types .entry)) (now (relationships .entry)) (now (rules .entry)) (now (bodies .entry)) (now (objects .entry)) (now (links .entry)) [] in
+    ensures { λ r. ⌜ (let s = sheetOf (now (types .entry)) (now (floors .entry)) (now (relationships .entry)) (now (rules .entry)) (now (bodies .entry)) (now (objects .entry)) (now (links .entry)) [] in
         let bytes = fullPrinted n s in
         (now (out .exit) ≡ inFront bytes (now (out .entry))) × (r ≡ length bytes)) ⌝ }
 {
-    let answer = full::check(n, types, relationships, rules, bodies, objects, links);
+    let answer = full::check(n, types, floors, relationships, rules, bodies, objects, links);
     let none = [0u32; 1];
     printing::print(answer, 0, &none, out)
 }
@@ -40,6 +41,7 @@ pub fn print_full(
 pub fn print_check(
     n: Counts,
     types: &[u32],
+    floors: &[u32],
     relationships: &[u32],
     rules: &[u32],
     bodies: &[u32],
@@ -49,7 +51,7 @@ pub fn print_check(
     out: &mut [u8],
 ) -> usize
     requires { ⌜ (length (now objects) ≤ 10240) × (length (now links) ≤ 12288) × (roomFor 32768 ≤ length (now out)) ⌝ }
-    ensures { λ r. ⌜ (let s = sheetOf (now (types .entry)) (now (relationships .entry)) (now (rules .entry)) (now (bodies .entry)) (now (objects .entry)) (now (links .entry)) (now (events .entry)) in
+    ensures { λ r. ⌜ (let s = sheetOf (now (types .entry)) (now (floors .entry)) (now (relationships .entry)) (now (rules .entry)) (now (bodies .entry)) (now (objects .entry)) (now (links .entry)) (now (events .entry)) in
         let bytes = batchPrinted 65536 n s in
         (now (out .exit) ≡ inFront bytes (now (out .entry))) × (r ≡ length bytes)) ⌝ }
 {
@@ -59,6 +61,7 @@ pub fn print_check(
     answers::check_tables(
         n,
         types,
+        floors,
         relationships,
         rules,
         bodies,

@@ -11,7 +11,7 @@ use Rattle.tables.specs.declared.Verdict.{Verdict}
 use Rattle.tables.specs.declared.Verdict.the-variants as Verdicts
 use Rattle.event_list.specs.declared.Listed.{Listed}
 use Rattle.event_list.specs.declared.Listed.the-variants as Listeds
-use Rattle.text.specs.Names.{typeName, relationshipName, ruleName, objectName, linkName}
+use Rattle.text.specs.Names.{typeName, floorName, relationshipName, ruleName, objectName, linkName}
 use Rattle.text.specs.Entries.{eventSection, countOf}
 use Rattle.text.specs.Texts.{Reading, taken, refused}
 use Rattle.reader.specs.declared.Outcome.{Outcome}
@@ -30,12 +30,12 @@ answerWords accepted = 0 ∷ 0 ∷ 0 ∷ []
 answerWords (brokenAt rule id) = 1 ∷ rule ∷ id ∷ []
 answerWords (Meaning.refused number place) = 2 ∷ number ∷ place ∷ []
 
--- a reading as seven words: 0 and the rows of the six sections; 1, number, line, and zeros
+-- a reading as eight words: 0 and the rows of the seven sections; 1, number, line, and zeros
 unfoldable pub readWords : Reading → List ℕ
 readWords (taken es) =
-    0 ∷ countOf typeName es ∷ countOf relationshipName es ∷ countOf ruleName es ∷ countOf objectName es ∷ countOf linkName es
+    0 ∷ countOf typeName es ∷ countOf floorName es ∷ countOf relationshipName es ∷ countOf ruleName es ∷ countOf objectName es ∷ countOf linkName es
     ∷ countOf eventSection es ∷ []
-readWords (refused number line) = 1 ∷ number ∷ line ∷ 0 ∷ 0 ∷ 0 ∷ 0 ∷ []
+readWords (refused number line) = 1 ∷ number ∷ line ∷ 0 ∷ 0 ∷ 0 ∷ 0 ∷ 0 ∷ []
 
 -- an event list's answer as three words: 0, how many event types, 0; or 1, number, place
 abbrev pub listedWords : Listed → List ℕ
@@ -59,8 +59,8 @@ saidWords (Answers.Broken rule id) = 1 ∷ rule ∷ id ∷ []
 saidWords (Answers.Refused number place) = 2 ∷ number ∷ place ∷ []
 
 abbrev pub doneWords : Outcome → List ℕ
-doneWords (Outcomes.Done n) = 0 ∷ n .types ∷ n .relationships ∷ n .rules ∷ n .objects ∷ n .links ∷ n .events ∷ []
-doneWords (Outcomes.Refused number line) = 1 ∷ number ∷ line ∷ 0 ∷ 0 ∷ 0 ∷ 0 ∷ []
+doneWords (Outcomes.Done n) = 0 ∷ n .types ∷ n .floors ∷ n .relationships ∷ n .rules ∷ n .objects ∷ n .links ∷ n .events ∷ []
+doneWords (Outcomes.Refused number line) = 1 ∷ number ∷ line ∷ 0 ∷ 0 ∷ 0 ∷ 0 ∷ 0 ∷ []
 
 -- a run of a batch: 0 and the used rows of objects and links after it; or 1, number, place
 abbrev pub ranWords : Verdict → (objects links : ℕ) → List ℕ

@@ -76,20 +76,21 @@ pub fn written(w: Written) -> [u32; 3]
     }
 }
 
-// 0 and the rows of the six sections; or 1, a refusal's number, its line, and zeros.
-pub fn reading(o: Outcome) -> [u32; 7]
+// 0 and the rows of the seven sections; or 1, a refusal's number, its line, and zeros.
+pub fn reading(o: Outcome) -> [u32; 8]
     ensures { λ r. ⌜ r ≡ doneWords o ⌝ }
 {
     match o {
         Outcome::Done(n) => [
             0,
             n.types,
+            n.floors,
             n.relationships,
             n.rules,
             n.objects,
             n.links,
             n.events,
         ],
-        Outcome::Refused(number, line) => [1, number, line, 0, 0, 0, 0],
+        Outcome::Refused(number, line) => [1, number, line, 0, 0, 0, 0, 0],
     }
 }
