@@ -39,6 +39,9 @@ slice-aggregate-read-6 c = search needs
 slice-aggregate-read-7 : tie.Need-slice-aggregate-read-7
 slice-aggregate-read-7 c = search needs
 
+slice-aggregate-read-8 : tie.Need-slice-aggregate-read-8
+slice-aggregate-read-8 c = search needs
+
 read-requires : tie.Need-read-requires
 read-requires c κs = search needs
 
@@ -72,6 +75,9 @@ slice-aggregate-check-read-6 c = search needs
 slice-aggregate-check-read-7 : tie.Need-slice-aggregate-check-read-7
 slice-aggregate-check-read-7 c = search needs
 
+slice-aggregate-check-read-8 : tie.Need-slice-aggregate-check-read-8
+slice-aggregate-check-read-8 c = search needs
+
 check-read-requires : tie.Need-check-read-requires
 check-read-requires c κs = search needs
 
@@ -79,8 +85,8 @@ returns-2 : tie.Need-returns-2
 unfolding lentSheet checkPrints
 returns-2 c =
     let at-match = c .before .before .before in
-    let at-read = at-match .before .before .before .before .before .before .before .before .before in
-    let at-else = at-read .before .before .before .before .before .before .before .before in
+    let at-read = at-match .before .before .before .before .before .before .before .before .before .before in
+    let at-else = at-read .before .before .before .before .before .before .before .before .before in
     let start = at-else .before .before in
     let e = read-refused checkRoom (batchPrinted 2048) (start .args .text .now) (at-else .if1 .left) (sym (at-match .number .given .1) ∙ at-read .read .ensures .0) in
     (c .refuse2 .ensures .0 ∙ ap (λ b. inFront b (start .args .out .now)) e, c .refuse2 .ensures .1 ∙ ap length e)
@@ -89,9 +95,9 @@ returns-3 : tie.Need-returns-3
 unfolding lentSheet checkPrints
 returns-3 c =
     let at-check = c .before .before in
-    let at-match = at-check .before .before .before .before .before .before .before .before .before .before in
-    let at-read = at-match .before .before .before .before .before .before .before .before .before in
-    let at-else = at-read .before .before .before .before .before .before .before .before in
+    let at-match = at-check .before .before .before .before .before .before .before .before .before .before .before in
+    let at-read = at-match .before .before .before .before .before .before .before .before .before .before in
+    let at-else = at-read .before .before .before .before .before .before .before .before .before in
     let start = at-else .before .before in
     let e = read-done checkRoom (batchPrinted 2048) (start .args .text .now) (at-else .if1 .left) (sym (at-match .n .given .1) ∙ at-read .read .ensures .0) (at-read .read .ensures .1) in
     (at-check .check-read .ensures .0 ∙ ap (λ b. inFront b (start .args .out .now)) e, at-check .check-read .ensures .1 ∙ ap length e)
@@ -109,6 +115,7 @@ check-spec =
     slice-aggregate-read-5
     slice-aggregate-read-6
     slice-aggregate-read-7
+    slice-aggregate-read-8
     read-requires
     enum-known-number
     refuse-requires-2
@@ -120,6 +127,7 @@ check-spec =
     slice-aggregate-check-read-5
     slice-aggregate-check-read-6
     slice-aggregate-check-read-7
+    slice-aggregate-check-read-8
     check-read-requires
     returns-2
     returns-3)

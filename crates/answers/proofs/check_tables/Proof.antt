@@ -10,7 +10,7 @@ use Rattle.answers.proofs.check_tables.Statement.{statement}
 use Rattle.answers.proofs.check_tables.Tie as tie
 
 abbrev start-of : tie.After-check → tie.Start
-start-of c = c .before .before .before .before .before .before .before .before .before .before .before .before .before .before .before .before .before
+start-of c = c .before .before .before .before .before .before .before .before .before .before .before .before .before .before .before .before .before .before
 
 check-requires : tie.Need-check-requires
 check-requires c κs = search needs
@@ -20,7 +20,7 @@ print-requires c κs =
     let at-check = c .before .before .before .before .before .before .before .before .before .before .before .before in
     let start = start-of at-check in
     let few = pairs-within (at-check .check .ensures) in
-    let long = at-check .check .kept .1 .1 .1 .1 .1 .1 .1 .1 .1 .1 .0 in
+    let long = at-check .check .kept .1 .1 .1 .1 .1 .1 .1 .1 .1 .1 .1 .0 in
     omega (arith, few, long, start .pre .2)
 
 same-length : tie.Need-same-length
@@ -47,7 +47,7 @@ returns c =
     let at-check = at-print .before .before .before .before .before .before .before .before .before .before .before .before .before in
     let start = start-of at-check in
     let a = start .args in
-    let s = sheetOf (a .types .now) (a .relationships .now) (a .rules .now) (a .bodies .now) (a .objects .now) (a .links .now) (a .events .now) in
+    let s = sheetOf (a .types .now) (a .floors .now) (a .relationships .now) (a .rules .now) (a .bodies .now) (a .objects .now) (a .links .now) (a .events .now) in
     let long = long-enough (a .objects .now) (a .links .now) (a .scratch-objects .now) (a .scratch-links .now) (start .pre .0) (start .pre .1) in
     let e = outcome-is (at-check .check .ensures) ∙ lent-outcome (a .n) s (length (a .list .now)) long in
     (at-print .print .ensures .0 ∙ ap (λ b. inFront b (a .out .now)) e, at-print .print .ensures .1 ∙ ap length e)
