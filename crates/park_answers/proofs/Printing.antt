@@ -22,22 +22,22 @@ module _ (n : Counts) where
   unfolding tablesPrinted
   after-asked s e = ap (λ a. tablesPrinted a n s) (sym e)
 
-  module _ (types relationships rules bodies objects links events : List ℕ) where
+  module _ (types floors relationships rules bodies objects links events : List ℕ) where
     abbrev s : Sheet
-    s = sheetOf types relationships rules bodies objects links events
+    s = sheetOf types floors relationships rules bodies objects links events
 
-    full-alone : fullPrinted n (sheetOf types relationships rules bodies objects links []) ≡ fullPrinted n s
+    full-alone : fullPrinted n (sheetOf types floors relationships rules bodies objects links []) ≡ fullPrinted n s
     unfolding fullPrinted lentAnswer tableRefusal bookTables
     full-alone = refl
 
-    pub full-asked : {asked : Asked} → asked ≡ Full → fullPrinted n (sheetOf types relationships rules bodies objects links []) ≡ tablesPrinted asked n s
+    pub full-asked : {asked : Asked} → asked ≡ Full → fullPrinted n (sheetOf types floors relationships rules bodies objects links []) ≡ tablesPrinted asked n s
     unfolding tablesPrinted
     full-asked e = full-alone ∙ ap (λ a. tablesPrinted a n s) (sym e)
 
-    events-alone : eventsPrinted n (sheetOf types relationships rules bodies [] [] []) ≡ eventsPrinted n s
+    events-alone : eventsPrinted n (sheetOf types floors relationships rules bodies [] [] []) ≡ eventsPrinted n s
     unfolding eventsPrinted lentBookRefusal tableRefusal ruleTables
     events-alone = refl
 
-    pub events-asked : {asked : Asked} → asked ≡ Events → eventsPrinted n (sheetOf types relationships rules bodies [] [] []) ≡ tablesPrinted asked n s
+    pub events-asked : {asked : Asked} → asked ≡ Events → eventsPrinted n (sheetOf types floors relationships rules bodies [] [] []) ≡ tablesPrinted asked n s
     unfolding tablesPrinted
     events-asked e = events-alone ∙ ap (λ a. tablesPrinted a n s) (sym e)

@@ -38,22 +38,22 @@ module _ (k : Book) where
 
 -- ---- a rule of a book that is not refused, with words for every event type
 
-module _ (n : Counts) (types relationships rules bodies : List ℕ) (rule : ℕ) (words : List ℕ) where
+module _ (n : Counts) (types floors relationships rules bodies : List ℕ) (rule : ℕ) (words : List ℕ) where
   abbrev s : Sheet
-  s = sheetOf types relationships rules bodies [] [] []
+  s = sheetOf types floors relationships rules bodies [] [] []
 
   abbrev es : List EventType
   es = listOf (bookOf n s) rule
 
   module _ (clear : lentBookRefusal n s ≡ none) (known : rule < n .rules) (lent : length words ≡ 5376) where
     not-refused : Clear ≡ verdictOf (ruleRefusal n s rule)
-    not-refused = rule-known n types relationships rules bodies rule (sym (ap verdictOf clear)) known
+    not-refused = rule-known n types floors relationships rules bodies rule (sym (ap verdictOf clear)) known
 
     fits : (answer n s rule (length words) ≡ Types (length es)) × (listAfter n s rule words ≡ inFront (listWords es) words)
-    fits = list-fits n types relationships rules bodies rule not-refused words (omega arith)
+    fits = list-fits n types floors relationships rules bodies rule not-refused words (omega arith)
 
     few : length es ≤ 1792
-    few = few-listed n types relationships rules bodies rule not-refused
+    few = few-listed n types floors relationships rules bodies rule not-refused
 
     pub never-refused : {number place : ℕ} → Refused number place ≡ answer n s rule (length words) → ⊥
     never-refused e = let is = fits .0 in let z : _≡_ {A = ℕ} 0 1 = cc in omega arith

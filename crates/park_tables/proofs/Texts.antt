@@ -63,17 +63,17 @@ not-accepted (Refused number place) w e = let z : _≡_ {A = ℕ} 0 1 = cc in om
 -- ---- what a batch check leaves
 
 module _ {o : Outcome} {list list′ objects links objects′ links′ : List ℕ} {r : Checked} (left : Left o list objects links r list′ objects′ links′)
-    (n : Counts) (types relationships rules bodies events : List ℕ) where
+    (n : Counts) (types floors relationships rules bodies events : List ℕ) where
   abbrev s : Sheet
-  s = sheetOf types relationships rules bodies objects links events
+  s = sheetOf types floors relationships rules bodies objects links events
 
   -- an accepted batch
   pub text-left : r .answer ≡ Accepted
-      → textPrinted (record { types = n .types; relationships = n .relationships; rules = n .rules; objects = r .objects; links = r .links; events = 0 }) (sheetOf types relationships rules bodies objects′ links′ [])
+      → textPrinted (record { types = n .types; floors = n .floors; relationships = n .relationships; rules = n .rules; objects = r .objects; links = r .links; events = 0 }) (sheetOf types floors relationships rules bodies objects′ links′ [])
       ≡ leftPrinted o n s
   unfolding leftPrinted countsLeft sheetLeft
   text-left e =
-      (λ i. textPrinted (record { types = n .types; relationships = n .relationships; rules = n .rules; objects = left .objects-used i; links = left .links-used i; events = 0 }) (sheetOf types relationships rules bodies (left .objects-are i) (left .links-are i) []))
+      (λ i. textPrinted (record { types = n .types; floors = n .floors; relationships = n .relationships; rules = n .rules; objects = left .objects-used i; links = left .links-used i; events = 0 }) (sheetOf types floors relationships rules bodies (left .objects-are i) (left .links-are i) []))
       ∙ if-accepted (o .answer) _ (outcomePrinted o) (sym (left .answer-is) ∙ e)
 
   -- any other

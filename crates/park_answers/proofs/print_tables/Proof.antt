@@ -46,7 +46,7 @@ returns c =
     let at-call = c .before .before .before .before .before .before in
     let at-told = at-call .before .before .before .before in
     let a = at-told .before .before .before .before .before .before .before .before .before .before .args in
-    let e = check-asked (a .n) (sheetOf (a .types .now) (a .relationships .now) (a .rules .now) (a .bodies .now) (a .objects .now) (a .links .now) (a .events .now)) (at-told .enum-told .given .1) in
+    let e = check-asked (a .n) (sheetOf (a .types .now) (a .floors .now) (a .relationships .now) (a .rules .now) (a .bodies .now) (a .objects .now) (a .links .now) (a .events .now)) (at-told .enum-told .given .1) in
     (at-call .print-check .ensures .0 ∙ ap (λ b. inFront b (a .out .now)) e, at-call .print-check .ensures .1 ∙ ap length e)
 
 same-length-4 : tie.Need-same-length-4
@@ -63,7 +63,7 @@ returns-2 c =
     let at-call = c .before .before in
     let at-told = at-call .before .before .before .before in
     let a = at-told .before .before .before .before .before .before .before .before .before .before .args in
-    let e = full-asked (a .n) (a .types .now) (a .relationships .now) (a .rules .now) (a .bodies .now) (a .objects .now) (a .links .now) (a .events .now) (at-told .enum-told2 .given .1) in
+    let e = full-asked (a .n) (a .types .now) (a .floors .now) (a .relationships .now) (a .rules .now) (a .bodies .now) (a .objects .now) (a .links .now) (a .events .now) (at-told .enum-told2 .given .1) in
     (at-call .print-full .ensures .0 ∙ ap (λ b. inFront b (a .out .now)) e, at-call .print-full .ensures .1 ∙ ap length e)
 
 same-length-7 : tie.Need-same-length-7
@@ -74,7 +74,7 @@ returns-3 c =
     let at-call = c .before .before in
     let at-told = at-call .before .before in
     let a = at-told .before .before .before .before .before .before .before .before .before .before .args in
-    let e = events-asked (a .n) (a .types .now) (a .relationships .now) (a .rules .now) (a .bodies .now) (a .objects .now) (a .links .now) (a .events .now) (at-told .enum-told3 .given .1) in
+    let e = events-asked (a .n) (a .types .now) (a .floors .now) (a .relationships .now) (a .rules .now) (a .bodies .now) (a .objects .now) (a .links .now) (a .events .now) (at-told .enum-told3 .given .1) in
     (at-call .print-events .ensures .0 ∙ ap (λ b. inFront b (a .out .now)) e, at-call .print-events .ensures .1 ∙ ap length e)
 
 same-length-8 : tie.Need-same-length-8
@@ -91,7 +91,7 @@ returns-4 c =
     let at-call = c .before .before .before .before .before .before in
     let at-told = at-call .before .before .before .before in
     let a = at-told .before .before .before .before .before .before .before .before .before .before .args in
-    let e = after-asked (a .n) (sheetOf (a .types .now) (a .relationships .now) (a .rules .now) (a .bodies .now) (a .objects .now) (a .links .now) (a .events .now)) (at-told .enum-told4 .given .1) in
+    let e = after-asked (a .n) (sheetOf (a .types .now) (a .floors .now) (a .relationships .now) (a .rules .now) (a .bodies .now) (a .objects .now) (a .links .now) (a .events .now)) (at-told .enum-told4 .given .1) in
     (at-call .print-after .ensures .0 ∙ ap (λ b. inFront b (a .out .now)) e, at-call .print-after .ensures .1 ∙ ap length e)
 
 pub print-tables-spec : {M : Type 1} → statement M

@@ -29,8 +29,8 @@ unfolding fullPrinted
 returns c =
     let at-print = c .before .before in
     let at-check = at-print .before .before .before in
-    let a = at-check .before .before .before .before .before .before .before .before .args in
-    let s = sheetOf (a .types .now) (a .relationships .now) (a .rules .now) (a .bodies .now) (a .objects .now) (a .links .now) [] in
+    let a = at-check .before .before .before .before .before .before .before .before .before .args in
+    let s = sheetOf (a .types .now) (a .floors .now) (a .relationships .now) (a .rules .now) (a .bodies .now) (a .objects .now) (a .links .now) [] in
     let e = ap (λ a. printed a []) (ap meant (at-check .check .ensures) ∙ meant-back (lentAnswer (a .n) s)) in
     (at-print .print .ensures .0 ∙ ap (λ b. inFront b (a .out .now)) e, at-print .print .ensures .1 ∙ ap length e)
 

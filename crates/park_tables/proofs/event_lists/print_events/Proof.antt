@@ -18,12 +18,12 @@ use Rattle.park_tables.proofs.event_lists.print_events.Statement.{state
 use Rattle.park_tables.proofs.event_lists.print_events.Tie as tie
 
 abbrev start-of : tie.After-book-verdict → tie.Start
-start-of c = c .before .before .before .before .before .before
+start-of c = c .before .before .before .before .before .before .before
 
 abbrev sheet : tie.After-book-verdict → Sheet
 sheet c =
     let a = start-of c .args in
-    sheetOf (a .types .now) (a .relationships .now) (a .rules .now) (a .bodies .now) [] [] []
+    sheetOf (a .types .now) (a .floors .now) (a .relationships .now) (a .rules .now) (a .bodies .now) [] [] []
 
 book-verdict-requires : tie.Need-book-verdict-requires
 book-verdict-requires c κs = search needs
@@ -69,7 +69,7 @@ returns-2 c =
     let lines = at-lines .rule-lines .ensures in
     let clear = clear-none (lentBookRefusal (a .n) (sheet at-book)) (sym (at-told .enum-told .given .1) ∙ at-book .book-verdict .ensures) in
     let e = verdict-clear (ruleLines (bookOf (a .n) (sheet at-book)) (a .n .rules)) (lentBookRefusal (a .n) (sheet at-book)) clear in
-    let few = few-rules (a .n) (a .types .now) (a .relationships .now) (a .rules .now) (a .bodies .now) clear in
+    let few = few-rules (a .n) (a .types .now) (a .floors .now) (a .relationships .now) (a .rules .now) (a .bodies .now) clear in
     put-front (put-as (lines .0) e) (omega (arith, few, lines .1, start .pre, ap length e))
 
 pub print-events-spec : {M : Type 1} → statement M

@@ -9,7 +9,7 @@ use Rattle.park_tables.proofs.event_lists.rule_line.Statement.{statemen
 use Rattle.park_tables.proofs.event_lists.rule_line.Tie as tie
 
 abbrev start-of : tie.After-list → tie.Start
-start-of c = c .before .before .before .before .before .before .before
+start-of c = c .before .before .before .before .before .before .before .before
 
 slice-aggregate-list : tie.Need-slice-aggregate-list
 slice-aggregate-list c = search needs
@@ -34,8 +34,8 @@ line-requires c κs =
     let a = start .args in
     let told = sym (at-count .count .given .1) ∙ at-list .list .ensures .0 in
     let left = at-list .list .ensures .1 in (
-      words-there (a .n) (a .types .now) (a .relationships .now) (a .rules .now) (a .bodies .now) (a .«rule») (replicate 5376 0) (start .pre .0) (start .pre .1) (length-replicate {A = ℕ} 5376 0) told left (at-list .list .kept .1 .1 .1 .1 .1 .1 .0 ∙ length-replicate {A = ℕ} 5376 0),
-      kinds-there (a .n) (a .types .now) (a .relationships .now) (a .rules .now) (a .bodies .now) (a .«rule») (replicate 5376 0) (start .pre .0) (start .pre .1) (length-replicate {A = ℕ} 5376 0) told left,
+      words-there (a .n) (a .types .now) (a .floors .now) (a .relationships .now) (a .rules .now) (a .bodies .now) (a .«rule») (replicate 5376 0) (start .pre .0) (start .pre .1) (length-replicate {A = ℕ} 5376 0) told left (at-list .list .kept .1 .1 .1 .1 .1 .1 .1 .0 ∙ length-replicate {A = ℕ} 5376 0),
+      kinds-there (a .n) (a .types .now) (a .floors .now) (a .relationships .now) (a .rules .now) (a .bodies .now) (a .«rule») (replicate 5376 0) (start .pre .0) (start .pre .1) (length-replicate {A = ℕ} 5376 0) told left,
     )
 
 returns : tie.Need-returns
@@ -44,7 +44,7 @@ returns c =
     let start = start-of at-list in
     let a = start .args in
     absurd
-    (never-refused (a .n) (a .types .now) (a .relationships .now) (a .rules .now) (a .bodies .now) (a .«rule») (replicate 5376 0) (start .pre .0) (start .pre .1) (length-replicate {A = ℕ} 5376 0)
+    (never-refused (a .n) (a .types .now) (a .floors .now) (a .relationships .now) (a .rules .now) (a .bodies .now) (a .«rule») (replicate 5376 0) (start .pre .0) (start .pre .1) (length-replicate {A = ℕ} 5376 0)
     (sym (c .enum-told .given .1) ∙ at-list .list .ensures .0))
 
 same-length : tie.Need-same-length
@@ -59,8 +59,8 @@ returns-2 c =
     let told = sym (at-count .count .given .1) ∙ at-list .list .ensures .0 in
     let left = at-list .list .ensures .1 in
     let line = c .before .before .line .ensures in (
-      put-as (line .0) (line-same (a .n) (a .types .now) (a .relationships .now) (a .rules .now) (a .bodies .now) (a .«rule») (replicate 5376 0) (start .pre .0) (start .pre .1) (length-replicate {A = ℕ} 5376 0) told left),
-      line-short (a .n) (a .types .now) (a .relationships .now) (a .rules .now) (a .bodies .now) (a .«rule») (replicate 5376 0) (start .pre .0) (start .pre .1) (length-replicate {A = ℕ} 5376 0) told left (line .1),
+      put-as (line .0) (line-same (a .n) (a .types .now) (a .floors .now) (a .relationships .now) (a .rules .now) (a .bodies .now) (a .«rule») (replicate 5376 0) (start .pre .0) (start .pre .1) (length-replicate {A = ℕ} 5376 0) told left),
+      line-short (a .n) (a .types .now) (a .floors .now) (a .relationships .now) (a .rules .now) (a .bodies .now) (a .«rule») (replicate 5376 0) (start .pre .0) (start .pre .1) (length-replicate {A = ℕ} 5376 0) told left (line .1),
     )
 
 pub rule-line-spec : {M : Type 1} → statement M

@@ -11,12 +11,12 @@ use Rattle.park_tables.proofs.left.print_after.Statement.{statement}
 use Rattle.park_tables.proofs.left.print_after.Tie as tie
 
 abbrev start-of : tie.After-check → tie.Start
-start-of c = c .before .before .before .before .before .before .before .before .before .before .before .before .before .before
+start-of c = c .before .before .before .before .before .before .before .before .before .before .before .before .before .before .before
 
 abbrev sheet : tie.After-check → Sheet
 sheet c =
     let a = start-of c .args in
-    sheetOf (a .types .now) (a .relationships .now) (a .rules .now) (a .bodies .now) (a .objects .now) (a .links .now) (a .events .now)
+    sheetOf (a .types .now) (a .floors .now) (a .relationships .now) (a .rules .now) (a .bodies .now) (a .objects .now) (a .links .now) (a .events .now)
 
 slice-aggregate-check : tie.Need-slice-aggregate-check
 slice-aggregate-check c = search needs
@@ -52,7 +52,7 @@ returns c =
     let at-check = at-told .before .before .before .before .before .before .before .before .before in
     let start = start-of at-check in
     let a = start .args in
-    let e = text-left (at-check .check .ensures) (a .n) (a .types .now) (a .relationships .now) (a .rules .now) (a .bodies .now) (a .events .now) (at-told .enum-told .given .1) ∙ lent-left (a .n) (sheet at-check) (start .pre .0) (start .pre .1) in
+    let e = text-left (at-check .check .ensures) (a .n) (a .types .now) (a .floors .now) (a .relationships .now) (a .rules .now) (a .bodies .now) (a .events .now) (at-told .enum-told .given .1) ∙ lent-left (a .n) (sheet at-check) (start .pre .0) (start .pre .1) in
     (at-text .print-text .ensures .0 ∙ ap (λ b. inFront b (a .out .now)) e, at-text .print-text .ensures .1 ∙ ap length e)
 
 slice-aggregate-print : tie.Need-slice-aggregate-print
@@ -63,7 +63,7 @@ print-requires c κs =
     let at-check = c .before .before .before .before .before .before .before .before .before .before in
     let start = start-of at-check in
     let few = pairs-within (at-check .check .ensures) in
-    let long = at-check .check .kept .1 .1 .1 .1 .1 .1 .1 .1 .1 .1 .0 in
+    let long = at-check .check .kept .1 .1 .1 .1 .1 .1 .1 .1 .1 .1 .1 .0 in
     omega (arith, few, long, start .pre .2)
 
 same-length-4 : tie.Need-same-length-4
@@ -83,7 +83,7 @@ returns-2 c =
     let start = start-of at-check in
     let a = start .args in
     let other = not-accepted _ (at-match .match .keys2) in
-    let e = outcome-is (at-check .check .ensures) ∙ answer-left (at-check .check .ensures) (a .n) (a .types .now) (a .relationships .now) (a .rules .now) (a .bodies .now) (a .events .now) other ∙ lent-left (a .n) (sheet at-check) (start .pre .0) (start .pre .1) in
+    let e = outcome-is (at-check .check .ensures) ∙ answer-left (at-check .check .ensures) (a .n) (a .types .now) (a .floors .now) (a .relationships .now) (a .rules .now) (a .bodies .now) (a .events .now) other ∙ lent-left (a .n) (sheet at-check) (start .pre .0) (start .pre .1) in
     (at-print .print .ensures .0 ∙ ap (λ b. inFront b (a .out .now)) e, at-print .print .ensures .1 ∙ ap length e)
 
 pub print-after-spec : {M : Type 1} → statement M

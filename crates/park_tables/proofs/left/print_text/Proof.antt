@@ -15,12 +15,12 @@ use Rattle.park_tables.proofs.left.print_text.Statement.{statement}
 use Rattle.park_tables.proofs.left.print_text.Tie as tie
 
 abbrev start-of : tie.After-write → tie.Start
-start-of c = c .before .before .before .before .before .before .before .before .before .before
+start-of c = c .before .before .before .before .before .before .before .before .before .before .before
 
 abbrev sheet : tie.After-write → Sheet
 sheet c =
     let a = start-of c .args in
-    sheetOf (a .types .now) (a .relationships .now) (a .rules .now) (a .bodies .now) (a .objects .now) (a .links .now) []
+    sheetOf (a .types .now) (a .floors .now) (a .relationships .now) (a .rules .now) (a .bodies .now) (a .objects .now) (a .links .now) []
 
 slice-aggregate-none : tie.Need-slice-aggregate-none
 slice-aggregate-none c = search needs
