@@ -22,9 +22,9 @@ pub record RunTold (n : Counts) (s : Sheet) (scratchObjects scratchLinks words o
   pub left : runRefusal n s scratchObjects scratchLinks ≡ none → Left n s words objects links
 
 -- the used rows of a book, a register and a batch; and of a book and a register alone
-abbrev pub allUsed : ℕ → ℕ → ℕ → ℕ → ℕ → ℕ → Counts
-allUsed types relationships rules objects links events =
-    record { types = types; relationships = relationships; rules = rules; objects = objects; links = links; events = events }
+abbrev pub allUsed : ℕ → ℕ → ℕ → ℕ → ℕ → ℕ → ℕ → Counts
+allUsed types floors relationships rules objects links events =
+    record { types = types; floors = floors; relationships = relationships; rules = rules; objects = objects; links = links; events = events }
 
-abbrev pub usedRows : ℕ → ℕ → ℕ → ℕ → ℕ → Counts
-usedRows types relationships rules objects links = allUsed types relationships rules objects links 0
+abbrev pub usedRows : ℕ → ℕ → ℕ → ℕ → ℕ → ℕ → Counts
+usedRows types floors relationships rules objects links = allUsed types floors relationships rules objects links 0

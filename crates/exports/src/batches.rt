@@ -12,12 +12,14 @@ ghost use Rattle.exports.specs.Batches.{BatchTold};
 #[no_mangle]
 pub extern "C" fn checker_batch(
     types_used: u32,
+    floors_used: u32,
     relationships_used: u32,
     rules_used: u32,
     objects_used: u32,
     links_used: u32,
     events_used: u32,
     types: &[u32],
+    floors: &[u32],
     relationships: &[u32],
     rules: &[u32],
     bodies: &[u32],
@@ -29,13 +31,14 @@ pub extern "C" fn checker_batch(
     list: &mut [u32],
     answer: &mut [u32; 6],
 )
-    ensures { λ _. ⌜ (let s = sheetOf (now (types .entry)) (now (relationships .entry)) (now (rules .entry)) (now (bodies .entry)) (now (objects .entry)) (now (links .entry)) (now (events .entry)) in
+    ensures { λ _. ⌜ (let s = sheetOf (now (types .entry)) (now (floors .entry)) (now (relationships .entry)) (now (rules .entry)) (now (bodies .entry)) (now (objects .entry)) (now (links .entry)) (now (events .entry)) in
         let short = scratchShort (now (objects .entry)) (now (links .entry)) (now («scratch_objects» .entry)) (now («scratch_links» .entry)) in
-        BatchTold (lentOutcome (allUsed «types_used» «relationships_used» «rules_used» «objects_used» «links_used» «events_used») s short (length (now (list .entry))))
+        BatchTold (lentOutcome (allUsed «types_used» «floors_used» «relationships_used» «rules_used» «objects_used» «links_used» «events_used») s short (length (now (list .entry))))
         (now (list .entry)) (now (objects .entry)) (now (links .entry)) (now (answer .exit)) (now (list .exit)) (now (objects .exit)) (now (links .exit))) ⌝ }
 {
     let n = Counts {
         types: types_used,
+        floors: floors_used,
         relationships: relationships_used,
         rules: rules_used,
         objects: objects_used,
@@ -45,6 +48,7 @@ pub extern "C" fn checker_batch(
     let done = batch::check(
         n,
         types,
+        floors,
         relationships,
         rules,
         bodies,

@@ -19,21 +19,24 @@ ghost use Rattle.exports.specs.Runs.{usedRows};
 #[no_mangle]
 pub extern "C" fn checker_check(
     types_used: u32,
+    floors_used: u32,
     relationships_used: u32,
     rules_used: u32,
     objects_used: u32,
     links_used: u32,
     types: &[u32],
+    floors: &[u32],
     relationships: &[u32],
     rules: &[u32],
     bodies: &[u32],
     objects: &[u32],
     links: &[u32],
 ) -> u64
-    ensures { λ r. ⌜ r ≡ coded (lentRefusal (usedRows «types_used» «relationships_used» «rules_used» «objects_used» «links_used») (sheetOf (now (types .entry)) (now (relationships .entry)) (now (rules .entry)) (now (bodies .entry)) (now (objects .entry)) (now (links .entry)) []) false) ⌝ }
+    ensures { λ r. ⌜ r ≡ coded (lentRefusal (usedRows «types_used» «floors_used» «relationships_used» «rules_used» «objects_used» «links_used») (sheetOf (now (types .entry)) (now (floors .entry)) (now (relationships .entry)) (now (rules .entry)) (now (bodies .entry)) (now (objects .entry)) (now (links .entry)) []) false) ⌝ }
 {
     let n = Counts {
         types: types_used,
+        floors: floors_used,
         relationships: relationships_used,
         rules: rules_used,
         objects: objects_used,
@@ -43,6 +46,7 @@ pub extern "C" fn checker_check(
     let verdict = checks::check(
         n,
         types,
+        floors,
         relationships,
         rules,
         bodies,
@@ -57,11 +61,13 @@ pub extern "C" fn checker_check(
 #[no_mangle]
 pub extern "C" fn checker_full_check(
     types_used: u32,
+    floors_used: u32,
     relationships_used: u32,
     rules_used: u32,
     objects_used: u32,
     links_used: u32,
     types: &[u32],
+    floors: &[u32],
     relationships: &[u32],
     rules: &[u32],
     bodies: &[u32],
@@ -69,41 +75,44 @@ pub extern "C" fn checker_full_check(
     links: &[u32],
     answer: &mut [u32; 3],
 )
-    ensures { λ r. ⌜ now (answer .exit) ≡ answerWords (lentAnswer (usedRows «types_used» «relationships_used» «rules_used» «objects_used» «links_used») (sheetOf (now (types .entry)) (now (relationships .entry)) (now (rules .entry)) (now (bodies .entry)) (now (objects .entry)) (now (links .entry)) [])) ⌝ }
+    ensures { λ r. ⌜ now (answer .exit) ≡ answerWords (lentAnswer (usedRows «types_used» «floors_used» «relationships_used» «rules_used» «objects_used» «links_used») (sheetOf (now (types .entry)) (now (floors .entry)) (now (relationships .entry)) (now (rules .entry)) (now (bodies .entry)) (now (objects .entry)) (now (links .entry)) [])) ⌝ }
 {
     let n = Counts {
         types: types_used,
+        floors: floors_used,
         relationships: relationships_used,
         rules: rules_used,
         objects: objects_used,
         links: links_used,
         events: 0,
     };
-    let said = full::check(n, types, relationships, rules, bodies, objects, links);
+    let said = full::check(n, types, floors, relationships, rules, bodies, objects, links);
     *answer = told::answer(said);
 }
 
-// Reads a text into lent tables. The answer is 0 and the rows of the six sections, bodies left out; or 1, a refusal's number and its line.
+// Reads a text into lent tables. The answer is 0 and the rows of the seven sections, bodies left out; or 1, a refusal's number and its line.
 #[no_mangle]
 pub extern "C" fn checker_read(
     text: &[u8],
     types: &mut [u32],
+    floors: &mut [u32],
     relationships: &mut [u32],
     rules: &mut [u32],
     bodies: &mut [u32],
     objects: &mut [u32],
     links: &mut [u32],
     events: &mut [u32],
-    answer: &mut [u32; 7],
+    answer: &mut [u32; 8],
 )
-    ensures { λ r. ⌜ (let before = sheetOf (now (types .entry)) (now (relationships .entry)) (now (rules .entry)) (now (bodies .entry)) (now (objects .entry)) (now (links .entry)) (now (events .entry)) in
-        let after = sheetOf (now (types .exit)) (now (relationships .exit)) (now (rules .exit)) (now (bodies .exit)) (now (objects .exit)) (now (links .exit)) (now (events .exit)) in
+    ensures { λ r. ⌜ (let before = sheetOf (now (types .entry)) (now (floors .entry)) (now (relationships .entry)) (now (rules .entry)) (now (bodies .entry)) (now (objects .entry)) (now (links .entry)) (now (events .entry)) in
+        let after = sheetOf (now (types .exit)) (now (floors .exit)) (now (relationships .exit)) (now (rules .exit)) (now (bodies .exit)) (now (objects .exit)) (now (links .exit)) (now (events .exit)) in
         let reading = lentReading (now (text .entry)) before in
         (now (answer .exit) ≡ readWords reading) × (after ≡ sheetAfter reading before)) ⌝ }
 {
     let done = reader::read(
         text,
         types,
+        floors,
         relationships,
         rules,
         bodies,

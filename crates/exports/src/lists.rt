@@ -12,9 +12,11 @@ ghost use Rattle.exports.specs.Runs.{usedRows};
 #[no_mangle]
 pub extern "C" fn checker_events(
     types_used: u32,
+    floors_used: u32,
     relationships_used: u32,
     rules_used: u32,
     types: &[u32],
+    floors: &[u32],
     relationships: &[u32],
     rules: &[u32],
     bodies: &[u32],
@@ -22,18 +24,19 @@ pub extern "C" fn checker_events(
     list: &mut [u16],
     answer: &mut [u32; 3],
 )
-    ensures { λ _. ⌜ (let n = usedRows «types_used» «relationships_used» «rules_used» 0 0 in
-        let s = sheetOf (now (types .entry)) (now (relationships .entry)) (now (rules .entry)) (now (bodies .entry)) [] [] [] in
+    ensures { λ _. ⌜ (let n = usedRows «types_used» «floors_used» «relationships_used» «rules_used» 0 0 in
+        let s = sheetOf (now (types .entry)) (now (floors .entry)) (now (relationships .entry)) (now (rules .entry)) (now (bodies .entry)) [] [] [] in
         (now (answer .exit) ≡ listedWords (EventLists.answer n s «rule» (length (now (list .entry))))) × (now (list .exit) ≡ EventLists.listAfter n s «rule» (now (list .entry)))) ⌝ }
 {
     let n = Counts {
         types: types_used,
+        floors: floors_used,
         relationships: relationships_used,
         rules: rules_used,
         objects: 0,
         links: 0,
         events: 0,
     };
-    let listed = event_list::list(n, types, relationships, rules, bodies, rule, list);
+    let listed = event_list::list(n, types, floors, relationships, rules, bodies, rule, list);
     *answer = told::listed(listed);
 }

@@ -8,11 +8,13 @@ ghost use Rattle.exports.specs.Runs.{allUsed, RunTold};
 #[no_mangle]
 pub extern "C" fn checker_run(
     types_used: u32,
+    floors_used: u32,
     relationships_used: u32,
     rules_used: u32,
     objects_used: u32,
     links_used: u32,
     types: &[u32],
+    floors: &[u32],
     relationships: &[u32],
     rules: &[u32],
     bodies: &[u32],
@@ -24,13 +26,14 @@ pub extern "C" fn checker_run(
     events: &[u32],
     answer: &mut [u32; 3],
 )
-    ensures { λ r. ⌜ RunTold (allUsed «types_used» «relationships_used» «rules_used» «objects_used» «links_used» «events_used»)
-        (sheetOf (now (types .entry)) (now (relationships .entry)) (now (rules .entry)) (now (bodies .entry)) (now (objects .entry)) (now (links .entry)) (now (events .entry)))
+    ensures { λ r. ⌜ RunTold (allUsed «types_used» «floors_used» «relationships_used» «rules_used» «objects_used» «links_used» «events_used»)
+        (sheetOf (now (types .entry)) (now (floors .entry)) (now (relationships .entry)) (now (rules .entry)) (now (bodies .entry)) (now (objects .entry)) (now (links .entry)) (now (events .entry)))
         (now («scratch_objects» .entry)) (now («scratch_links» .entry))
         (now (answer .exit)) (now («scratch_objects» .exit)) (now («scratch_links» .exit)) ⌝ }
 {
     let n = Counts {
         types: types_used,
+        floors: floors_used,
         relationships: relationships_used,
         rules: rules_used,
         objects: objects_used,
@@ -40,6 +43,7 @@ pub extern "C" fn checker_run(
     let ran = lent_run::run(
         n,
         types,
+        floors,
         relationships,
         rules,
         bodies,

@@ -10,12 +10,14 @@ ghost use Rattle.exports.specs.Runs.{allUsed};
 #[no_mangle]
 pub extern "C" fn checker_write(
     types_used: u32,
+    floors_used: u32,
     relationships_used: u32,
     rules_used: u32,
     objects_used: u32,
     links_used: u32,
     events_used: u32,
     types: &[u32],
+    floors: &[u32],
     relationships: &[u32],
     rules: &[u32],
     bodies: &[u32],
@@ -25,12 +27,13 @@ pub extern "C" fn checker_write(
     out: &mut [u8],
     answer: &mut [u32; 3],
 )
-    ensures { λ _. ⌜ (let n = allUsed «types_used» «relationships_used» «rules_used» «objects_used» «links_used» «events_used» in
-        let s = sheetOf (now (types .entry)) (now (relationships .entry)) (now (rules .entry)) (now (bodies .entry)) (now (objects .entry)) (now (links .entry)) (now (events .entry)) in
+    ensures { λ _. ⌜ (let n = allUsed «types_used» «floors_used» «relationships_used» «rules_used» «objects_used» «links_used» «events_used» in
+        let s = sheetOf (now (types .entry)) (now (floors .entry)) (now (relationships .entry)) (now (rules .entry)) (now (bodies .entry)) (now (objects .entry)) (now (links .entry)) (now (events .entry)) in
         (now (answer .exit) ≡ writtenWords (answerFor n s (now (out .entry)))) × (now (out .exit) ≡ bytesLeft n s (now (out .entry)))) ⌝ }
 {
     let n = Counts {
         types: types_used,
+        floors: floors_used,
         relationships: relationships_used,
         rules: rules_used,
         objects: objects_used,
@@ -40,6 +43,7 @@ pub extern "C" fn checker_write(
     let written = writer::write(
         n,
         types,
+        floors,
         relationships,
         rules,
         bodies,

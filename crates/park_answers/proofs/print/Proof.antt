@@ -40,6 +40,9 @@ slice-aggregate-read-6 c = search needs
 slice-aggregate-read-7 : tie.Need-slice-aggregate-read-7
 slice-aggregate-read-7 c = search needs
 
+slice-aggregate-read-8 : tie.Need-slice-aggregate-read-8
+slice-aggregate-read-8 c = search needs
+
 read-requires : tie.Need-read-requires
 read-requires c κs = search needs
 
@@ -73,6 +76,9 @@ slice-aggregate-print-tables-6 c = search needs
 slice-aggregate-print-tables-7 : tie.Need-slice-aggregate-print-tables-7
 slice-aggregate-print-tables-7 c = search needs
 
+slice-aggregate-print-tables-8 : tie.Need-slice-aggregate-print-tables-8
+slice-aggregate-print-tables-8 c = search needs
+
 print-tables-requires : tie.Need-print-tables-requires
 print-tables-requires c κs = search needs
 
@@ -80,8 +86,8 @@ returns-2 : tie.Need-returns-2
 unfolding parkPrints lentSheet
 returns-2 c =
     let at-match = c .before .before .before in
-    let at-read = at-match .before .before .before .before .before .before .before .before .before in
-    let at-else = at-read .before .before .before .before .before .before .before .before in
+    let at-read = at-match .before .before .before .before .before .before .before .before .before .before in
+    let at-else = at-read .before .before .before .before .before .before .before .before .before in
     let a = at-else .before .before .args in
     let e = read-refused parkRoom (tablesPrinted (a .asked)) (a .text .now) (at-else .if1 .left) (sym (at-match .number .given .1) ∙ at-read .read .ensures .0) in
     (c .refuse2 .ensures .0 ∙ ap (λ b. inFront b (a .out .now)) e, c .refuse2 .ensures .1 ∙ ap length e)
@@ -90,9 +96,9 @@ returns-3 : tie.Need-returns-3
 unfolding parkPrints lentSheet
 returns-3 c =
     let at-print = c .before .before in
-    let at-match = at-print .before .before .before .before .before .before .before .before .before .before in
-    let at-read = at-match .before .before .before .before .before .before .before .before .before in
-    let at-else = at-read .before .before .before .before .before .before .before .before in
+    let at-match = at-print .before .before .before .before .before .before .before .before .before .before .before in
+    let at-read = at-match .before .before .before .before .before .before .before .before .before .before in
+    let at-else = at-read .before .before .before .before .before .before .before .before .before in
     let a = at-else .before .before .args in
     let e = read-done parkRoom (tablesPrinted (a .asked)) (a .text .now) (at-else .if1 .left) (sym (at-match .n .given .1) ∙ at-read .read .ensures .0) (at-read .read .ensures .1) in
     (at-print .print-tables .ensures .0 ∙ ap (λ b. inFront b (a .out .now)) e, at-print .print-tables .ensures .1 ∙ ap length e)
@@ -110,6 +116,7 @@ print-spec =
     slice-aggregate-read-5
     slice-aggregate-read-6
     slice-aggregate-read-7
+    slice-aggregate-read-8
     read-requires
     enum-known-number
     refuse-requires-2
@@ -121,6 +128,7 @@ print-spec =
     slice-aggregate-print-tables-5
     slice-aggregate-print-tables-6
     slice-aggregate-print-tables-7
+    slice-aggregate-print-tables-8
     print-tables-requires
     returns-2
     returns-3)

@@ -45,7 +45,7 @@ returns : tie.Need-returns
 returns c =
     let at-call = c .before .before .before .before .before .before in
     let at-told = at-call .before .before .before .before in
-    let a = at-told .before .before .before .before .before .before .before .before .before .before .args in
+    let a = at-told .before .before .before .before .before .before .before .before .before .before .before .args in
     let e = check-asked (a .n) (sheetOf (a .types .now) (a .floors .now) (a .relationships .now) (a .rules .now) (a .bodies .now) (a .objects .now) (a .links .now) (a .events .now)) (at-told .enum-told .given .1) in
     (at-call .print-check .ensures .0 ∙ ap (λ b. inFront b (a .out .now)) e, at-call .print-check .ensures .1 ∙ ap length e)
 
@@ -62,7 +62,7 @@ returns-2 : tie.Need-returns-2
 returns-2 c =
     let at-call = c .before .before in
     let at-told = at-call .before .before .before .before in
-    let a = at-told .before .before .before .before .before .before .before .before .before .before .args in
+    let a = at-told .before .before .before .before .before .before .before .before .before .before .before .args in
     let e = full-asked (a .n) (a .types .now) (a .floors .now) (a .relationships .now) (a .rules .now) (a .bodies .now) (a .objects .now) (a .links .now) (a .events .now) (at-told .enum-told2 .given .1) in
     (at-call .print-full .ensures .0 ∙ ap (λ b. inFront b (a .out .now)) e, at-call .print-full .ensures .1 ∙ ap length e)
 
@@ -73,7 +73,7 @@ returns-3 : tie.Need-returns-3
 returns-3 c =
     let at-call = c .before .before in
     let at-told = at-call .before .before in
-    let a = at-told .before .before .before .before .before .before .before .before .before .before .args in
+    let a = at-told .before .before .before .before .before .before .before .before .before .before .before .args in
     let e = events-asked (a .n) (a .types .now) (a .floors .now) (a .relationships .now) (a .rules .now) (a .bodies .now) (a .objects .now) (a .links .now) (a .events .now) (at-told .enum-told3 .given .1) in
     (at-call .print-events .ensures .0 ∙ ap (λ b. inFront b (a .out .now)) e, at-call .print-events .ensures .1 ∙ ap length e)
 
@@ -90,7 +90,7 @@ returns-4 : tie.Need-returns-4
 returns-4 c =
     let at-call = c .before .before .before .before .before .before in
     let at-told = at-call .before .before .before .before in
-    let a = at-told .before .before .before .before .before .before .before .before .before .before .args in
+    let a = at-told .before .before .before .before .before .before .before .before .before .before .before .args in
     let e = after-asked (a .n) (sheetOf (a .types .now) (a .floors .now) (a .relationships .now) (a .rules .now) (a .bodies .now) (a .objects .now) (a .links .now) (a .events .now)) (at-told .enum-told4 .given .1) in
     (at-call .print-after .ensures .0 ∙ ap (λ b. inFront b (a .out .now)) e, at-call .print-after .ensures .1 ∙ ap length e)
 
