@@ -55,29 +55,34 @@ fn types(all: &Words) -> &[u32] {
     sheet::part(all, 0, 10)
 }
 
+fn floors(all: &Words) -> &[u32] {
+    sheet::part(all, 1, 26)
+}
+
 fn relationships(all: &Words) -> &[u32] {
-    sheet::part(all, 1, 8)
+    sheet::part(all, 2, 8)
 }
 
 fn rules(all: &Words) -> &[u32] {
-    sheet::part(all, 2, 10)
+    sheet::part(all, 3, 10)
 }
 
 fn bodies(all: &Words) -> &[u32] {
-    sheet::part(all, 3, 1280)
+    sheet::part(all, 4, 1280)
 }
 
 fn objects(all: &Words) -> &[u32] {
-    sheet::part(all, 4, 140)
+    sheet::part(all, 5, 140)
 }
 
 fn links(all: &Words) -> &[u32] {
-    sheet::part(all, 5, 72)
+    sheet::part(all, 6, 72)
 }
 
 fn counts(all: &Words) -> Counts {
     Counts {
         types: 5,
+        floors: 0,
         relationships: 4,
         rules: of(all, tally::RULES),
         objects: of(all, tally::OBJECTS),
@@ -91,6 +96,7 @@ fn proved(all: &Words) -> Said {
     words_of(full::check(
         counts(all),
         types(all),
+        floors(all),
         relationships(all),
         rules(all),
         bodies(all),
@@ -103,6 +109,7 @@ fn proved_at(all: &Words, rule: u32, id: u32) -> Said {
     words_of(full::check_rule(
         counts(all),
         types(all),
+        floors(all),
         relationships(all),
         rules(all),
         bodies(all),

@@ -27,7 +27,7 @@ fn one_line(line: &[u8], all: &mut Words) {
 }
 
 fn all_lines(input: &[u8]) {
-    let mut all = [0u32; 31977];
+    let mut all = [0u32; 32489];
     let mut at: usize = 0;
     while at < input.len() {
         one_line(line::at(input, at), &mut all);

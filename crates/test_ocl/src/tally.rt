@@ -5,13 +5,13 @@ use cases::line;
 use cases::say;
 use cases::sheet;
 
-pub type Words = [u32; 31977];
+pub type Words = [u32; 32489];
 
-pub const RULES: u32 = 31936;
+pub const RULES: u32 = 32448;
 
-pub const OBJECTS: u32 = 31937;
+pub const OBJECTS: u32 = 32449;
 
-pub const LINKS: u32 = 31938;
+pub const LINKS: u32 = 32450;
 
 // What is counted after the operators, by its slot.
 pub const BOOKS: u32 = 23;
@@ -54,7 +54,7 @@ pub fn set(all: &mut Words, at: u32, value: u32) {
 
 // Where a slot stands.
 fn place(slot: u32) -> u32 {
-    31939 + slot % 38
+    32451 + slot % 38
 }
 
 // So many more in a slot.
