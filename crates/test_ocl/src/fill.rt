@@ -8,10 +8,10 @@ use cases::line;
 use cases::line::byte;
 use cases::sheet;
 
-// A book without rules and a register without objects; the schema stays.
+// A book without rules and floors, and a register without objects; its types and relationships stay.
 pub fn begin(all: &mut Words) {
     let mut i: u32 = 640;
-    while i < 32451 {
+    while i < 32452 {
         set(&mut *all, i, 0);
         i += 1;
     }
@@ -100,6 +100,12 @@ fn put_cells(all: &mut Words, row: u32, cells: &[u8]) {
         }
         i += 1;
     }
+}
+
+pub fn floor(line: &[u8], all: &mut Words) {
+    let row = one_more(&mut *all, tally::FLOORS);
+    put(&mut *all, 1, row, 0, line::number(line, 1));
+    put(all, 1, row, 1, line::number(line, 2));
 }
 
 pub fn object(line: &[u8], all: &mut Words) {
