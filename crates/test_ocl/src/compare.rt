@@ -1,4 +1,5 @@
 // The proved checks beside the plain evaluator, on one book and one register.
+use crate::floors::first_below;
 use crate::plain;
 use crate::tally;
 use crate::tally::Words;
@@ -42,7 +43,7 @@ fn same(a: Said, b: Said) -> bool {
     a.number == b.number && a.first == b.first && a.second == b.second
 }
 
-// What a check is to say where a rule is broken at an id; accepted for id 0.
+// The answer that a rule is broken at an id; accepted for id 0.
 fn broken_at(rule: u32, id: u32) -> Said {
     if id == 0 {
         return says(0, 0, 0);
@@ -55,29 +56,34 @@ fn types(all: &Words) -> &[u32] {
     sheet::part(all, 0, 10)
 }
 
+fn floors(all: &Words) -> &[u32] {
+    sheet::part(all, 1, 26)
+}
+
 fn relationships(all: &Words) -> &[u32] {
-    sheet::part(all, 1, 8)
+    sheet::part(all, 2, 8)
 }
 
 fn rules(all: &Words) -> &[u32] {
-    sheet::part(all, 2, 10)
+    sheet::part(all, 3, 10)
 }
 
 fn bodies(all: &Words) -> &[u32] {
-    sheet::part(all, 3, 1280)
+    sheet::part(all, 4, 1280)
 }
 
 fn objects(all: &Words) -> &[u32] {
-    sheet::part(all, 4, 140)
+    sheet::part(all, 5, 140)
 }
 
 fn links(all: &Words) -> &[u32] {
-    sheet::part(all, 5, 72)
+    sheet::part(all, 6, 72)
 }
 
 fn counts(all: &Words) -> Counts {
     Counts {
         types: 5,
+        floors: of(all, tally::FLOORS),
         relationships: 4,
         rules: of(all, tally::RULES),
         objects: of(all, tally::OBJECTS),
@@ -86,11 +92,26 @@ fn counts(all: &Words) -> Counts {
     }
 }
 
+// What a check is to say where a rule is broken at an id, 0 for none: refused where an object is below a floor.
+fn to_say(all: &Words, w: &World, rule: u32, id: u32) -> Said {
+    let row = first_below(
+        w,
+        floors(all),
+        of(all, tally::FLOORS),
+        of(all, tally::OBJECTS),
+    );
+    if row < 64 {
+        return says(2, 5, row);
+    }
+    broken_at(rule, id)
+}
+
 // What the proved full check says, and what it says of one rule at one object.
 fn proved(all: &Words) -> Said {
     words_of(full::check(
         counts(all),
         types(all),
+        floors(all),
         relationships(all),
         rules(all),
         bodies(all),
@@ -103,6 +124,7 @@ fn proved_at(all: &Words, rule: u32, id: u32) -> Said {
     words_of(full::check_rule(
         counts(all),
         types(all),
+        floors(all),
         relationships(all),
         rules(all),
         bodies(all),
@@ -126,7 +148,8 @@ fn one_object(all: &mut Words, w: &World, tree: &Tree, rule: u32, row: u32) -> u
     let under = world::has(world::all(w, word(rules(all), 2, rule, 0)), row);
     let broken = under && !plain::holds(tree, w, word(rules(all), 2, rule, 1), row);
     let at = if broken { id } else { 0 };
-    one_pair(&mut *all, rule, id, broken_at(rule, at));
+    let said = to_say(all, w, rule, at);
+    one_pair(&mut *all, rule, id, said);
     add(&mut *all, tally::PAIRS, 1);
     count_if(&mut *all, tally::UNDER, under);
     count_if(all, tally::BROKEN, broken);
@@ -170,28 +193,28 @@ fn fill(all: &Words, w: &mut World) {
 }
 
 // Every rule at every object, last first. Answers what a full check is to say.
-fn all_rules(all: &mut Words) -> Said {
-    let mut w = [0u64; 264];
-    fill(all, &mut w);
+fn all_rules(all: &mut Words, w: &World) -> Said {
     let mut lowest: u32 = 0;
     let mut id: u32 = 0;
     let mut rule = of(all, tally::RULES);
     while 0 < rule {
         rule -= 1;
-        let found = one_rule(&mut *all, &w, rule);
+        let found = one_rule(&mut *all, w, rule);
         if found != 0 {
             lowest = rule;
             id = found;
         }
     }
-    broken_at(lowest, id)
+    to_say(all, w, lowest, id)
 }
 
-// An object that is not there: no rule is broken at it. A rule that is not there: refused, whatever the object.
-fn absent(all: &mut Words) {
+// An object that is not there: no rule is broken at it. A rule that is not there: refused, whatever the object, and before one that is
+// below a floor.
+fn absent(all: &mut Words, w: &World) {
+    let held = to_say(all, w, 0, 0);
     let rule = of(all, tally::RULES);
     let id = word(objects(all), 10, 0, 0);
-    one_pair(&mut *all, 0, 65535, broken_at(0, 0));
+    one_pair(&mut *all, 0, 65535, held);
     one_pair(&mut *all, rule, id, says(2, 4, rule));
     add(all, tally::ABSENT, 2);
 }
@@ -206,7 +229,10 @@ fn count_book(all: &mut Words, plainly: Said, proved: Said) {
         tally::LATER,
         proved.number == 1 && 0 < proved.first,
     );
-    count_if(all, tally::WRONG, !same(plainly, proved));
+    count_if(&mut *all, tally::WRONG, !same(plainly, proved));
+    count_if(&mut *all, tally::BELOW, proved.number == 2);
+    let floored = 0 < of(all, tally::FLOORS);
+    count_if(all, tally::FLOORED, floored);
 }
 
 fn count_rows(all: &mut Words) {
@@ -218,9 +244,11 @@ fn count_rows(all: &mut Words) {
 
 // The full check and every pair of a book and a register.
 pub fn compare(all: &mut Words) {
-    let plainly = all_rules(&mut *all);
+    let mut w = [0u64; 264];
+    fill(all, &mut w);
+    let plainly = all_rules(&mut *all, &w);
     let by_proof = proved(all);
-    absent(&mut *all);
+    absent(&mut *all, &w);
     count_book(&mut *all, plainly, by_proof);
     count_rows(all);
 }

@@ -8,10 +8,10 @@ use cases::line;
 use cases::line::byte;
 use cases::sheet;
 
-// A book without rules and a register without objects; the schema stays.
+// A book without rules and floors, and a register without objects; its types and relationships stay.
 pub fn begin(all: &mut Words) {
-    let mut i: u32 = 128;
-    while i < 31939 {
+    let mut i: u32 = 640;
+    while i < 32452 {
         set(&mut *all, i, 0);
         i += 1;
     }
@@ -76,15 +76,15 @@ fn operator(b: u8) -> u32 {
 
 fn rule(line: &[u8], all: &mut Words) {
     let row = one_more(&mut *all, tally::RULES);
-    let from = std::num::wrapping_add_u32(sheet::base(3), sheet::row(3, row));
+    let from = std::num::wrapping_add_u32(sheet::base(4), sheet::row(4, row));
     let rows = put_body(&mut *all, from, line::rest(line, 2));
-    put(&mut *all, 2, row, 0, line::number(line, 1));
-    put(all, 2, row, 1, rows);
+    put(&mut *all, 3, row, 0, line::number(line, 1));
+    put(all, 3, row, 1, rows);
 }
 
 pub fn rule_or_relationship(line: &[u8], all: &mut Words) {
     if byte(line, 1) == 101 {
-        sheet::change(line, 1, all);
+        sheet::change(line, 2, all);
         return;
     }
     rule(line, all);
@@ -96,22 +96,28 @@ fn put_cells(all: &mut Words, row: u32, cells: &[u8]) {
     while i < 8 {
         let b = byte(cells, sheet::size(i));
         if 0 < b {
-            put(&mut *all, 4, row, 2 + i, value(b));
+            put(&mut *all, 5, row, 2 + i, value(b));
         }
         i += 1;
     }
 }
 
+pub fn floor(line: &[u8], all: &mut Words) {
+    let row = one_more(&mut *all, tally::FLOORS);
+    put(&mut *all, 1, row, 0, line::number(line, 1));
+    put(all, 1, row, 1, line::number(line, 2));
+}
+
 pub fn object(line: &[u8], all: &mut Words) {
     let row = one_more(&mut *all, tally::OBJECTS);
-    put(&mut *all, 4, row, 0, line::number(line, 1));
-    put(&mut *all, 4, row, 1, line::number(line, 2));
+    put(&mut *all, 5, row, 0, line::number(line, 1));
+    put(&mut *all, 5, row, 1, line::number(line, 2));
     put_cells(all, row, line::rest(line, 3));
 }
 
 pub fn link(line: &[u8], all: &mut Words) {
     let row = one_more(&mut *all, tally::LINKS);
-    put(&mut *all, 5, row, 0, line::number(line, 1));
-    put(&mut *all, 5, row, 1, line::number(line, 2));
-    put(all, 5, row, 2, line::number(line, 3));
+    put(&mut *all, 6, row, 0, line::number(line, 1));
+    put(&mut *all, 6, row, 1, line::number(line, 2));
+    put(all, 6, row, 2, line::number(line, 3));
 }

@@ -2,6 +2,7 @@
 // lines of standard input; `stdin` says how they are written.
 mod compare;
 mod fill;
+mod floors;
 mod plain;
 mod tally;
 mod words;
@@ -18,6 +19,7 @@ fn one_line(line: &[u8], all: &mut Words) {
         116 => sheet::change(line, 0, all),
         114 => fill::rule_or_relationship(line, all),
         98 => fill::begin(all),
+        102 => fill::floor(line, all),
         111 => fill::object(line, all),
         108 => fill::link(line, all),
         97 => compare::compare(all),
@@ -27,7 +29,7 @@ fn one_line(line: &[u8], all: &mut Words) {
 }
 
 fn all_lines(input: &[u8]) {
-    let mut all = [0u32; 31977];
+    let mut all = [0u32; 32492];
     let mut at: usize = 0;
     while at < input.len() {
         one_line(line::at(input, at), &mut all);

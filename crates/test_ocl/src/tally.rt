@@ -1,17 +1,19 @@
-// The words of a book's tables, as a sheet has them; after them, how many rules, objects and links there are, and what is counted: how
-// often each operator occurs, by its code, and then the rest.
+// The words of a book's tables, as a sheet has them; after them, how many rules, objects, links and floors there are, and what is
+// counted: how often each operator occurs, by its code, and then the rest.
 use crate::words::greater;
 use cases::line;
 use cases::say;
 use cases::sheet;
 
-pub type Words = [u32; 31977];
+pub type Words = [u32; 32492];
 
-pub const RULES: u32 = 31936;
+pub const RULES: u32 = 32448;
 
-pub const OBJECTS: u32 = 31937;
+pub const OBJECTS: u32 = 32449;
 
-pub const LINKS: u32 = 31938;
+pub const LINKS: u32 = 32450;
+
+pub const FLOORS: u32 = 32451;
 
 // What is counted after the operators, by its slot.
 pub const BOOKS: u32 = 23;
@@ -44,6 +46,10 @@ pub const WRONG: u32 = 36;
 
 pub const CASES: u32 = 37;
 
+pub const FLOORED: u32 = 38;
+
+pub const BELOW: u32 = 39;
+
 pub fn of(all: &Words, at: u32) -> u32 {
     sheet::get(all, sheet::size(at))
 }
@@ -54,7 +60,7 @@ pub fn set(all: &mut Words, at: u32, value: u32) {
 
 // Where a slot stands.
 fn place(slot: u32) -> u32 {
-    31939 + slot % 38
+    32452 + slot % 40
 }
 
 // So many more in a slot.

@@ -9,9 +9,6 @@ Inv-loop all₀ w lowest₀ id₀ rule₀ all lowest id rule = Unit {0}
 abbrev μ-loop : tie.MeasureT-loop
 μ-loop all₀ w lowest₀ id₀ rule₀ all lowest id rule = rule
 
-fill-requires : tie.Need-fill-requires Inv-loop μ-loop
-fill-requires c κs = search needs
-
 of-requires : tie.Need-of-requires Inv-loop μ-loop
 of-requires c κs = search needs
 
@@ -36,8 +33,8 @@ loop-less-2 c = search needs
 loop-again-2 : tie.Need-loop-again-2 Inv-loop μ-loop
 loop-again-2 c = search needs
 
-broken-at-requires : tie.Need-broken-at-requires Inv-loop μ-loop
-broken-at-requires c κs = search needs
+to-say-requires : tie.Need-to-say-requires Inv-loop μ-loop
+to-say-requires c κs = search needs
 
 returns : tie.Need-returns Inv-loop μ-loop
 returns c = search needs
@@ -48,7 +45,6 @@ all-rules-spec =
     (tie.spec
     Inv-loop
     μ-loop
-    fill-requires
     of-requires
     loop-holds
     sub-rule
@@ -57,5 +53,5 @@ all-rules-spec =
     loop-again
     loop-less-2
     loop-again-2
-    broken-at-requires
+    to-say-requires
     returns)
