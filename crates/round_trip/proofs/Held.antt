@@ -7,7 +7,7 @@ use mathlib.Core.Bool.{Bool, true, false, _&&_, _||_, not, cond, false≢true}
 use mathlib.Core.List.{List, [], _∷_, _++_}
 use mathlib.Core.Option.{Option, none, some, Option·none-ne-some, Option·map}
 use native.Mathlib.Omega.{arith}
-use lib.Dec.{T, ltb, leb, eqb, lit<}
+use lib.Dec.{T, ltb, leb, eqb}
 use lib.ListN.{length, getD, getElem?, replicate, length-append, List·getD-append, List·getD-eq-default}
 use lib.Seq.{getD-append-add}
 use denote.Floats.{passes}
@@ -18,12 +18,12 @@ use Rattle.meaning.specs.Limits.{maxForms}
 use Rattle.meaning.specs.Answers.{refusal}
 use Rattle.meaning.proofs.Lists.{every-getD, every-append, every-replicate}
 use Rattle.meaning.proofs.Agreement.{checked}
-use Rattle.rows.specs.Rows.{wordAt, readRows}
+use Rattle.rows.specs.Rows.{wordAt}
 use Rattle.rows.proofs.Zeros.{past-zero}
 use Rattle.tables.specs.Layouts.{sectionCount, limitOf, widthOf}
 use Rattle.tables.specs.Codes.{Operator, operators, operatorOf, shapeOf}
-use Rattle.tables.specs.Columns.{floorRow, noEvent, eventRow, bookOf, registerIn, batchIn}
-use Rattle.tables.proofs.Determined.{Clean, CleanBodies, determined, types-determined, relationships-determined, objects-determined, links-determined, events-determined, rules-determined}
+use Rattle.tables.specs.Columns.{noEvent, eventRow, bookOf, registerIn, batchIn}
+use Rattle.tables.proofs.Determined.{Clean, CleanBodies, types-determined, floors-determined, relationships-determined, objects-determined, links-determined, events-determined, rules-determined}
 use Rattle.lexical.proofs.Runs.{both}
 use Rattle.checks.proofs.Given.{bodies-whole}
 use Rattle.text.specs.Names.{ruleName}
@@ -304,10 +304,6 @@ bodies-clean es g clear =
 empty : {A : Type 0} (l : List A) → length l ≡ 0 → l ≡ []
 empty [] e = refl
 empty (x ∷ l) e = absurd (omega (arith, e))
-
-floors-determined : (used : ℕ) (t t′ : List ℕ) → length t ≡ length t′ → Clean 2 used t → Clean 2 used t′ → readRows (floorRow t) used ≡ readRows (floorRow t′) used → t ≡ t′
-unfolding floorRow
-floors-determined used t t′ e c c′ = determined 2 (lit< tt) floorRow (λ f. Unit) (λ f. f .type ∷ f .cell ∷ []) (λ t i w g. refl) used t t′ e c c′ (λ i h. tt)
 
 module _ (es fs : List Entry) (g : Good es) (h : Good fs) (counts : countsOf es ≡ countsOf fs)
     (book : bookOf (countsOf es) (exact es) ≡ bookOf (countsOf es) (exact fs))

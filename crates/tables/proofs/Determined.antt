@@ -22,8 +22,8 @@ use Rattle.rows.specs.Rows.{wordAt, rowsFrom, readRows, zeroPast, signed, wordO
 use Rattle.rows.proofs.Words.{word-signed}
 use Rattle.rows.proofs.Zeros.{zero-past}
 use Rattle.tables.specs.Bodies.{BodyRow, bodyRow, wholeBody, readBody}
-use Rattle.tables.specs.Columns.{noParent, typeRow, relationshipRow, ruleRow, objectRow, linkRow, noEvent, eventOf, eventRow, rulesOf}
-use Rattle.tables.specs.Words.{parentWord, typeWords, relationshipWords, objectWords, linkWords, eventWords}
+use Rattle.tables.specs.Columns.{noParent, typeRow, floorRow, relationshipRow, ruleRow, objectRow, linkRow, noEvent, eventOf, eventRow, rulesOf}
+use Rattle.tables.specs.Words.{parentWord, typeWords, floorWords, relationshipWords, objectWords, linkWords, eventWords}
 use Rattle.tables.proofs.Forms.{wordsFrom, whole-body, same-bodies, table-words}
 
 -- words of 32 bits
@@ -85,6 +85,10 @@ pub type-back : (t : List ℕ) (i : ℕ) → typeWords (typeRow t i) ≡ wordsOf
 unfolding typeWords typeRow
 type-back t i = ap (λ (w : ℕ). w ∷ wordAt t 2 i 1 ∷ []) (parent-back (wordAt t 2 i 0))
 
+pub floor-back : (t : List ℕ) (i : ℕ) → floorWords (floorRow t i) ≡ wordsOf t 2 i
+unfolding floorWords floorRow
+floor-back t i = refl
+
 pub relationship-back : (t : List ℕ) (i : ℕ) → relationshipWords (relationshipRow t i) ≡ wordsOf t 2 i
 unfolding relationshipWords relationshipRow
 relationship-back t i = refl
@@ -134,6 +138,10 @@ module _ (used : ℕ) (t t′ : List ℕ) (e : length t ≡ length t′) where
   pub types-determined : Clean 2 used t → Clean 2 used t′ → readRows (typeRow t) used ≡ readRows (typeRow t′) used → t ≡ t′
   types-determined c c′ =
       determined 2 (lit< tt) typeRow (λ r. Unit) typeWords (λ t i w g. type-back t i) used t t′ e c c′ (λ i h. tt)
+
+  pub floors-determined : Clean 2 used t → Clean 2 used t′ → readRows (floorRow t) used ≡ readRows (floorRow t′) used → t ≡ t′
+  floors-determined c c′ =
+      determined 2 (lit< tt) floorRow (λ f. Unit) floorWords (λ t i w g. floor-back t i) used t t′ e c c′ (λ i h. tt)
 
   pub relationships-determined : Clean 2 used t → Clean 2 used t′
       → readRows (relationshipRow t) used ≡ readRows (relationshipRow t′) used → t ≡ t′

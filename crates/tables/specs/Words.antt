@@ -2,7 +2,7 @@
 use Prim.Native.Nat.{ℕ}
 use mathlib.Core.List.{List, [], _∷_, map}
 use mathlib.Core.Option.{Option, none, some}
-use Rattle.meaning.specs.Schema.{ObjectType, Relationship}
+use Rattle.meaning.specs.Schema.{ObjectType, Floor, Relationship}
 use Rattle.meaning.specs.Register.{Object, Link}
 use Rattle.meaning.specs.Events.{Event, insert, delete, set, join, part, special, general}
 use Rattle.rows.specs.Rows.{wordOf}
@@ -15,6 +15,10 @@ parentWord (some p) = p
 -- types: parent, cells
 unfoldable pub typeWords : ObjectType → List ℕ
 typeWords r = parentWord (r .parent) ∷ r .cells ∷ []
+
+-- floors: type, cell
+unfoldable pub floorWords : Floor → List ℕ
+floorWords f = f .type ∷ f .cell ∷ []
 
 -- relationships: source type, target type
 unfoldable pub relationshipWords : Relationship → List ℕ
