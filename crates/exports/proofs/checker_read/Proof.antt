@@ -7,10 +7,10 @@ use Rattle.exports.proofs.checker_read.Statement.{statement}
 use Rattle.exports.proofs.checker_read.Tie as tie
 
 -- the read, from where its answer is told
-abbrev read-at : tie.After-slice-known14 → tie.After-read
+abbrev read-at : tie.After-slice-known16 → tie.After-read
 read-at c =
     let at-bodies = c .before .before .before .before .before .before .before in
-    at-bodies .before .before .before .before .before .before .before
+    at-bodies .before .before .before .before .before .before .before .before .before
 
 read-requires : tie.Need-read-requires
 read-requires c κs = search needs
@@ -39,6 +39,9 @@ same-length-6 c = search needs
 same-length-7 : tie.Need-same-length-7
 same-length-7 c = search needs
 
+same-length-8 : tie.Need-same-length-8
+same-length-8 c = search needs
+
 returns : tie.Need-returns
 returns c =
     let done = read-at (c .before) .read .ensures in
@@ -57,4 +60,5 @@ checker-read-spec =
     same-length-5
     same-length-6
     same-length-7
+    same-length-8
     returns)
