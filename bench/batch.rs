@@ -379,9 +379,23 @@ fn by_ids(near: &[Timed], far: &[Timed]) {
     }
 }
 
+// The same visits to the same park, whose battery cells have floors or none: the bodies that are evaluated, and the time.
+fn by_floors(without: &[Timed], with: &[Timed]) {
+    let mut groups: Vec<Vec<Call>> = without.iter().zip(with).map(|(x, y)| vec![x.restore(), x.proved(), y.restore(), y.proved()]).collect();
+    let figures = rounds(&mut groups);
+    println!("\n{HEAD}  bodies, no floors  bodies, floors  no floors (us)  floors (us)  floors / none");
+    for ((x, y), f) in without.iter().zip(with).zip(&figures) {
+        let [none, floors] = [0, 2].map(|i| median(f, |r| r[i + 1] - r[i]));
+        print!("{}  {:17}  {:14}  {none:14.1}  {floors:11.1}", x.name(), x.pairs, y.pairs);
+        println!("  {:13.2}", median(f, |r| (r[3] - r[2]) / (r[1] - r[0])));
+    }
+}
+
 fn main() {
     let parks: Vec<Park> = SIZES.iter().map(|(sections, _)| visits::wind_park(sections)).collect();
-    for p in &parks {
+    let battery_parks = |floors| SIZES.iter().map(|(sections, _)| visits::battery_park(sections, floors)).collect();
+    let batteries: [Vec<Park>; 2] = [&[][..], &visits::BATTERY_FLOORS].map(battery_parks);
+    for p in parks.iter().chain(batteries.iter().flatten()) {
         assert_eq!(full_check(&park::tables(p)), [0; 3]);
         assert_eq!(Plain::new(p).full_check(p), None);
     }
@@ -394,6 +408,10 @@ fn main() {
     let far_parks: Vec<Park> = SIZES.iter().map(|(sections, _)| new.park(visits::wind_park(sections))).collect();
     let far_visits: Vec<Visit> = kinds[0].iter().map(|v| new.visit(v)).collect();
     agree_on_visits(&far_parks, &far_visits);
+    let removals = visits::removals();
+    for parks in &batteries {
+        agree_on_visits(parks, &removals);
+    }
     let [accepted, broken, refused] = kinds.each_ref().map(|visits| timed(&parks, visits));
     beside_plain(&accepted);
     beside_plain(&broken);
@@ -403,4 +421,5 @@ fn main() {
     beside_sqlite(&accepted, &broken);
     by_parts(&accepted);
     by_parts(&timed(&parks.iter().map(without_all).collect::<Vec<_>>(), &kinds[0]));
+    by_floors(&timed(&batteries[0], &removals), &timed(&batteries[1], &removals));
 }

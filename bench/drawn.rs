@@ -6,6 +6,7 @@ struct Drawer<'a> {
     draw: Draw,
     types: &'a [(Option<u32>, u32)],
     relationships: &'a [(u32, u32)],
+    floors: &'a [(u32, u32)],
 }
 
 fn under(types: &[(Option<u32>, u32)], t: u32, u: u32) -> bool {
@@ -54,7 +55,9 @@ impl Drawer<'_> {
     }
 
     fn number(&mut self, depth: u32, scope: &mut Vec<u32>) -> Form {
-        match self.draw.below(if depth == 0 { 4 } else { 10 }) {
+        // with floors there are more sums
+        let pick = self.draw.below(if depth == 0 { 4 } else if self.floors.is_empty() { 10 } else { 20 });
+        match pick {
             0 => Form::Num(self.small()),
             1..=3 => {
                 let v = self.variable(scope);
@@ -64,7 +67,7 @@ impl Drawer<'_> {
                 }
             }
             4 | 5 => Form::Size(b(self.collection(depth - 1, scope).0)),
-            6..=8 => {
+            6..=8 | 10.. => {
                 let (c, t) = self.collection(depth - 1, scope);
                 match self.types[t as usize].1 {
                     0 => Form::Size(b(c)),
@@ -133,6 +136,22 @@ fn types(d: &mut Draw) -> Vec<(Option<u32>, u32)> {
     out
 }
 
+// Floors of some cells, in every second book. They have a draw of their own, so that the other books stay what they were without floors.
+fn floors(seed: u32, types: &[(Option<u32>, u32)]) -> Vec<(u32, u32)> {
+    let mut d = Draw(seed + 2_000_000);
+    let cells = types.iter().enumerate().flat_map(|(t, (_, cells))| (0..*cells).map(move |k| (t as u32, k)));
+    cells.filter(|_| seed % 2 == 0 && d.below(3) > 0).collect()
+}
+
+// Puts each floored cell up to 0 or above it.
+fn keep_floors(p: &mut Park) {
+    let Park { types, floors, objects, .. } = p;
+    for (_, t, cells) in objects {
+        let own = floors.iter().filter(|f| under(types, *t, f.0));
+        own.for_each(|f| cells[f.1 as usize] = cells[f.1 as usize].abs());
+    }
+}
+
 fn objects(d: &mut Draw, types: &[(Option<u32>, u32)]) -> Vec<(u32, u32, [i32; 8])> {
     let mut out = std::collections::BTreeMap::new();
     for _ in 0..d.below(12) {
@@ -146,12 +165,13 @@ fn objects(d: &mut Draw, types: &[(Option<u32>, u32)]) -> Vec<(u32, u32, [i32; 8
     out.into_iter().map(|(id, (t, cells))| (id, t, cells)).collect()
 }
 
-// A book of one to six rules with a register of up to a dozen objects.
+// A book of one to six rules with a register of up to a dozen objects, which keeps the book's floors.
 pub fn book(seed: u32) -> Park {
     let mut d = Draw(seed);
     let types = types(&mut d);
     let n = types.len() as u32;
     let relationships: Vec<(u32, u32)> = (0..1 + d.below(3)).map(|_| (d.below(n), d.below(n))).collect();
+    let floors = floors(seed, &types);
     let objects = objects(&mut d, &types);
     let mut links = std::collections::BTreeSet::new();
     for _ in 0..d.below(20) * (objects.len() as u32 / 3) {
@@ -163,7 +183,7 @@ pub fn book(seed: u32) -> Park {
         }
     }
     let count = 1 + d.below(6);
-    let mut drawer = Drawer { draw: d, types: &types, relationships: &relationships };
+    let mut drawer = Drawer { draw: d, types: &types, relationships: &relationships, floors: &floors };
     let mut rules = vec![];
     while rules.len() < count as usize {
         let context = drawer.draw.below(n);
@@ -176,7 +196,9 @@ pub fn book(seed: u32) -> Park {
             rules.push((context, body));
         }
     }
-    Park { types, relationships, rules, objects, links: links.into_iter().collect() }
+    let mut park = Park { types, floors, relationships, rules, objects, links: links.into_iter().collect() };
+    keep_floors(&mut park);
+    park
 }
 
 // A register with one word changed, or two neighbours exchanged.
@@ -234,15 +256,17 @@ fn event(d: &mut Draw, p: &Park) -> [u32; 4] {
     }
 }
 
-// A batch of up to twelve events. One in some hundred of those that are refused is kept. Half of the objects that are deleted come back at once.
+// A batch of up to twelve events. One in some hundred of those that are refused is kept, and one in ten of those below a floor. Half of the objects that are
+// deleted come back at once.
 pub fn batch(p: &Park, seed: u32) -> Vec<[u32; 4]> {
     let mut d = Draw(seed);
     let count = d.below(13) as usize;
     let (mut now, mut out, mut gone) = (literal::copy(p), vec![], None);
     for _ in 0..200 {
         let e = gone.take().unwrap_or_else(|| event(&mut d, &now));
-        let refused = literal::refusal(&now, ROOM, e).is_some();
-        if out.len() == count || refused && d.below(150) > 0 {
+        let number = literal::refusal(&now, ROOM, e);
+        let refused = number.is_some();
+        if out.len() == count || refused && d.below(if number == Some(15) { 10 } else { 150 }) > 0 {
             continue;
         }
         out.push(e);

@@ -196,6 +196,17 @@ fn other_rules() -> Vec<(u32, Form)> {
     ]
 }
 
+// The charge that battery boxes hold has limits, at a cabinet, at a blade and in all. In place of the rule that a cabinet has a box for each drive, so that boxes
+// can be taken out.
+pub fn charge_rules() -> Vec<(u32, Form)> {
+    let mut out = rules();
+    out.remove(5);
+    out.push((CABINET, le(sum(to(0, HOUSES), 0), Num(400))));
+    out.push((BLADE, le(sum(back(0, KEEPS), 0), Num(400))));
+    out.push((STORE, le(sum(All(BOX), 0), Num(100_000))));
+    out
+}
+
 pub fn rules() -> Vec<(u32, Form)> {
     let mut out: Vec<(u32, Form)> = cabinet_rules().into_iter().map(|f| (CABINET, f)).collect();
     out.extend(drive_rules());

@@ -17,22 +17,6 @@ fn either(d: u8) -> u8 {
     if d == 0 { 0 } else { UP | DOWN }
 }
 
-// The directions of a form's two parts that move it in some direction of d.
-fn parts(f: &Form, d: u8) -> (u8, u8) {
-    match f {
-        Form::Compare(0 | 1, ..) => (turned(d), d),
-        Form::Compare(2 | 3, ..) => (either(d), either(d)),
-        Form::Compare(..) => (d, turned(d)),
-        Form::Not(_) => (turned(d), 0),
-        Form::Connect(2, ..) => (either(d), either(d)),
-        Form::Connect(3, ..) => (turned(d), d),
-        Form::Quantify(0, ..) => (turned(d), d),
-        Form::Sum(..) => (either(d), 0),
-        Form::Combine(1, ..) => (d, turned(d)),
-        _ => (d, d),
-    }
-}
-
 // Event types: those that a rule lists, or those that occur in a batch. Types, relationships and cells are bits.
 #[derive(Default, Clone, Copy)]
 struct Kinds {
@@ -62,6 +46,7 @@ struct Rule {
 pub struct Book {
     above: Vec<u32>, // for each type the types that it is under, as bits
     cells: Vec<u32>,
+    floored: Vec<u8>, // for each type the cells that are at least 0, as bits
     ends: Vec<(u32, u32)>,
     rules: Vec<Rule>,
 }
@@ -72,7 +57,9 @@ impl Book {
         for (t, (parent, _)) in p.types.iter().enumerate() {
             above.push(1 << t | parent.map_or(0, |x| above[x as usize]));
         }
-        let mut book = Book { above, cells: p.types.iter().map(|t| t.1).collect(), ends: p.relationships.clone(), rules: vec![] };
+        let floors = |t: &u32| p.floors.iter().filter(|f| t >> f.0 & 1 == 1).fold(0, |cells, f| cells | 1 << f.1);
+        let floored = above.iter().map(floors).collect();
+        let mut book = Book { above, cells: p.types.iter().map(|t| t.1).collect(), floored, ends: p.relationships.clone(), rules: vec![] };
         for (context, body) in &p.rules {
             let mut kinds = Kinds { special: 1 << context, ..Kinds::default() };
             let calm = quiet(body, true);
@@ -98,9 +85,30 @@ impl Book {
         }
     }
 
+    // The directions of a form's two parts that move it in some direction of d. A sum over a floored cell goes with its collection.
+    fn parts(&self, f: &Form, d: u8) -> (u8, u8) {
+        match f {
+            Form::Compare(0 | 1, ..) => (turned(d), d),
+            Form::Compare(2 | 3, ..) => (either(d), either(d)),
+            Form::Compare(..) => (d, turned(d)),
+            Form::Not(_) => (turned(d), 0),
+            Form::Connect(2, ..) => (either(d), either(d)),
+            Form::Connect(3, ..) => (turned(d), d),
+            Form::Quantify(0, ..) => (turned(d), d),
+            Form::Sum(c, k) if self.floored[self.of(c) as usize] >> k & 1 == 0 => (either(d), 0),
+            Form::Combine(1, ..) => (d, turned(d)),
+            _ => (d, d),
+        }
+    }
+
+    // Whether an object of a type would be below a floor.
+    fn below(&self, t: u32, cells: &[i32; 8]) -> bool {
+        (0..8).any(|k| cells[k] < 0 && self.floored[t as usize] >> k & 1 == 1)
+    }
+
     // The event types that may move a form in a direction of d; scope has the variables' types.
     fn list(&self, f: &Form, d: u8, scope: &mut Vec<u32>, out: &mut Kinds) {
-        let (first, second) = parts(f, d);
+        let (first, second) = self.parts(f, d);
         let up = |n: u32| if d & UP != 0 { 1 << n } else { 0 };
         let down = |n: u32| if d & DOWN != 0 { 1 << n } else { 0 };
         match f {
@@ -299,6 +307,9 @@ impl Lists {
             let o = &mut self.objects[i];
             (o.id, o.kind, o.place, o.touch) = (id, t, of_type.len(), 0);
             o.cells.iter_mut().zip(&row[2..]).for_each(|(c, w)| *c = *w as i32);
+            if book.below(t, &o.cells) {
+                return Err(i as u32);
+            }
             o.ends.clear();
             of_type.push(i as Slot);
             self.names.of_mut(id).slot = 1 + i as Slot;
@@ -493,8 +504,12 @@ impl Lists {
             return Err(7);
         }
         let x = self.object_named(id)?;
-        if k >= book.cells[self.at(x).kind as usize] {
+        let kind = self.at(x).kind as usize;
+        if k >= book.cells[kind] {
             return Err(11);
+        }
+        if value < 0 && book.floored[kind] >> k & 1 == 1 {
+            return Err(15);
         }
         let cell = &mut self.at_mut(x).cells[k as usize];
         let before = std::mem::replace(cell, value);
@@ -555,6 +570,9 @@ impl Lists {
         let (old, cells) = (self.at(x).kind, self.at(x).cells);
         if t == old || !book.under(t, old) {
             return Err(11);
+        }
+        if book.below(t, &cells) {
+            return Err(15);
         }
         self.retype(x, t, cells);
         self.undo.push(Undo::Retype(x, old, cells));
@@ -720,7 +738,7 @@ impl Lists {
         if d == 0 {
             return false;
         }
-        let (first, second) = parts(f, d);
+        let (first, second) = book.parts(f, d);
         match f {
             Form::Compare(_, x, y) | Form::Connect(_, x, y) | Form::Combine(_, x, y) => {
                 self.moves(book, x, first, vs) || self.moves(book, y, second, vs)
@@ -785,7 +803,7 @@ impl Back<'_> {
         if d == 0 || self.everything {
             return;
         }
-        let (first, second) = parts(f, d);
+        let (first, second) = self.book.parts(f, d);
         let (lists, book) = (self.lists, self.book);
         match f {
             Form::Compare(_, x, y) | Form::Connect(_, x, y) | Form::Combine(_, x, y) => {

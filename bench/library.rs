@@ -1,13 +1,13 @@
 // The proved library's entries, over the tables of a park.
 use crate::park::Tables;
 
-// The entries over lent books and registers take the five counts, then each table by its address and length.
+// The entries over lent books and registers take the six counts, then each table by its address and length.
 macro_rules! entries {
     ($($(#[$note:meta])* $name:ident($($last:ident: $type:ty)?) $(-> $result:ty)?;)*) => {
         extern "C" {
             $($(#[$note])* fn $name(
-                types_used: u32, relationships_used: u32, rules_used: u32, objects_used: u32, links_used: u32,
-                types: *const u32, types_len: usize, relationships: *const u32, relationships_len: usize,
+                types_used: u32, floors_used: u32, relationships_used: u32, rules_used: u32, objects_used: u32, links_used: u32,
+                types: *const u32, types_len: usize, floors: *const u32, floors_len: usize, relationships: *const u32, relationships_len: usize,
                 rules: *const u32, rules_len: usize, bodies: *const u32, bodies_len: usize,
                 objects: *const u32, objects_len: usize, links: *const u32, links_len: usize,
                 $($last: $type)?
@@ -27,9 +27,9 @@ macro_rules! on_tables {
     ($entry:ident, $t:ident $(, $last:expr)?) => {
         unsafe {
             $entry(
-                ($t.types.len() / 2) as u32, ($t.relationships.len() / 2) as u32, ($t.rules.len() / 2) as u32,
+                ($t.types.len() / 2) as u32, ($t.floors.len() / 2) as u32, ($t.relationships.len() / 2) as u32, ($t.rules.len() / 2) as u32,
                 ($t.objects.len() / 10) as u32, ($t.links.len() / 3) as u32,
-                $t.types.as_ptr(), $t.types.len(), $t.relationships.as_ptr(), $t.relationships.len(),
+                $t.types.as_ptr(), $t.types.len(), $t.floors.as_ptr(), $t.floors.len(), $t.relationships.as_ptr(), $t.relationships.len(),
                 $t.rules.as_ptr(), $t.rules.len(), $t.bodies.as_ptr(), $t.bodies.len(),
                 $t.objects.as_ptr(), $t.objects.len(), $t.links.as_ptr(), $t.links.len(),
                 $($last)?
@@ -49,10 +49,10 @@ pub fn full_check(t: &Tables) -> [u32; 3] {
 }
 
 extern "C" {
-    /// 0 and the rows of the six sections; or 1, number, line
+    /// 0 and the rows of the seven sections; or 1, number, line
     fn checker_read(
         text: *const u8, text_len: usize,
-        types: *mut u32, types_len: usize, relationships: *mut u32, relationships_len: usize,
+        types: *mut u32, types_len: usize, floors: *mut u32, floors_len: usize, relationships: *mut u32, relationships_len: usize,
         rules: *mut u32, rules_len: usize, bodies: *mut u32, bodies_len: usize,
         objects: *mut u32, objects_len: usize, links: *mut u32, links_len: usize,
         events: *mut u32, events_len: usize,
@@ -63,17 +63,18 @@ extern "C" {
 // The largest tables for a text, not cleared; the events' table stands beside the others.
 pub fn largest() -> (Tables, Vec<u32>) {
     let words = |n| vec![7; n];
-    let t = Tables { types: words(64), relationships: words(64), rules: words(64), bodies: words(8192), objects: words(10240), links: words(12288) };
+    let (types, floors, relationships, rules) = (words(64), words(512), words(64), words(64));
+    let t = Tables { types, floors, relationships, rules, bodies: words(8192), objects: words(10240), links: words(12288) };
     (t, words(1024))
 }
 
 // Reads a text.
-pub fn read(text: &[u8], t: &mut Tables, events: &mut [u32]) -> [u32; 7] {
-    let mut answer = [0; 7];
+pub fn read(text: &[u8], t: &mut Tables, events: &mut [u32]) -> [u32; 8] {
+    let mut answer = [0; 8];
     unsafe {
         checker_read(
             text.as_ptr(), text.len(),
-            t.types.as_mut_ptr(), t.types.len(), t.relationships.as_mut_ptr(), t.relationships.len(),
+            t.types.as_mut_ptr(), t.types.len(), t.floors.as_mut_ptr(), t.floors.len(), t.relationships.as_mut_ptr(), t.relationships.len(),
             t.rules.as_mut_ptr(), t.rules.len(), t.bodies.as_mut_ptr(), t.bodies.len(),
             t.objects.as_mut_ptr(), t.objects.len(), t.links.as_mut_ptr(), t.links.len(),
             events.as_mut_ptr(), events.len(),
@@ -86,8 +87,8 @@ pub fn read(text: &[u8], t: &mut Tables, events: &mut [u32]) -> [u32; 7] {
 extern "C" {
     /// 0 and the used rows of objects and links after the batch, in the scratch; or 1, number, place
     fn checker_run(
-        types_used: u32, relationships_used: u32, rules_used: u32, objects_used: u32, links_used: u32,
-        types: *const u32, types_len: usize, relationships: *const u32, relationships_len: usize,
+        types_used: u32, floors_used: u32, relationships_used: u32, rules_used: u32, objects_used: u32, links_used: u32,
+        types: *const u32, types_len: usize, floors: *const u32, floors_len: usize, relationships: *const u32, relationships_len: usize,
         rules: *const u32, rules_len: usize, bodies: *const u32, bodies_len: usize,
         objects: *const u32, objects_len: usize, links: *const u32, links_len: usize,
         scratch_objects: *mut u32, scratch_objects_len: usize, scratch_links: *mut u32, scratch_links_len: usize,
@@ -101,8 +102,8 @@ pub fn run(t: &Tables, used: (u32, u32), events: &[u32], scratch: &mut (Vec<u32>
     let mut answer = [0; 3];
     unsafe {
         checker_run(
-            (t.types.len() / 2) as u32, (t.relationships.len() / 2) as u32, (t.rules.len() / 2) as u32, used.0, used.1,
-            t.types.as_ptr(), t.types.len(), t.relationships.as_ptr(), t.relationships.len(),
+            (t.types.len() / 2) as u32, (t.floors.len() / 2) as u32, (t.relationships.len() / 2) as u32, (t.rules.len() / 2) as u32, used.0, used.1,
+            t.types.as_ptr(), t.types.len(), t.floors.as_ptr(), t.floors.len(), t.relationships.as_ptr(), t.relationships.len(),
             t.rules.as_ptr(), t.rules.len(), t.bodies.as_ptr(), t.bodies.len(),
             t.objects.as_ptr(), t.objects.len(), t.links.as_ptr(), t.links.len(),
             scratch.0.as_mut_ptr(), scratch.0.len(), scratch.1.as_mut_ptr(), scratch.1.len(),
@@ -116,8 +117,8 @@ pub fn run(t: &Tables, used: (u32, u32), events: &[u32], scratch: &mut (Vec<u32>
 extern "C" {
     /// 0, or 1, rule and id, or 2, number and place; then the pairs in the list and the used rows of objects and links after the batch
     fn checker_batch(
-        types_used: u32, relationships_used: u32, rules_used: u32, objects_used: u32, links_used: u32, events_used: u32,
-        types: *const u32, types_len: usize, relationships: *const u32, relationships_len: usize,
+        types_used: u32, floors_used: u32, relationships_used: u32, rules_used: u32, objects_used: u32, links_used: u32, events_used: u32,
+        types: *const u32, types_len: usize, floors: *const u32, floors_len: usize, relationships: *const u32, relationships_len: usize,
         rules: *const u32, rules_len: usize, bodies: *const u32, bodies_len: usize,
         objects: *mut u32, objects_len: usize, links: *mut u32, links_len: usize,
         events: *const u32, events_len: usize,
@@ -132,8 +133,8 @@ pub fn batch(t: &mut Tables, used: (u32, u32), events: &[[u32; 4]], scratch: &mu
     let mut answer = [0; 6];
     unsafe {
         checker_batch(
-            (t.types.len() / 2) as u32, (t.relationships.len() / 2) as u32, (t.rules.len() / 2) as u32, used.0, used.1, events.len() as u32,
-            t.types.as_ptr(), t.types.len(), t.relationships.as_ptr(), t.relationships.len(),
+            (t.types.len() / 2) as u32, (t.floors.len() / 2) as u32, (t.relationships.len() / 2) as u32, (t.rules.len() / 2) as u32, used.0, used.1, events.len() as u32,
+            t.types.as_ptr(), t.types.len(), t.floors.as_ptr(), t.floors.len(), t.relationships.as_ptr(), t.relationships.len(),
             t.rules.as_ptr(), t.rules.len(), t.bodies.as_ptr(), t.bodies.len(),
             t.objects.as_mut_ptr(), t.objects.len(), t.links.as_mut_ptr(), t.links.len(),
             events.as_flattened().as_ptr(), 4 * events.len(),
@@ -148,8 +149,8 @@ pub fn batch(t: &mut Tables, used: (u32, u32), events: &[[u32; 4]], scratch: &mu
 extern "C" {
     /// 0 and the event types in the list; or 1, number, place
     fn checker_events(
-        types_used: u32, relationships_used: u32, rules_used: u32,
-        types: *const u32, types_len: usize, relationships: *const u32, relationships_len: usize,
+        types_used: u32, floors_used: u32, relationships_used: u32, rules_used: u32,
+        types: *const u32, types_len: usize, floors: *const u32, floors_len: usize, relationships: *const u32, relationships_len: usize,
         rules: *const u32, rules_len: usize, bodies: *const u32, bodies_len: usize,
         rule: u32,
         list: *mut u16, list_len: usize,
@@ -162,8 +163,8 @@ pub fn events(t: &Tables, rule: u32, list: &mut [u16]) -> [u32; 3] {
     let mut answer = [0; 3];
     unsafe {
         checker_events(
-            (t.types.len() / 2) as u32, (t.relationships.len() / 2) as u32, (t.rules.len() / 2) as u32,
-            t.types.as_ptr(), t.types.len(), t.relationships.as_ptr(), t.relationships.len(),
+            (t.types.len() / 2) as u32, (t.floors.len() / 2) as u32, (t.relationships.len() / 2) as u32, (t.rules.len() / 2) as u32,
+            t.types.as_ptr(), t.types.len(), t.floors.as_ptr(), t.floors.len(), t.relationships.as_ptr(), t.relationships.len(),
             t.rules.as_ptr(), t.rules.len(), t.bodies.as_ptr(), t.bodies.len(),
             rule,
             list.as_mut_ptr(), list.len(),

@@ -13,7 +13,8 @@ struct Story<'a> {
 }
 
 pub fn copy(p: &Park) -> Park {
-    Park { types: p.types.clone(), relationships: p.relationships.clone(), rules: vec![], objects: p.objects.clone(), links: p.links.clone() }
+    let (types, floors, relationships) = (p.types.clone(), p.floors.clone(), p.relationships.clone());
+    Park { types, floors, relationships, rules: vec![], objects: p.objects.clone(), links: p.links.clone() }
 }
 
 fn under(p: &Park, t: u32, u: u32) -> bool {
@@ -28,12 +29,22 @@ fn in_type(p: &Park, id: u32, t: u32) -> bool {
     type_of(p, id).is_some_and(|x| under(p, x, t))
 }
 
+// Cell k of an object of type t is at least 0: t or a type above it has the floor.
+fn floored(p: &Park, t: u32, k: u32) -> bool {
+    p.floors.iter().any(|f| under(p, t, f.0) && f.1 == k)
+}
+
+fn below_floor(p: &Park, t: u32, cells: [i32; 8]) -> bool {
+    (0..8).any(|k| cells[k] < 0 && floored(p, t, k as u32))
+}
+
 // Refusal 5: the first faulty row, objects first.
 fn faulty_row(p: &Park) -> Option<u32> {
     let object = |i: usize| {
         let (id, t, cells) = p.objects[i];
         let ascends = i == 0 || p.objects[i - 1].0 < id;
-        ascends && (1..=crate::park::LARGEST_ID).contains(&id) && p.types.get(t as usize).is_some_and(|x| cells[x.1 as usize..].iter().all(|c| *c == 0))
+        let fits = |x: &(Option<u32>, u32)| cells[x.1 as usize..].iter().all(|c| *c == 0) && !below_floor(p, t, cells);
+        ascends && (1..=crate::park::LARGEST_ID).contains(&id) && p.types.get(t as usize).is_some_and(fits)
     };
     let link = |i: usize| {
         let (r, a, b) = p.links[i];
@@ -44,7 +55,7 @@ fn faulty_row(p: &Park) -> Option<u32> {
     of(p.objects.len(), &object).or_else(|| of(p.links.len(), &link))
 }
 
-// Refusals 7 to 13 of one event, in the table's order.
+// Refusals 7 to 13 and 15 of one event, in the table's order; 15 is checked after 11.
 pub fn refusal(p: &Park, room: (usize, usize), [kind, x, y, z]: [u32; 4]) -> Option<u32> {
     let id = |n: u32| (1..=crate::park::LARGEST_ID).contains(&n);
     let (a_type, a_rel) = ((y as usize) < p.types.len(), (x as usize) < p.relationships.len());
@@ -62,12 +73,13 @@ pub fn refusal(p: &Park, room: (usize, usize), [kind, x, y, z]: [u32; 4]) -> Opt
         _ => &[x],
     };
     let linked = p.links.contains(&(x, y, z));
-    let tests: [(u32, &dyn Fn() -> bool); 7] = [
+    let tests: [(u32, &dyn Fn() -> bool); 8] = [
         (7, &|| !known),
         (8, &|| !named.iter().all(|n| there(*n))),
         (9, &|| kind == 0 && there(x) || kind == 3 && linked),
         (10, &|| kind == 4 && !linked),
         (11, &|| !fits(p, [kind, x, y, z])),
+        (15, &|| brought_below(p, [kind, x, y, z])),
         (12, &|| kind == 6 && holds_it(p, x, y)),
         (13, &|| kind == 0 && p.objects.len() >= room.0.min(1024) || kind == 3 && p.links.len() >= room.1.min(4096)),
     ];
@@ -82,6 +94,16 @@ fn fits(p: &Park, [kind, x, y, z]: [u32; 4]) -> bool {
         5 => y != own() && under(p, y, own()),
         6 => y != own() && under(p, own(), y),
         _ => true,
+    }
+}
+
+// a set of a floored cell below 0, or a special of an object with such a cell to a type that has the floor
+fn brought_below(p: &Park, [kind, x, y, z]: [u32; 4]) -> bool {
+    let object = || p.objects.iter().find(|o| o.0 == x).unwrap();
+    match kind {
+        2 => (z as i32) < 0 && floored(p, object().1, y),
+        5 => below_floor(p, y, object().2),
+        _ => false,
     }
 }
 
@@ -159,6 +181,23 @@ impl Story<'_> {
         ids.into_iter().any(|id| self.took(&[1, 6], id, t))
     }
 
+    // The type of a collection's members.
+    fn member_type(&self, c: &Form) -> u32 {
+        match c {
+            Form::Role(_, r) if r % 2 == 0 => self.book.relationships[*r as usize / 2].1,
+            Form::Role(_, r) => self.book.relationships[*r as usize / 2].0,
+            Form::All(t) => *t,
+            Form::Select(c, _) => self.member_type(c),
+            _ => panic!("no collection"),
+        }
+    }
+
+    // A sum over a floored cell rises by gain only and falls by loss only; another either way by both. A set moves each both ways.
+    fn sum_moves(&self, c: &Form, k: u32, up: bool, vs: &mut Vec<usize>) -> bool {
+        let other_way = !floored(self.book, self.member_type(c), k) && self.moves(c, !up, vs);
+        other_way || self.moves(c, up, vs) || self.end.members(c, vs).iter().any(|x| self.was_set(self.end.ids[*x], k))
+    }
+
     // Whether a form may turn true, rise or gain (up), or turn false, fall or lose. Variables hold rows of the end.
     fn moves(&self, f: &Form, up: bool, vs: &mut Vec<usize>) -> bool {
         let id = |v: &u32, vs: &Vec<usize>| self.end.ids[vs[*v as usize]];
@@ -178,7 +217,7 @@ impl Story<'_> {
             Form::Num(_) => false,
             Form::Cell(v, k) => self.was_set(id(v, vs), *k),
             Form::Size(c) => self.moves(c, up, vs),
-            Form::Sum(c, k) => any(c, vs) || self.end.members(c, vs).iter().any(|x| self.was_set(self.end.ids[*x], *k)),
+            Form::Sum(c, k) => self.sum_moves(c, *k, up, vs),
             Form::Combine(0, x, y) => self.moves(x, up, vs) || self.moves(y, up, vs),
             Form::Combine(_, x, y) => self.moves(x, up, vs) || self.moves(y, !up, vs),
             Form::Role(v, r) => self.role_moves(id(v, vs), *r, up),

@@ -84,6 +84,7 @@ pub fn write(f: &Form, out: &mut Vec<u32>) {
 
 pub struct Park {
     pub types: Vec<(Option<u32>, u32)>,
+    pub floors: Vec<(u32, u32)>, // type and cell
     pub relationships: Vec<(u32, u32)>,
     pub rules: Vec<(u32, Form)>,
     pub objects: Vec<(u32, u32, [i32; 8])>,
@@ -93,6 +94,7 @@ pub struct Park {
 #[derive(Clone)]
 pub struct Tables {
     pub types: Vec<u32>,
+    pub floors: Vec<u32>,
     pub relationships: Vec<u32>,
     pub rules: Vec<u32>,
     pub bodies: Vec<u32>,
@@ -101,9 +103,12 @@ pub struct Tables {
 }
 
 pub fn tables(p: &Park) -> Tables {
-    let mut t = Tables { types: vec![], relationships: vec![], rules: vec![], bodies: vec![], objects: vec![], links: vec![] };
+    let mut t = Tables { types: vec![], floors: vec![], relationships: vec![], rules: vec![], bodies: vec![], objects: vec![], links: vec![] };
     for (parent, cells) in &p.types {
         t.types.extend([parent.unwrap_or(u32::MAX), *cells]);
+    }
+    for (kind, cell) in &p.floors {
+        t.floors.extend([*kind, *cell]);
     }
     for (s, d) in &p.relationships {
         t.relationships.extend([*s, *d]);
@@ -184,7 +189,7 @@ pub fn park(objects: u32, links: u32, seed: u32) -> Park {
         let c = drives[d.below(drives.len() as u32) as usize];
         set.insert((r, a, c));
     }
-    Park { types, relationships, rules: rules(), objects: objs, links: set.into_iter().collect() }
+    Park { types, floors: vec![], relationships, rules: rules(), objects: objs, links: set.into_iter().collect() }
 }
 
 // How the objects of a park are numbered. The types, cells and links stay the same; ids ascend with the rows.

@@ -26,6 +26,9 @@ pub fn text(p: &Park) -> String {
         let parent = parent.map_or("-".to_string(), |x| x.to_string());
         out += &format!("(type {i} {parent} {cells})\n");
     }
+    for (kind, cell) in &p.floors {
+        out += &format!("(floor {kind} {cell})\n");
+    }
     for (i, (s, d)) in p.relationships.iter().enumerate() {
         out += &format!("(rel {i} {s} {d})\n");
     }

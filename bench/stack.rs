@@ -89,6 +89,7 @@ fn deep_bodies() -> Vec<(&'static str, Form)> {
 fn pair_with(body: Form) -> Park {
     Park {
         types: vec![(None, 3), (None, 3)],
+        floors: vec![],
         relationships: vec![(0, 1)],
         rules: vec![(0, body)],
         objects: vec![(1, 0, [0; 8]), (2, 1, [0; 8])],
@@ -125,7 +126,7 @@ fn full_check(p: &Park) -> usize {
 
 fn read(text: &str, refused: u32) -> usize {
     let (mut lent, mut events) = library::largest();
-    let mut answer = [2; 7];
+    let mut answer = [2; 8];
     let bytes = depth(|| answer = library::read(text.as_bytes(), &mut lent, &mut events));
     assert_eq!(answer[0], refused);
     bytes

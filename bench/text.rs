@@ -13,6 +13,7 @@ fn same(p: &Park, read: &Tables) -> bool {
     let t = park::tables(p);
     let starts = |a: &[u32], b: &[u32]| a[..b.len()] == *b && a[b.len()..].iter().all(|w| *w == 0);
     starts(&read.types, &t.types)
+        && starts(&read.floors, &t.floors)
         && starts(&read.relationships, &t.relationships)
         && starts(&read.rules, &t.rules)
         && starts(&read.bodies, &t.bodies)

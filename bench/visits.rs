@@ -125,12 +125,23 @@ pub fn wind_park(sections: &[usize]) -> Park {
     }
     Park {
         types: TYPES.to_vec(),
+        floors: vec![],
         relationships: RELATIONSHIPS.to_vec(),
         rules: rules(),
         objects: objects.into_iter().map(|(id, (t, cells))| (id, t, cells)).collect(),
         links: all_links.into_iter().collect(),
     }
 }
+
+// The park for visits that take battery boxes out: rules about the charge that they hold, blades that one box is enough for, and floors or none.
+pub fn battery_park(sections: &[usize], floors: &[(u32, u32)]) -> Park {
+    let mut p = wind_park(sections);
+    p.objects.iter_mut().filter(|o| o.1 == BLADE).for_each(|o| o.2[0] = 60);
+    Park { rules: charge_rules(), floors: floors.to_vec(), ..p }
+}
+
+// Charge, capacity and age of a battery box are never below 0.
+pub const BATTERY_FLOORS: [(u32, u32); 3] = [(BOX, 0), (BOX, 1), (BOX, 2)];
 
 pub type Event = [u32; 4];
 
@@ -316,6 +327,33 @@ pub fn accepted() -> Vec<Visit> {
         Visit { name: "a drive exchanged", events: drive_exchange() },
         Visit { name: "hubs exchanged", events: hub_exchange() },
         Visit { name: "drives scrapped with their links", events: drives_scrapped() },
+    ]
+}
+
+// Readings, and then a battery box of so many of the smaller park's sixteen turbines comes out: deleted with its links, or parted from its cabinet and its blades.
+fn boxes_out(readings: usize, turbines: usize, deleted: bool) -> Vec<Event> {
+    let mut c = Crew::new(5);
+    while c.events.len() < readings {
+        c.reading();
+    }
+    for n in 0..turbines {
+        let old = c.numbers.part(SMALL[n % 2], n / 2, AT_BOX + n % 3);
+        if deleted {
+            c.delete(old);
+        } else {
+            c.links_of(old).into_iter().filter(|l| l.0 != SUITS).for_each(|l| c.part(l));
+        }
+    }
+    c.events
+}
+
+// The visits that take battery boxes out, of 1, 16, 48 and 40 events.
+pub fn removals() -> Vec<Visit> {
+    vec![
+        Visit { name: "a battery box out", events: boxes_out(0, 1, true) },
+        Visit { name: "a box out of each of 16 cabinets", events: boxes_out(0, 16, true) },
+        Visit { name: "a box parted from each of 16", events: boxes_out(0, 16, false) },
+        Visit { name: "24 readings, and a box out of each", events: boxes_out(24, 16, true) },
     ]
 }
 

@@ -16,11 +16,11 @@ import plain
 
 SOIL = 7
 OPERATORS = 'le lt eq ne ge gt not and or xor implies forall exists kind num cell size sum add sub role all select'.split()
-WIDTHS = {'types': 2, 'relationships': 2, 'rules': 2, 'bodies': 4, 'objects': 10, 'links': 3, 'events': 4}
+WIDTHS = {'types': 2, 'floors': 2, 'relationships': 2, 'rules': 2, 'bodies': 4, 'objects': 10, 'links': 3, 'events': 4}
 NAMES = list(WIDTHS)
 COUNTED = [name for name in NAMES if name != 'bodies']
-SMALL = {'types': 8, 'relationships': 4, 'rules': 6, 'bodies': 6 * 64, 'objects': 12, 'links': 16, 'events': 10}
-LARGEST = {'types': 32, 'relationships': 32, 'rules': 32, 'bodies': 32 * 64, 'objects': 1024, 'links': 4096, 'events': 256}
+SMALL = {'types': 8, 'floors': 24, 'relationships': 4, 'rules': 6, 'bodies': 6 * 64, 'objects': 12, 'links': 16, 'events': 10}
+LARGEST = {'types': 32, 'floors': 256, 'relationships': 32, 'rules': 32, 'bodies': 32 * 64, 'objects': 1024, 'links': 4096, 'events': 256}
 
 
 def body_rows(f):
@@ -48,13 +48,18 @@ class Case:
     def __init__(self, book, register, events, rows=SMALL, list_words=48, out=65536):
         self.book, self.register, self.events = book, register, events
         self.rows, self.list_words, self.out = rows, list_words, out
-        self.used = {'types': len(book.types), 'relationships': len(book.relationships), 'rules': len(book.rules),
+        self.used = {'types': len(book.types), 'floors': len(book.floors), 'relationships': len(book.relationships), 'rules': len(book.rules),
                      'objects': len(register.objects), 'links': len(register.links), 'events': len(events)}
         self.lent = {name: self.table(name) for name in NAMES}
         self.scratch = [len(self.lent['objects']), len(self.lent['links'])]
-        self.refused = {}  # by entry, where the tables were damaged
+        self.refused = {}  # by entry, where the tables were damaged or the register is below a floor
+        below = plain.register_refusal(book, register)
+        if below is not None:
+            self.damage(*below, EVERY)
 
     def used_rows(self, name):
+        if name == 'floors':
+            return self.book.floors
         if name == 'types':
             return [(-1 if parent is None else parent, cells) for parent, cells in self.book.types]
         if name == 'rules':
@@ -162,7 +167,7 @@ def reading(case, text=None, refusal=None, rows=None):
     text = (case.text() if text is None else text).encode()
     rows = rows or case.rows
     sizes = [WIDTHS[name] * rows[name] for name in NAMES]
-    answer = [0, *(case.used[name] for name in COUNTED)] if refusal is None else [1, *refusal, 0, 0, 0, 0]
+    answer = [0, *(case.used[name] for name in COUNTED)] if refusal is None else [1, *refusal, 0, 0, 0, 0, 0]
     tables = [word for name in NAMES for word in case.table(name, 0)] if refusal is None else []
     return [2, len(text), *text, *sizes, *answer, *tables]
 
@@ -212,7 +217,7 @@ def first_named(i):
 def damages():
     """Each kind of damage to tables that have two types, rules, objects, links and events or more: its refusal, who meets it, what is done."""
     for name in COUNTED:
-        entries = BOOKS if name in COUNTED[:3] else BATCHED if name == 'events' else EVERY
+        entries = BOOKS if name in COUNTED[:4] else BATCHED if name == 'events' else EVERY
         yield 2, 0, entries, count(name, SMALL[name] + 1)
         yield 2, 0, entries, count(name, 2**32 - 1)
         yield 6, 0, entries, longer(name)
@@ -236,8 +241,23 @@ def damages():
     yield from ((6, 0, ['run', 'batch'], shorter_scratch(at)) for at in (0, 1))
 
 
-def damaged_tables(make):
-    for number, place, entries, change in damages():
+def floor_damages(case):
+    """The same for a case with two floors or more, which it keeps: the floors, and each object below one."""
+    last = case.used['floors'] - 1
+    yield 3, 0, BOOKS, word('floors', 0, 32)
+    yield 3, 0, BOOKS, word('floors', 1, 8)
+    yield 3, 0, BOOKS, word('floors', 1, 2**32 - 1)
+    yield 3, 1, BOOKS, swap('floors')
+    yield 3, 1, BOOKS, lambda other: other.lent['floors'].__setitem__(slice(2, 4), other.lent['floors'][:2])
+    yield 3, last, BOOKS, word('floors', 2 * last + 1, 8)
+    yield 3, last, BOOKS, lambda other: [word('floors', 2 * last, 32)(other), word('relationships', 1, 32)(other)]
+    for row, (_, t, *_) in enumerate(object_rows(case.register)):
+        for k in case.book.floored(t):
+            yield 5, row, EVERY, word('objects', 10 * row + 2 + k, 2**31)
+
+
+def damaged_tables(make, changes):
+    for number, place, entries, change in changes:
         case = make()
         change(case)
         yield case.damage(number, place, entries)
@@ -274,9 +294,11 @@ def too_small(case):
 
 # ---------------------------------------------------------------- the largest
 
-def largest_book():
+def largest_book(cells):
+    """With two cells a type and no floors, or with eight and a floor of each."""
     book = plain.Book()
-    book.types = [(None, 2)] + [(0, 2)] * 31
+    book.types = [(None, cells)] + [(0, cells)] * 31
+    book.floors = [(t, k) for t in range(32) for k in range(cells)] if cells == 8 else []
     book.relationships = [(r, (r + 1) % 32) for r in range(32)]
     body = lambda r: ('le', ('sum', ('role', 0, 2 * r), 0), ('cell', 0, 1))
     book.rules = [(r, body(r)) for r in range(32)]
@@ -287,7 +309,7 @@ def largest_book():
     return book
 
 
-def largest(last):
+def largest(last, cells=2):
     """1,024 objects, 4,096 links, 32 rules and 256 events, of which the last is given."""
     name = lambda t, k: 1 + 64 * (32 * k + t)
     register = plain.Register()
@@ -300,7 +322,7 @@ def largest(last):
     events = [('part', *link) for link in own[:3]] + [('delete', gone), ('insert', gone, 5), ('set', gone, 1, 130)]  # which takes the others
     events += [('join', *link) for link in own]
     events += [('set', name(n % 7, n % 32), 0, n % 32) for n in range(255 - len(events))] + [last]
-    return Case(largest_book(), register, events, LARGEST, 65536)
+    return Case(largest_book(cells), register, events, LARGEST, 65536)
 
 
 def long_text(size):
@@ -334,23 +356,35 @@ def marked():
     yield from from_blocks([block.split('\n') for block in blocks], rows=rows)
 
 
+def of_book(number, floored):
+    """The cases of a drawn book, with floors or without."""
+    cases = list(from_blocks(draw.drawn(number, 5, floored=floored)))
+    yield from (case.file_words() for case in cases)
+    yield reading(cases[0])
+    yield from damaged_texts(cases[0], number)
+    yield from too_small(cases[0])
+    for short in from_blocks(draw.drawn(number, 3, floored=floored), list_words=number % 4, out=number):
+        yield short.file_words()
+    small = lambda: next(from_blocks(draw.drawn(number, 1, floored=floored)))
+    case = small()
+    kept = 'check' not in case.refused
+    if kept and all(count > 1 for name, count in case.used.items() if name != 'floors'):
+        yield from (case.file_words() for case in damaged_tables(small, damages()))
+    if kept and case.used['floors'] > 1:
+        yield from (case.file_words() for case in damaged_tables(small, floor_damages(case)))
+
+
 def all_cases():
     yield from (case.file_words() for case in marked())
     for number in range(120):
-        cases = list(from_blocks(draw.drawn(number, 5)))
-        yield from (case.file_words() for case in cases)
+        yield from of_book(number, False)
         yield from (case.file_words() for case in from_blocks(draw.drawn(number, 2, near=False)))
-        yield reading(cases[0])
-        yield from damaged_texts(cases[0], number)
-        yield from too_small(cases[0])
-        for short in from_blocks(draw.drawn(number, 3), list_words=number % 4, out=number):
-            yield short.file_words()
-        small = lambda: next(from_blocks(draw.drawn(number, 1)))
-        if all(count > 1 for count in small().used.values()):
-            yield from (case.file_words() for case in damaged_tables(small))
-    yield largest(('set', 1, 0, 5)).file_words()
-    yield largest(('set', 1 + 64 * 33, 0, 500)).file_words()
-    yield largest(('insert', 2, 0)).file_words()
+        yield from of_book(number, True)
+    for cells in (2, 8):
+        yield largest(('set', 1, 0, 5), cells).file_words()
+        yield largest(('set', 1 + 64 * 33, 0, 500), cells).file_words()
+        yield largest(('insert', 2, 0), cells).file_words()
+    yield largest(('set', 1, 0, -1), 8).file_words()
     yield reading(long_text(65536))
     yield reading(long_text(65537), refusal=(2, 0))
 

@@ -22,6 +22,7 @@ extern "C" {
 /* Words of one row. */
 enum {
     CHECKER_TYPE_WORDS = 2,
+    CHECKER_FLOOR_WORDS = 2, /* type, cell: the cell is at least 0 in objects of the type and of those below it */
     CHECKER_RELATIONSHIP_WORDS = 2,
     CHECKER_RULE_WORDS = 2,
     CHECKER_BODY_WORDS = 4,
@@ -35,6 +36,7 @@ enum {
 /* The most rows that can be used. A longer table is lent in vain; a shorter one is refused only where it is too short. */
 enum {
     CHECKER_MOST_TYPES = 32,
+    CHECKER_MOST_FLOORS = 256,
     CHECKER_MOST_RELATIONSHIPS = 32,
     CHECKER_MOST_RULES = 32,
     CHECKER_BODY_ROWS = 64, /* to be lent for each used rule: rule n's body starts at row 64 n */
@@ -67,54 +69,59 @@ enum checker_outcome { CHECKER_DONE = 0, CHECKER_NOT_DONE = 1 };
 
 /* A refusal's number, and what its place counts: lines from 1, everything else from 0. */
 enum checker_refusal {
-    CHECKER_FORM = 1,      /* a text's line is not in its form: line */
-    CHECKER_TOO_MANY = 2,  /* more than a limit or the lent rows allow: line; 0 for tables and for a text that is too long */
-    CHECKER_SCHEMA = 3,    /* a type, else a relationship, is wrong: its number */
-    CHECKER_RULE = 4,      /* a rule is wrong, or there is no such rule: its number */
-    CHECKER_REGISTER = 5,  /* an object, else a link, is wrong: its row */
-    CHECKER_TABLES = 6,    /* a table is not whole rows, or a scratch is shorter than its table: 0 */
-    CHECKER_UNKNOWN = 7,   /* an event names what cannot be: event */
-    CHECKER_ABSENT = 8,    /* an object is not there: event */
-    CHECKER_PRESENT = 9,   /* an inserted object or a joined link is there: event */
-    CHECKER_NO_LINK = 10,  /* a parted link is not there: event */
-    CHECKER_NO_FIT = 11,   /* a cell, an end or a new type does not fit: event */
-    CHECKER_LINKED = 12,   /* a link needs the type that a general leaves: event */
-    CHECKER_FULL = 13,     /* no row is left: event */
-    CHECKER_TOO_SHORT = 14 /* the list or the written text needs more than is lent: 0 */
+    CHECKER_FORM = 1,       /* a text's line is not in its form: line */
+    CHECKER_TOO_MANY = 2,   /* more than a limit or the lent rows allow: line; 0 for tables and for a text that is too long */
+    CHECKER_SCHEMA = 3,     /* a type, else a floor, else a relationship, is wrong: its number */
+    CHECKER_RULE = 4,       /* a rule is wrong, or there is no such rule: its number */
+    CHECKER_REGISTER = 5,   /* an object, else a link, is wrong: its row */
+    CHECKER_TABLES = 6,     /* a table is not whole rows, or a scratch is shorter than its table: 0 */
+    CHECKER_UNKNOWN = 7,    /* an event names what cannot be: event */
+    CHECKER_ABSENT = 8,     /* an object is not there: event */
+    CHECKER_PRESENT = 9,    /* an inserted object or a joined link is there: event */
+    CHECKER_NO_LINK = 10,   /* a parted link is not there: event */
+    CHECKER_NO_FIT = 11,    /* a cell, an end or a new type does not fit: event */
+    CHECKER_LINKED = 12,    /* a link needs the type that a general leaves: event */
+    CHECKER_FULL = 13,      /* no row is left: event */
+    CHECKER_TOO_SHORT = 14, /* the list or the written text needs more than is lent: 0 */
+    CHECKER_BELOW = 15      /* a set puts a cell below its floor, or a special an object: event; checked after 11 */
 };
 
 /* Refusals 2, 6, 3, 4 and 5 of a book and a register. Returns a refusal's number times 2^32 plus its place, or 0. */
 uint64_t checker_check(
-    uint32_t types_used, uint32_t relationships_used, uint32_t rules_used, uint32_t objects_used, uint32_t links_used,
-    const uint32_t *types, size_t types_len, const uint32_t *relationships, size_t relationships_len,
-    const uint32_t *rules, size_t rules_len, const uint32_t *bodies, size_t bodies_len,
+    uint32_t types_used, uint32_t floors_used, uint32_t relationships_used, uint32_t rules_used, uint32_t objects_used, uint32_t links_used,
+    const uint32_t *types, size_t types_len, const uint32_t *floors, size_t floors_len,
+    const uint32_t *relationships, size_t relationships_len, const uint32_t *rules, size_t rules_len,
+    const uint32_t *bodies, size_t bodies_len,
     const uint32_t *objects, size_t objects_len, const uint32_t *links, size_t links_len);
 
 /* Every rule at every object. The answer is 0 0 0, accepted; 1, rule, id: the first pair that is broken; or 2, number, place. */
 void checker_full_check(
-    uint32_t types_used, uint32_t relationships_used, uint32_t rules_used, uint32_t objects_used, uint32_t links_used,
-    const uint32_t *types, size_t types_len, const uint32_t *relationships, size_t relationships_len,
-    const uint32_t *rules, size_t rules_len, const uint32_t *bodies, size_t bodies_len,
+    uint32_t types_used, uint32_t floors_used, uint32_t relationships_used, uint32_t rules_used, uint32_t objects_used, uint32_t links_used,
+    const uint32_t *types, size_t types_len, const uint32_t *floors, size_t floors_len,
+    const uint32_t *relationships, size_t relationships_len, const uint32_t *rules, size_t rules_len,
+    const uint32_t *bodies, size_t bodies_len,
     const uint32_t *objects, size_t objects_len, const uint32_t *links, size_t links_len,
     uint32_t answer[3]);
 
-/* A text into tables. The answer is 0 and the used rows of types, relationships, rules, objects, links and events, with every unused row
- * of the tables 0; or 1, number, line, 0 0 0 0, with the tables as they were. */
+/* A text into tables. The answer is 0 and the used rows of types, floors, relationships, rules, objects, links and events, with every unused
+ * row of the tables 0; or 1, number, line, 0 0 0 0 0, with the tables as they were. */
 void checker_read(
     const uint8_t *text, size_t text_len,
-    uint32_t *types, size_t types_len, uint32_t *relationships, size_t relationships_len,
-    uint32_t *rules, size_t rules_len, uint32_t *bodies, size_t bodies_len,
+    uint32_t *types, size_t types_len, uint32_t *floors, size_t floors_len,
+    uint32_t *relationships, size_t relationships_len, uint32_t *rules, size_t rules_len,
+    uint32_t *bodies, size_t bodies_len,
     uint32_t *objects, size_t objects_len, uint32_t *links, size_t links_len,
     uint32_t *events, size_t events_len,
-    uint32_t answer[7]);
+    uint32_t answer[8]);
 
 /* The events of a batch on a copy of the register, which stands in the scratch; no rule is looked at. The answer is 0 and the used rows of
  * the scratch's objects and links; or 1, number, place, and then nothing is known of the scratch. Each scratch is as long as its table or
  * longer. */
 void checker_run(
-    uint32_t types_used, uint32_t relationships_used, uint32_t rules_used, uint32_t objects_used, uint32_t links_used,
-    const uint32_t *types, size_t types_len, const uint32_t *relationships, size_t relationships_len,
-    const uint32_t *rules, size_t rules_len, const uint32_t *bodies, size_t bodies_len,
+    uint32_t types_used, uint32_t floors_used, uint32_t relationships_used, uint32_t rules_used, uint32_t objects_used, uint32_t links_used,
+    const uint32_t *types, size_t types_len, const uint32_t *floors, size_t floors_len,
+    const uint32_t *relationships, size_t relationships_len, const uint32_t *rules, size_t rules_len,
+    const uint32_t *bodies, size_t bodies_len,
     const uint32_t *objects, size_t objects_len, const uint32_t *links, size_t links_len,
     uint32_t *scratch_objects, size_t scratch_objects_len, uint32_t *scratch_links, size_t scratch_links_len,
     uint32_t events_used, const uint32_t *events, size_t events_len,
@@ -127,9 +134,11 @@ void checker_run(
  *   refused   objects, links and list are as they were; no pair is listed
  * Words past the listed pairs keep what they held. Nothing is known of the scratch afterwards; each is as long as its table or longer. */
 void checker_batch(
-    uint32_t types_used, uint32_t relationships_used, uint32_t rules_used, uint32_t objects_used, uint32_t links_used, uint32_t events_used,
-    const uint32_t *types, size_t types_len, const uint32_t *relationships, size_t relationships_len,
-    const uint32_t *rules, size_t rules_len, const uint32_t *bodies, size_t bodies_len,
+    uint32_t types_used, uint32_t floors_used, uint32_t relationships_used, uint32_t rules_used,
+    uint32_t objects_used, uint32_t links_used, uint32_t events_used,
+    const uint32_t *types, size_t types_len, const uint32_t *floors, size_t floors_len,
+    const uint32_t *relationships, size_t relationships_len, const uint32_t *rules, size_t rules_len,
+    const uint32_t *bodies, size_t bodies_len,
     uint32_t *objects, size_t objects_len, uint32_t *links, size_t links_len,
     const uint32_t *events, size_t events_len,
     uint32_t *scratch_objects, size_t scratch_objects_len, uint32_t *scratch_links, size_t scratch_links_len,
@@ -138,17 +147,20 @@ void checker_batch(
 
 /* The event types that can break a rule. The answer is 0, how many there are in the list, 0; or 1, number, place, with the list as it was. */
 void checker_events(
-    uint32_t types_used, uint32_t relationships_used, uint32_t rules_used,
-    const uint32_t *types, size_t types_len, const uint32_t *relationships, size_t relationships_len,
-    const uint32_t *rules, size_t rules_len, const uint32_t *bodies, size_t bodies_len,
+    uint32_t types_used, uint32_t floors_used, uint32_t relationships_used, uint32_t rules_used,
+    const uint32_t *types, size_t types_len, const uint32_t *floors, size_t floors_len,
+    const uint32_t *relationships, size_t relationships_len, const uint32_t *rules, size_t rules_len,
+    const uint32_t *bodies, size_t bodies_len,
     uint32_t rule, uint16_t *list, size_t list_len,
     uint32_t answer[3]);
 
 /* Tables as their text. The answer is 0, how many bytes were written, 0; or 1, number, place, with the bytes as they were. */
 void checker_write(
-    uint32_t types_used, uint32_t relationships_used, uint32_t rules_used, uint32_t objects_used, uint32_t links_used, uint32_t events_used,
-    const uint32_t *types, size_t types_len, const uint32_t *relationships, size_t relationships_len,
-    const uint32_t *rules, size_t rules_len, const uint32_t *bodies, size_t bodies_len,
+    uint32_t types_used, uint32_t floors_used, uint32_t relationships_used, uint32_t rules_used,
+    uint32_t objects_used, uint32_t links_used, uint32_t events_used,
+    const uint32_t *types, size_t types_len, const uint32_t *floors, size_t floors_len,
+    const uint32_t *relationships, size_t relationships_len, const uint32_t *rules, size_t rules_len,
+    const uint32_t *bodies, size_t bodies_len,
     const uint32_t *objects, size_t objects_len, const uint32_t *links, size_t links_len,
     const uint32_t *events, size_t events_len,
     uint8_t *out, size_t out_len,

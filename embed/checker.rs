@@ -8,6 +8,7 @@ pub const STACK: usize = 1 << 20;
 
 const BODY_ROWS: usize = 64;
 const MOST: usize = 32; // types, relationships and rules
+const MOST_FLOORS: usize = 256;
 const MOST_EVENTS: usize = 256;
 const MOST_TEXT: usize = 65_536;
 const MOST_EVENT_TYPES: usize = 14 * MOST; // a set has eight cells a type, six kinds have one
@@ -21,11 +22,11 @@ pub struct Room {
 }
 
 impl Room {
-    /// As much as there can be: refusal 14 is never met, and 13 only at 1,024 objects or 4,096 links. About 476 KB with the scratch.
+    /// As much as there can be: refusal 14 is never met, and 13 only at 1,024 objects or 4,096 links. About 478 KB with the scratch.
     pub const LARGEST: Room = Room { objects: 1024, links: 4096, pairs: MOST * 1024 };
 }
 
-/// What is wrong, as a number from 1 to 14, and where; the table is in docs/FITTER.md.
+/// What is wrong, as a number from 1 to 15, and where; the table is in docs/FITTER.md.
 #[derive(Clone, Copy, Debug, PartialEq, Eq)]
 pub struct Refusal {
     pub number: u32,
@@ -69,6 +70,13 @@ pub struct Pair {
     pub object: u32,
 }
 
+/// A cell that is at least 0 in every object of a type and of the types below it.
+#[derive(Clone, Copy, Debug, PartialEq, Eq)]
+pub struct Floor {
+    pub type_number: u32,
+    pub cell: u32,
+}
+
 #[derive(Clone, Copy, Debug, PartialEq, Eq)]
 pub struct Object {
     pub id: u32,
@@ -87,6 +95,7 @@ pub struct Link {
 #[derive(Clone)]
 pub struct Park {
     types: Vec<u32>,
+    floors: Vec<u32>,
     relationships: Vec<u32>,
     rules: Vec<u32>,
     bodies: Vec<u32>,
@@ -102,6 +111,7 @@ pub struct Park {
 #[derive(Clone, Copy, Default)]
 struct Used {
     types: u32,
+    floors: u32,
     relationships: u32,
     rules: u32,
     objects: u32,
@@ -118,21 +128,22 @@ impl Park {
     pub fn read_into(text: &[u8], room: Room) -> Result<(Park, Vec<Event>), Refusal> {
         let mut park = Park::empty(room);
         let mut events = vec![0; 4 * MOST_EVENTS];
-        let mut answer = [0; 7];
+        let mut answer = [0; 8];
         // SAFETY: each address and length is of a slice that lives through the call, and no two that are written overlap.
         unsafe {
             checker_read(
                 text.as_ptr(), text.len(),
-                park.types.as_mut_ptr(), park.types.len(), park.relationships.as_mut_ptr(), park.relationships.len(),
-                park.rules.as_mut_ptr(), park.rules.len(), park.bodies.as_mut_ptr(), park.bodies.len(),
+                park.types.as_mut_ptr(), park.types.len(), park.floors.as_mut_ptr(), park.floors.len(),
+                park.relationships.as_mut_ptr(), park.relationships.len(), park.rules.as_mut_ptr(), park.rules.len(),
+                park.bodies.as_mut_ptr(), park.bodies.len(),
                 park.objects.as_mut_ptr(), park.objects.len(), park.links.as_mut_ptr(), park.links.len(),
                 events.as_mut_ptr(), events.len(),
                 &mut answer,
             );
         }
         match answer {
-            [0, types, relationships, rules, objects, links, count] => {
-                park.used = Used { types, relationships, rules, objects, links };
+            [0, types, floors, relationships, rules, objects, links, count] => {
+                park.used = Used { types, floors, relationships, rules, objects, links };
                 Ok((park, events.chunks(4).take(count as usize).map(event).collect()))
             }
             [_, number, place, ..] => Err(Refusal { number, place }),
@@ -145,6 +156,7 @@ impl Park {
         let Room { objects, links, pairs } = Room::LARGEST;
         Park {
             types: vec![0; 2 * MOST],
+            floors: vec![0; 2 * MOST_FLOORS],
             relationships: vec![0; 2 * MOST],
             rules: vec![0; 2 * MOST],
             bodies: vec![0; 4 * BODY_ROWS * MOST],
@@ -179,9 +191,10 @@ impl Park {
         // SAFETY: each address and length is of a slice that lives through the call; none is written.
         let coded = unsafe {
             checker_check(
-                used.types, used.relationships, used.rules, used.objects, used.links,
-                self.types.as_ptr(), self.types.len(), self.relationships.as_ptr(), self.relationships.len(),
-                self.rules.as_ptr(), self.rules.len(), self.bodies.as_ptr(), self.bodies.len(),
+                used.types, used.floors, used.relationships, used.rules, used.objects, used.links,
+                self.types.as_ptr(), self.types.len(), self.floors.as_ptr(), self.floors.len(),
+                self.relationships.as_ptr(), self.relationships.len(), self.rules.as_ptr(), self.rules.len(),
+                self.bodies.as_ptr(), self.bodies.len(),
                 objects.as_ptr(), objects.len(), links.as_ptr(), links.len(),
             )
         };
@@ -196,9 +209,10 @@ impl Park {
         // SAFETY: each address and length is of a slice that lives through the call, and no two that are written overlap.
         unsafe {
             checker_batch(
-                n.types, n.relationships, n.rules, n.objects, n.links, count(events.len()),
-                self.types.as_ptr(), self.types.len(), self.relationships.as_ptr(), self.relationships.len(),
-                self.rules.as_ptr(), self.rules.len(), self.bodies.as_ptr(), self.bodies.len(),
+                n.types, n.floors, n.relationships, n.rules, n.objects, n.links, count(events.len()),
+                self.types.as_ptr(), self.types.len(), self.floors.as_ptr(), self.floors.len(),
+                self.relationships.as_ptr(), self.relationships.len(), self.rules.as_ptr(), self.rules.len(),
+                self.bodies.as_ptr(), self.bodies.len(),
                 self.objects.as_mut_ptr(), self.objects.len(), self.links.as_mut_ptr(), self.links.len(),
                 rows.as_ptr(), rows.len(),
                 self.scratch_objects.as_mut_ptr(), self.scratch_objects.len(), self.scratch_links.as_mut_ptr(), self.scratch_links.len(),
@@ -222,9 +236,10 @@ impl Park {
         // SAFETY: each address and length is of a slice that lives through the call, and no two that are written overlap.
         unsafe {
             checker_run(
-                n.types, n.relationships, n.rules, n.objects, n.links,
-                self.types.as_ptr(), self.types.len(), self.relationships.as_ptr(), self.relationships.len(),
-                self.rules.as_ptr(), self.rules.len(), self.bodies.as_ptr(), self.bodies.len(),
+                n.types, n.floors, n.relationships, n.rules, n.objects, n.links,
+                self.types.as_ptr(), self.types.len(), self.floors.as_ptr(), self.floors.len(),
+                self.relationships.as_ptr(), self.relationships.len(), self.rules.as_ptr(), self.rules.len(),
+                self.bodies.as_ptr(), self.bodies.len(),
                 self.objects.as_ptr(), self.objects.len(), self.links.as_ptr(), self.links.len(),
                 self.scratch_objects.as_mut_ptr(), self.scratch_objects.len(), self.scratch_links.as_mut_ptr(), self.scratch_links.len(),
                 count(events.len()), rows.as_ptr(), rows.len(),
@@ -249,9 +264,10 @@ impl Park {
         // SAFETY: each address and length is of a slice that lives through the call; only the answer is written.
         unsafe {
             checker_full_check(
-                n.types, n.relationships, n.rules, n.objects, n.links,
-                self.types.as_ptr(), self.types.len(), self.relationships.as_ptr(), self.relationships.len(),
-                self.rules.as_ptr(), self.rules.len(), self.bodies.as_ptr(), self.bodies.len(),
+                n.types, n.floors, n.relationships, n.rules, n.objects, n.links,
+                self.types.as_ptr(), self.types.len(), self.floors.as_ptr(), self.floors.len(),
+                self.relationships.as_ptr(), self.relationships.len(), self.rules.as_ptr(), self.rules.len(),
+                self.bodies.as_ptr(), self.bodies.len(),
                 self.objects.as_ptr(), self.objects.len(), self.links.as_ptr(), self.links.len(),
                 &mut answer,
             );
@@ -267,9 +283,10 @@ impl Park {
         // SAFETY: each address and length is of a slice that lives through the call, and no two that are written overlap.
         unsafe {
             checker_events(
-                n.types, n.relationships, n.rules,
-                self.types.as_ptr(), self.types.len(), self.relationships.as_ptr(), self.relationships.len(),
-                self.rules.as_ptr(), self.rules.len(), self.bodies.as_ptr(), self.bodies.len(),
+                n.types, n.floors, n.relationships, n.rules,
+                self.types.as_ptr(), self.types.len(), self.floors.as_ptr(), self.floors.len(),
+                self.relationships.as_ptr(), self.relationships.len(), self.rules.as_ptr(), self.rules.len(),
+                self.bodies.as_ptr(), self.bodies.len(),
                 rule, list.as_mut_ptr(), list.len(),
                 &mut answer,
             );
@@ -287,9 +304,10 @@ impl Park {
         // SAFETY: each address and length is of a slice that lives through the call, and no two that are written overlap.
         unsafe {
             checker_write(
-                n.types, n.relationships, n.rules, n.objects, n.links, count(events.len()),
-                self.types.as_ptr(), self.types.len(), self.relationships.as_ptr(), self.relationships.len(),
-                self.rules.as_ptr(), self.rules.len(), self.bodies.as_ptr(), self.bodies.len(),
+                n.types, n.floors, n.relationships, n.rules, n.objects, n.links, count(events.len()),
+                self.types.as_ptr(), self.types.len(), self.floors.as_ptr(), self.floors.len(),
+                self.relationships.as_ptr(), self.relationships.len(), self.rules.as_ptr(), self.rules.len(),
+                self.bodies.as_ptr(), self.bodies.len(),
                 self.objects.as_ptr(), self.objects.len(), self.links.as_ptr(), self.links.len(),
                 rows.as_ptr(), rows.len(),
                 out.as_mut_ptr(), out.len(),
@@ -298,6 +316,11 @@ impl Park {
         }
         out.truncate(done(answer)?);
         Ok(out)
+    }
+
+    /// The floors of the book, by type and cell: cell k of t and of types under it is at least 0.
+    pub fn floors(&self) -> impl Iterator<Item = Floor> + '_ {
+        self.floors.chunks(2).take(self.used.floors as usize).map(|row| Floor { type_number: row[0], cell: row[1] })
     }
 
     /// The objects, by id.
@@ -387,33 +410,37 @@ fn event_type(row: &[u16]) -> EventType {
 // The entries as embed/checker.h has them.
 extern "C" {
     fn checker_check(
-        types_used: u32, relationships_used: u32, rules_used: u32, objects_used: u32, links_used: u32,
-        types: *const u32, types_len: usize, relationships: *const u32, relationships_len: usize,
-        rules: *const u32, rules_len: usize, bodies: *const u32, bodies_len: usize,
+        types_used: u32, floors_used: u32, relationships_used: u32, rules_used: u32, objects_used: u32, links_used: u32,
+        types: *const u32, types_len: usize, floors: *const u32, floors_len: usize,
+        relationships: *const u32, relationships_len: usize, rules: *const u32, rules_len: usize,
+        bodies: *const u32, bodies_len: usize,
         objects: *const u32, objects_len: usize, links: *const u32, links_len: usize,
     ) -> u64;
 
     fn checker_full_check(
-        types_used: u32, relationships_used: u32, rules_used: u32, objects_used: u32, links_used: u32,
-        types: *const u32, types_len: usize, relationships: *const u32, relationships_len: usize,
-        rules: *const u32, rules_len: usize, bodies: *const u32, bodies_len: usize,
+        types_used: u32, floors_used: u32, relationships_used: u32, rules_used: u32, objects_used: u32, links_used: u32,
+        types: *const u32, types_len: usize, floors: *const u32, floors_len: usize,
+        relationships: *const u32, relationships_len: usize, rules: *const u32, rules_len: usize,
+        bodies: *const u32, bodies_len: usize,
         objects: *const u32, objects_len: usize, links: *const u32, links_len: usize,
         answer: &mut [u32; 3],
     );
 
     fn checker_read(
         text: *const u8, text_len: usize,
-        types: *mut u32, types_len: usize, relationships: *mut u32, relationships_len: usize,
-        rules: *mut u32, rules_len: usize, bodies: *mut u32, bodies_len: usize,
+        types: *mut u32, types_len: usize, floors: *mut u32, floors_len: usize,
+        relationships: *mut u32, relationships_len: usize, rules: *mut u32, rules_len: usize,
+        bodies: *mut u32, bodies_len: usize,
         objects: *mut u32, objects_len: usize, links: *mut u32, links_len: usize,
         events: *mut u32, events_len: usize,
-        answer: &mut [u32; 7],
+        answer: &mut [u32; 8],
     );
 
     fn checker_run(
-        types_used: u32, relationships_used: u32, rules_used: u32, objects_used: u32, links_used: u32,
-        types: *const u32, types_len: usize, relationships: *const u32, relationships_len: usize,
-        rules: *const u32, rules_len: usize, bodies: *const u32, bodies_len: usize,
+        types_used: u32, floors_used: u32, relationships_used: u32, rules_used: u32, objects_used: u32, links_used: u32,
+        types: *const u32, types_len: usize, floors: *const u32, floors_len: usize,
+        relationships: *const u32, relationships_len: usize, rules: *const u32, rules_len: usize,
+        bodies: *const u32, bodies_len: usize,
         objects: *const u32, objects_len: usize, links: *const u32, links_len: usize,
         scratch_objects: *mut u32, scratch_objects_len: usize, scratch_links: *mut u32, scratch_links_len: usize,
         events_used: u32, events: *const u32, events_len: usize,
@@ -421,9 +448,10 @@ extern "C" {
     );
 
     fn checker_batch(
-        types_used: u32, relationships_used: u32, rules_used: u32, objects_used: u32, links_used: u32, events_used: u32,
-        types: *const u32, types_len: usize, relationships: *const u32, relationships_len: usize,
-        rules: *const u32, rules_len: usize, bodies: *const u32, bodies_len: usize,
+        types_used: u32, floors_used: u32, relationships_used: u32, rules_used: u32, objects_used: u32, links_used: u32, events_used: u32,
+        types: *const u32, types_len: usize, floors: *const u32, floors_len: usize,
+        relationships: *const u32, relationships_len: usize, rules: *const u32, rules_len: usize,
+        bodies: *const u32, bodies_len: usize,
         objects: *mut u32, objects_len: usize, links: *mut u32, links_len: usize,
         events: *const u32, events_len: usize,
         scratch_objects: *mut u32, scratch_objects_len: usize, scratch_links: *mut u32, scratch_links_len: usize,
@@ -432,17 +460,19 @@ extern "C" {
     );
 
     fn checker_events(
-        types_used: u32, relationships_used: u32, rules_used: u32,
-        types: *const u32, types_len: usize, relationships: *const u32, relationships_len: usize,
-        rules: *const u32, rules_len: usize, bodies: *const u32, bodies_len: usize,
+        types_used: u32, floors_used: u32, relationships_used: u32, rules_used: u32,
+        types: *const u32, types_len: usize, floors: *const u32, floors_len: usize,
+        relationships: *const u32, relationships_len: usize, rules: *const u32, rules_len: usize,
+        bodies: *const u32, bodies_len: usize,
         rule: u32, list: *mut u16, list_len: usize,
         answer: &mut [u32; 3],
     );
 
     fn checker_write(
-        types_used: u32, relationships_used: u32, rules_used: u32, objects_used: u32, links_used: u32, events_used: u32,
-        types: *const u32, types_len: usize, relationships: *const u32, relationships_len: usize,
-        rules: *const u32, rules_len: usize, bodies: *const u32, bodies_len: usize,
+        types_used: u32, floors_used: u32, relationships_used: u32, rules_used: u32, objects_used: u32, links_used: u32, events_used: u32,
+        types: *const u32, types_len: usize, floors: *const u32, floors_len: usize,
+        relationships: *const u32, relationships_len: usize, rules: *const u32, rules_len: usize,
+        bodies: *const u32, bodies_len: usize,
         objects: *const u32, objects_len: usize, links: *const u32, links_len: usize,
         events: *const u32, events_len: usize,
         out: *mut u8, out_len: usize,

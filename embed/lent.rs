@@ -12,8 +12,8 @@ pub fn links(p: &park::Park) -> Vec<Link> {
 
 // The park's book alone, as a text.
 pub fn book_text(p: &park::Park) -> String {
-    let rules = p.rules.clone();
-    spelling::text(&park::Park { types: p.types.clone(), relationships: p.relationships.clone(), rules, objects: vec![], links: vec![] })
+    let (types, floors, relationships, rules) = (p.types.clone(), p.floors.clone(), p.relationships.clone(), p.rules.clone());
+    spelling::text(&park::Park { types, floors, relationships, rules, objects: vec![], links: vec![] })
 }
 
 pub fn park(p: &park::Park) -> checker::Park {

@@ -5,7 +5,7 @@
 #include <stdlib.h>
 #include <string.h>
 
-enum { TYPES, RELATIONSHIPS, RULES, BODIES, OBJECTS, LINKS, EVENTS, TABLES };
+enum { TYPES, FLOORS, RELATIONSHIPS, RULES, BODIES, OBJECTS, LINKS, EVENTS, TABLES };
 enum { SOIL = 7 };
 
 typedef struct {
@@ -65,14 +65,14 @@ static uint16_t *soiled_list(size_t len) {
 
 /* A case's counts (bodies have none) and tables. */
 typedef struct {
-    uint32_t used[6];
+    uint32_t used[7];
     Table t[TABLES];
 } Sheet;
 
-#define BOOK_COUNTS(s) (s)->used[0], (s)->used[1], (s)->used[2]
-#define COUNTS(s) BOOK_COUNTS(s), (s)->used[3], (s)->used[4]
+#define BOOK_COUNTS(s) (s)->used[0], (s)->used[1], (s)->used[2], (s)->used[3]
+#define COUNTS(s) BOOK_COUNTS(s), (s)->used[4], (s)->used[5]
 #define TABLE(s, n) (s)->t[n].words, (s)->t[n].len
-#define BOOK(s) TABLE(s, TYPES), TABLE(s, RELATIONSHIPS), TABLE(s, RULES), TABLE(s, BODIES)
+#define BOOK(s) TABLE(s, TYPES), TABLE(s, FLOORS), TABLE(s, RELATIONSHIPS), TABLE(s, RULES), TABLE(s, BODIES)
 #define REGISTER(s) TABLE(s, OBJECTS), TABLE(s, LINKS)
 
 static void test_check(const Sheet *s) {
@@ -89,7 +89,7 @@ static void test_full(const Sheet *s) {
 
 static void test_run(const Sheet *s, const uint32_t scratch_len[2]) {
     uint32_t answer[3], *objects = soiled(scratch_len[0]), *links = soiled(scratch_len[1]);
-    checker_run(COUNTS(s), BOOK(s), REGISTER(s), objects, scratch_len[0], links, scratch_len[1], s->used[5], TABLE(s, EVENTS), answer);
+    checker_run(COUNTS(s), BOOK(s), REGISTER(s), objects, scratch_len[0], links, scratch_len[1], s->used[6], TABLE(s, EVENTS), answer);
     Table expected = words(3);
     agree_words("run", answer, expected.words, 3);
     if (expected.words[0] == CHECKER_DONE) {
@@ -118,7 +118,7 @@ static void test_write(const Sheet *s) {
     uint8_t *out = malloc(len + 1);
     if (!out) exit(2);
     memset(out, SOIL, len + 1);
-    checker_write(COUNTS(s), s->used[5], BOOK(s), REGISTER(s), TABLE(s, EVENTS), out, len, answer);
+    checker_write(COUNTS(s), s->used[6], BOOK(s), REGISTER(s), TABLE(s, EVENTS), out, len, answer);
     agree_words("written text's answer", answer, words(3).words, 3);
     Table text = block();
     int same = text.len <= len;
@@ -130,7 +130,7 @@ static void test_write(const Sheet *s) {
 static void test_batch(const Sheet *s, const uint32_t scratch_len[2], uint32_t list_len) {
     uint32_t answer[6], *objects = soiled(scratch_len[0]), *links = soiled(scratch_len[1]);
     uint32_t *list = soiled(list_len);
-    checker_batch(COUNTS(s), s->used[5], BOOK(s), REGISTER(s), TABLE(s, EVENTS), objects, scratch_len[0], links, scratch_len[1],
+    checker_batch(COUNTS(s), s->used[6], BOOK(s), REGISTER(s), TABLE(s, EVENTS), objects, scratch_len[0], links, scratch_len[1],
                   list, list_len, answer);
     Table expected = words(6);
     agree_words("batch check", answer, expected.words, 6);
@@ -146,7 +146,7 @@ static void test_batch(const Sheet *s, const uint32_t scratch_len[2], uint32_t l
 
 static void test_tables(void) {
     Sheet s;
-    for (int i = 0; i < 6; i++) s.used[i] = next();
+    for (int i = 0; i < 7; i++) s.used[i] = next();
     for (int i = 0; i < TABLES; i++) s.t[i] = block();
     uint32_t scratch_len[2] = {next(), 0};
     scratch_len[1] = next();
@@ -176,10 +176,10 @@ static void test_read(void) {
     Sheet sheet, *s = &sheet;
     for (int i = 0; i < TABLES; i++) s->t[i].len = next();
     for (int i = 0; i < TABLES; i++) s->t[i].words = soiled(s->t[i].len);
-    uint32_t answer[7];
+    uint32_t answer[8];
     checker_read(bytes, text.len, BOOK(s), REGISTER(s), TABLE(s, EVENTS), answer);
-    Table expected = words(7);
-    agree_words("reading", answer, expected.words, 7);
+    Table expected = words(8);
+    agree_words("reading", answer, expected.words, 8);
     int refused = expected.words[0] != CHECKER_DONE;
     for (int i = 0; i < TABLES; i++) agree_read(s->t[i], refused);
     readings++;

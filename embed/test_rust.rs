@@ -77,6 +77,7 @@ fn told(answer: incremental::Answer) -> Answer {
 
 // The park's register and text are the plain one's.
 fn same_park(t: &mut Tally, lent: &Park, plain: &Plain) {
+    t.agree("the floors", lent.floors().map(|f| (f.type_number, f.cell)).eq(plain.floors.iter().copied()));
     t.agree("the objects", lent.objects().eq(lent::objects(plain)));
     t.agree("the links", lent.links().eq(lent::links(plain)));
     let text = spelling::text(plain).into_bytes();
@@ -87,7 +88,7 @@ fn same_park(t: &mut Tally, lent: &Park, plain: &Plain) {
 // The register that the events leave, by a plain run of them, unless an event is refused.
 fn ran(plain: &Plain, refused: incremental::Answer, rows: &[[u32; 4]]) -> Result<(Vec<checker::Object>, Vec<checker::Link>), Refusal> {
     match refused {
-        incremental::Answer::Refused(number, place) if number < 14 => Err(Refusal { number, place }),
+        incremental::Answer::Refused(number, place) if number != 14 => Err(Refusal { number, place }),
         _ => {
             let end = rows.iter().fold(literal::copy(plain), |now, row| literal::done(&now, *row));
             Ok((lent::objects(&end), lent::links(&end)))
@@ -234,6 +235,7 @@ fn too_many() -> Tally {
     let rule = |nots: usize| format!("{}(kind 0 0){}", "(not ".repeat(nots), ")".repeat(nots));
     let cases = [
         (lines(33, |n| format!("(type {n} - 0)")), 33),
+        (lines(32, |n| format!("(type {n} - 8)")) + &lines(257, |n| format!("(floor {} {})", n / 8, n % 8)), 289),
         ("(type 0 - 0)\n".to_string() + &lines(33, |n| format!("(rel {n} 0 0)")), 34),
         (head.clone() + &lines(33, |n| format!("(rule {n} 0 (kind 0 0))")), 35),
         (head.clone() + &lines(1, |n| format!("(rule {n} 0 {})", rule(64))), 3),
@@ -268,6 +270,22 @@ fn event_lists() -> Tally {
     let (join, part) = (EventType::Join { relationship: 0 }, EventType::Part { relationship: 0 });
     t.agree("an event list", park.events(0) == Ok(vec![insert, delete, set(0), set(1), join, part]));
     t.refusal("a rule that is not there", park.events(4), (4, 4));
+    // the same where what a drive draws is at least 0: a sum that a removal cannot raise
+    let example = include_str!("../docs/examples/park.txt");
+    let types: usize = example.lines().take_while(|line| line.starts_with("(type")).map(|line| line.len() + 1).sum();
+    let text = [&example[..types], "(floor 1 0)\n", &example[types..]].concat();
+    let (mut floored, _) = Park::read(text.as_bytes()).expect("the example with a floor");
+    t.agree("an event list with a floor", floored.events(0) == Ok(vec![insert, set(0), set(1), join]));
+    t.count(floored.check(&[checker::Event::Delete { object: 10 }]));
+    t.agree("the pairs that a floor leaves", floored.pairs().all(|p| p.rule != 0));
+    let below = [checker::Event::Set { object: 11, cell: 1, value: -1 }, checker::Event::Set { object: 11, cell: 0, value: -1 }];
+    t.refusal("a set below a floor", floored.run(&below), (15, 1));
+    t.count(floored.check(&below));
+    t.agree("a set below a floor", floored.check(&below) == Answer::Refused { number: 15, place: 1 });
+    let (objects, links): (Vec<_>, Vec<_>) = (floored.objects().map(|o| checker::Object { cells: [-1, 0, 0, 0, 0, 0, 0, 0], ..o }).collect(), floored.links().collect());
+    let first_drive = objects.iter().position(|o| [1, 2].contains(&o.type_number)).expect("a drive") as u32;
+    t.refusal("a register below a floor", floored.set_register(&objects, &links), (5, first_drive));
+    t.refusal("a floor twice", Park::read(text.replacen("(floor", "(floor 1 0)\n(floor", 1).as_bytes()).and_then(|(park, _)| park.events(0)), (3, 1));
     t
 }
 

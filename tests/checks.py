@@ -4,7 +4,7 @@
     checks.py FOLDER         writes FOLDER/stdin and FOLDER/stdout; ends with an error where the plain reading and the answer found by hand differ
     checks.py run PROGRAM    gives each text to the built program `check_text`
 
-A name ends in the answer and the pairs, found by hand from document 01; what is stored as output is the plain reading's (whole.py). Refusal 6 is of lent
+A name ends in the answer and the pairs, found by hand from documents 01 and 02; what is stored as output is the plain reading's (whole.py). Refusal 6 is of lent
 tables alone, and 14 cannot be met: the program's 2,048 words hold the pairs of its 8 rules at its 128 objects.
 """
 import pathlib
@@ -348,6 +348,96 @@ def events_on_the_way():
     case('a refused batch after one event that breaks a rule', 'refused 8 1', BOOK_A + ['(set 20 0 31)', '(delete 12)'])
 
 
+# ---------------------------------------------------------------- request 02
+
+# Cabinets, battery boxes, whose second cell has a floor, and below them lithium boxes, whose first has one too.
+BOXES = ['(type 0 - 1)', '(type 1 - 2)', '(type 2 1 3)']
+FLOORS = ['(floor 0 0)', '(floor 1 1)', '(floor 2 0)']
+STOCK = ['(rel 0 0 1)', '(rule 0 0 (le (sum (role 0 0) 1) (cell 0 0)))', '(ent 10 0 30)', '(ent 20 1 -5 25)', '(ent 21 2 5 5 -1)', '(link 0 10 20)', '(link 0 10 21)']
+BATTERIES = BOXES + FLOORS + STOCK
+
+# What is wrong, and a line in the place of the first, the second or the third floor, in turn.
+MALFORMED_FLOORS = [
+    ('no numbers', '(floor)'), ('no cell', '(floor 1)'), ('a number too many', '(floor 2 0 0)'), ('a - in place of the type', '(floor - 0)'),
+    ('a - in place of the cell', '(floor 1 -)'), ('a leading zero', '(floor 02 0)'), ('minus zero', '(floor 0 -0)'), ('two spaces', '(floor 1  1)'),
+    ('a space after the bracket', '( floor 2 0)'), ('a space before the closing bracket', '(floor 0 0 )'), ('a name cut short', '(floo 1 1)'),
+    ('a name with a letter more', '(floors 2 0)'), ('a capital letter', '(Floor 0 0)'), ('a form for a number', '(floor 1 (num 1))'),
+    ('no closing bracket', '(floor 2 0'), ('a bracket too many', '(floor 0 0))'), ('a tab', '(floor 1\t1)'), ('two on a line', '(floor 2 0)(floor 2 1)'),
+    ('2 to the 31st for a type', '(floor 2147483648 0)'), ('2 to the 31st for a cell', '(floor 1 2147483648)'), ('an empty line', ''), ('a plus', '(floor +0 0)'),
+]
+
+# What is wrong, and a floor for each of the three places.
+UNKNOWN_FLOORS = [
+    ('a type that is not there', ['3 0'] * 3), ('a type below 0', ['-1 0'] * 3), ('a cell that the type lacks', ['0 1', '1 2', '2 3']), ('a cell below 0', ['0 -1', '1 -1', '2 -1']),
+    ('the largest numbers', ['2147483647 0', '1 2147483647', '2147483647 2147483647']), ('the least numbers', ['-2147483648 0', '1 -2147483648', '-2147483648 -2147483648']),
+]
+
+# Floors out of order, of which the later is faulty.
+DISORDERED_FLOORS = [
+    ('types that descend', 1, ['1 1', '0 0', '2 0']), ('types that descend, last', 2, ['0 0', '2 0', '1 1']), ('cells that descend', 1, ['1 1', '1 0', '2 0']),
+    ('cells that descend, last', 2, ['0 0', '2 1', '2 0']), ('a floor twice', 1, ['0 0', '0 0', '2 0']), ('a floor twice, last', 2, ['0 0', '1 1', '1 1']),
+    ('the lowest place of two', 1, ['1 1', '0 0', '0 0']), ('out of order before unknown', 1, ['1 0', '0 0', '3 0']),
+]
+
+
+def floor_lines():
+    """Refusals 1, 2 and 3 of floors."""
+    for n, (label, line) in enumerate(MALFORMED_FLOORS):
+        case(f'1: a floor, {label}', f'refused 1 {4 + n % 3}', BOXES + changed(FLOORS, n % 3, line))
+    case('1: a floor without its byte 10', 'refused 1 4', BOXES + FLOORS[:1], cut=True)
+    for after in ('rel', 'rule', 'ent', 'link'):
+        last = max(place for place, line in enumerate(BATTERIES) if line.startswith(f'({after} '))
+        case(f'1: sections out of order, a floor after a {after}', f'refused 1 {last + 2}', BATTERIES[:last + 1] + ['(floor 2 1)'])
+    case('1: sections out of order, a floor after an event', 'refused 1 15', BATTERIES + ['(delete 20)', '(floor 2 1)'])
+    case('1: sections out of order, a type after a floor', 'refused 1 5', BOXES + FLOORS[:1] + ['(type 3 - 1)'])
+    for label, floors in UNKNOWN_FLOORS:
+        for place, where in enumerate(PLACES):
+            case(f'3: a floor, {label}, {where}', f'refused 3 {place}', BOXES + changed(FLOORS, place, f'(floor {floors[place]})'))
+    for label, place, floors in DISORDERED_FLOORS:
+        case(f'3: {label}', f'refused 3 {place}', BOXES + [f'(floor {floor})' for floor in floors])
+    case('3: a floor where there is no type', 'refused 3 0', ['(floor 0 0)'])
+    case('3: a floor of a type without cells', 'refused 3 0', ['(type 0 - 0)', '(floor 0 0)'])
+    case('3: floors before relationships', 'refused 3 2', BOXES + changed(FLOORS, 2, '(floor 2 3)') + ['(rel 0 9 9)'])
+    case('3: relationships after floors that are in order', 'refused 3 1', BOXES + FLOORS + ['(rel 0 0 1)', '(rel 1 9 9)'])
+    case('3: types before floors', 'refused 3 2', changed(BOXES, 2, '(type 2 2 3)') + ['(floor 3 0)'])
+    case('3: a floor of cell 8 of a type of nine', 'refused 3 2', changed(BOXES, 2, '(type 2 1 9)') + ['(floor 2 8)'])
+    case('3 of a floor before 4, 5 and 7', 'refused 3 1', BOXES + ['(floor 1 1)', '(floor 1 1)', '(rule 0 0 (num 1))', '(ent 0 0 -1)', '(delete 0)'])
+    case('a floor of a type below a floored one, and of each of its cells', 'accepted;', BOXES + ['(floor 1 0)', '(floor 1 1)', '(floor 2 0)', '(floor 2 1)', '(floor 2 2)'])
+    case('floors alone', 'accepted;', BOXES + FLOORS)
+    types, floors = [f'(type {n} - 8)' for n in range(32)], [f'(floor {n // 8} {n % 8})' for n in range(256)]
+    case('256 floors', 'refused 15 1', types + floors + ['(insert 1 31)', '(set 1 7 -1)'])
+    case('2: 257 floors, before 3', 'refused 2 257', ['(floor 0 0)'] * 257)
+    case('1 before 2 in a line: a 257th floor', 'refused 1 257', ['(floor 0 0)'] * 256 + ['(floor 0 )'])
+
+
+# Events that put a cell below its floor, or an object under one.
+BELOW = ['set 10 0 -1', 'set 20 1 -2147483648', 'set 21 1 -1', 'set 21 0 -1', 'special 20 2']
+
+
+def below_floors():
+    """Refusals 5 and 15, each at the first, a middle and the last place of three; and what a floor spares."""
+    alone = BOXES + FLOORS + STOCK[2:5]
+    for place, line in enumerate(['(ent 10 0 -1)', '(ent 20 1 -5 -1)', '(ent 21 2 5 -1 -1)']):
+        case(f'5: an object below its floor, {PLACES[place]}', f'refused 5 {place}', changed(alone, 6 + place, line))
+    case('5: below the floor of its own type', 'refused 5 2', changed(alone, 8, '(ent 21 2 -1 5 -1)'))
+    case('5: the lowest place', 'refused 5 0', changed(changed(alone, 6, '(ent 10 0 -1)'), 7, '(ent 10 1 -5 25)'))
+    case('5: below a floor before links', 'refused 5 2', changed(BATTERIES, 10, '(ent 21 2 -1 5 -1)') + ['(link 0 10 10)'])
+    case('5 of a floor before 7', 'refused 5 1', changed(alone, 7, '(ent 20 1 -5 -1)') + ['(delete 0)'])
+    case('no 5: cells at 0', 'accepted;', BOXES + FLOORS + ['(ent 10 0 0)', '(ent 20 1 -1 0)', '(ent 21 2 0 0 -1)'])
+    harmless = ['(set 20 0 -6)', '(set 21 2 -7)']
+    for event in BELOW:
+        for place, where in enumerate(PLACES):
+            case(f'15: {event}, {where}', f'refused 15 {place}', alone + harmless[:place] + [f'({event})'] + harmless[place:])
+    case('15: a set that a later one lifts', 'refused 15 0', alone + ['(set 20 1 -1)', '(set 20 1 1)'])
+    case('15: the register after the events before it', 'refused 15 2', alone + ['(general 21 1)', '(set 21 0 -1)', '(special 21 2)'])
+    case('11 before 15: a special to another tree', 'refused 11 0', BOXES + ['(type 3 - 2)', '(floor 2 0)', '(ent 1 3 -1 0)', '(special 1 2)'])
+    case('no 15: general, insert, delete', 'accepted; 0:11', BATTERIES + ['(general 21 1)', '(set 21 0 -1)', '(insert 30 2)', '(insert 11 0)', '(delete 21)'])
+    case('a floored sum: a part and a delete', 'accepted;', BATTERIES + ['(part 0 10 20)', '(delete 21)'])
+    case('a floored sum: a join', 'accepted; 0:10', BATTERIES + ['(insert 22 1)', '(join 0 10 22)'])
+    case('a floored sum: a set', 'broken 0 10; 0:10', BATTERIES + ['(set 21 1 6)'])
+    case('the same without the floor: a part and a delete', 'accepted; 0:10', BOXES + FLOORS[:1] + FLOORS[2:] + STOCK + ['(part 0 10 20)', '(delete 21)'])
+
+
 def short_texts():
     """The texts of refusals.py."""
     for name, answer, lines in refusals.CASES:
@@ -373,7 +463,8 @@ def constraints():
 def blocks():
     """Of each case its line, the lines of its block, and its text."""
     CASES.clear()
-    for make in (marked_cases, guesses, malformed_lines, limits, faulty_schemas, faulty_rules, faulty_registers, faulty_events, linked_objects, events_on_the_way, short_texts, constraints):
+    for make in (marked_cases, guesses, malformed_lines, limits, faulty_schemas, faulty_rules, faulty_registers, faulty_events, linked_objects, events_on_the_way, short_texts, constraints, floor_lines,
+                 below_floors):
         make()
     return CASES
 

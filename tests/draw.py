@@ -3,6 +3,7 @@
 
     draw.py BOOKS BATCHES        so many books with their registers, and so many batches for each
     draw.py BOOKS BATCHES far    the same with ids spread over 31 bits, in the same order
+    draw.py BOOKS BATCHES floors    others, whose books have floors; most rules are such that the floors make their event list shorter
 
 Parks are small, so that coincidences happen: the same link parted and joined, an id deleted with its links and inserted again. Most rules are
 drawn until they hold, since a batch check promises most from a good register.
@@ -64,6 +65,10 @@ def schema(draw):
     return book
 
 
+def floors(draw, book):
+    return [(t, k) for t in range(len(book.types)) for k in range(book.cells(t)) if draw.random() < 0.35]
+
+
 def roles(book, t):
     """The roles that start at a type."""
     return [2 * r + d for r, ends in enumerate(book.relationships) for d in (0, 1) if book.under(t, ends[d])]
@@ -101,7 +106,8 @@ class Bodies:
     def number(self, env, depth):
         cells = [(v, k) for v, t in enumerate(env) for k in range(self.book.cells(t))]
         deep = 1 if depth > 0 else 0
-        op = pick(self.draw, [(2, 'num'), (5 if cells else 0, 'cell'), (3 * deep, 'size'), (4 * deep, 'sum'), (1.5 * deep, 'add'), (2 * deep, 'sub')])
+        sums = 16 if self.book.floors else 4
+        op = pick(self.draw, [(2, 'num'), (5 if cells else 0, 'cell'), (3 * deep, 'size'), (sums * deep, 'sum'), (1.5 * deep, 'add'), (2 * deep, 'sub')])
         if op == 'num':
             return op, self.number_of()
         if op == 'cell':
@@ -145,6 +151,17 @@ def forms(f):
     return 1 + sum(forms(part) for part in f if isinstance(part, tuple))
 
 
+def without_floors(book):
+    bare = plain.Book()
+    bare.types, bare.relationships, bare.rules = book.types, book.relationships, book.rules
+    return bare
+
+
+def shortened(book, rule):
+    """Whether floors make the event list of a rule shorter."""
+    return plain.EventList(book, rule).types != plain.EventList(without_floors(book), rule).types
+
+
 def add_rules(draw, book, register):
     """Rules, of which most hold, and most list more than their context."""
     bodies = Bodies(draw, book)
@@ -159,6 +176,7 @@ def add_rules(draw, book, register):
         rule = len(book.rules) - 1
         holds = not any(plain.broken(book, register, rule, s) for s in register.objects)
         dull = len(plain.EventList(book, rule).types) <= 2 and draw.random() < 0.8
+        dull = dull or (book.floors != [] and not shortened(book, rule) and draw.random() < 0.97)
         if forms(body) > 30 or dull or (not holds and (all_hold or draw.random() < 0.5)):
             book.rules.pop()
 
@@ -167,6 +185,11 @@ def add_rules(draw, book, register):
 
 def cell_value(draw):
     return pick(draw, [(30, draw.randint(-3, 4)), (1, draw.choice([-2**31, 2**31 - 1, 1000]))])
+
+
+def kept(book, t, k, value):
+    """A value, or one that keeps the floor of its cell."""
+    return min(abs(value), 2**31 - 1) if k in book.floored(t) else value
 
 
 def possible_links(book, register):
@@ -181,9 +204,11 @@ def park(draw, book):
     ids = draw.sample(range(1, 20), size)
     if draw.random() < 0.1:
         ids[0] = 65535
+    faulty = book.floors != [] and draw.random() < 0.06  # floors are not kept
     for i in ids:
         t = draw.randrange(len(book.types))
         cells = tuple(cell_value(draw) for _ in range(book.cells(t)))
+        cells = cells if faulty else tuple(kept(book, t, k, value) for k, value in enumerate(cells))
         register.objects[i] = (t, cells + (0,) * (8 - len(cells)))
     links = possible_links(book, register)
     most = pick(draw, [(8, draw.randint(0, 8)), (2, draw.randint(9, 14)), (1.5, plain.LINK_ROWS)])
@@ -250,7 +275,7 @@ class Batches:
             return False
         i, k = self.draw.choice(places)
         same = self.draw.random() < 0.1
-        return self.do('set', i, k, self.now.objects[i][1][k] if same else cell_value(self.draw))
+        return self.do('set', i, k, self.now.objects[i][1][k] if same else kept(self.book, self.now.type_of(i), k, cell_value(self.draw)))
 
     def join(self):
         if self.parted and self.draw.random() < 0.5:
@@ -269,6 +294,20 @@ class Batches:
     def general(self):
         moves = [(i, t) for i, own in self.typed() for t in self.book.above(own) if t != own]
         return bool(moves) and self.do('general', *self.draw.choice(sorted(moves)))
+
+    def floor_and_back(self):
+        """An object out from under a floor, its cell below 0 and mostly up again, and the object back."""
+        moves = [(i, own, t, k) for i, own in self.typed() for t in sorted(self.book.above(own)) for k in sorted(self.book.floored(own) - self.book.floored(t))
+                 if k < self.book.cells(t)]
+        if not moves:
+            return False
+        i, own, t, k = self.draw.choice(moves)
+        if not self.do('general', i, t):
+            return False
+        self.do('set', i, k, -self.draw.randint(1, 3))
+        if self.draw.random() < 0.6:
+            self.do('set', i, k, self.draw.randint(0, 4))
+        return self.do('special', i, own)
 
     def link_and_back(self):
         """A link parted and joined, or joined and parted, at once."""
@@ -307,7 +346,10 @@ class Batches:
 
     def refused(self):
         """An event that is refused, by a number drawn first, or nothing."""
-        wanted = self.draw.choice([7, 8, 9, 10, 11, 12, 13])
+        wanted = self.draw.choice([7, 8, 9, 10, 11, 12, 13] + [15] * 7 * (self.book.floors != []))
+        if wanted == 15:
+            self.below_floor()
+            return
         kinds = {12: ['general'], 13: ['insert', 'join']}.get(wanted, plain.KINDS)  # which alone meet these
         for _ in range(40):
             event = self.any_event(kinds)
@@ -315,6 +357,13 @@ class Batches:
                 self.events.append(event)
                 return
         return
+
+    def below_floor(self):
+        """A set or a special that meets 15, a special where there is one."""
+        sets = [('set', i, k, -self.draw.randint(1, 3)) for i, t in self.typed() for k in sorted(self.book.floored(t))]
+        specials = [('special', i, t) for i, _ in self.typed() for t in range(len(self.book.types))]
+        specials = [event for event in specials if plain.event_refusal(self.book, self.now, event) == 15]
+        self.events += [self.draw.choice(specials or sets)] if specials or sets else []
 
     def any_event(self, kinds=plain.KINDS):
         draw = self.draw
@@ -333,6 +382,8 @@ class Batches:
         length = pick(self.draw, [(6, self.draw.randint(1, 3)), (4, self.draw.randint(3, 9)), (0.2, 0)])
         steps = [(3, self.insert), (4, self.delete), (5, self.set), (4, self.join), (4, self.part), (3, self.special), (3, self.general),
                  (2, self.link_and_back), (2, self.type_and_back), (3, self.again), (1, self.join_and_delete)]
+        if self.book.floors:
+            steps.append((3, self.floor_and_back))
         for _ in range(length * 2):
             if len(self.events) < length:
                 pick(self.draw, steps)()
@@ -367,20 +418,22 @@ def far(line):
 
 def lines(book, register):
     yield from (('type', n, *t) for n, t in enumerate(book.types))
+    yield from (('floor', *f) for f in book.floors)
     yield from (('rel', n, *r) for n, r in enumerate(book.relationships))
     yield from (('rule', n, *r) for n, r in enumerate(book.rules))
     yield from (('ent', i, t, *cells[:book.cells(t)]) for i, (t, cells) in sorted(register.objects.items()))
     yield from (('link', *link) for link in sorted(register.links))
 
 
-def drawn(number, batches, near=True):
+def drawn(number, batches, near=True, floored=False):
     """A book and its register with a first batch, and further batches for them."""
-    name, show = (number, lambda line: line) if near else (f'far {number}', far)
-    draw = Draw(number)
+    name, show = (f'floors {number}' if floored else number, lambda line: line) if near else (f'far {number}', far)
+    draw = Draw(10000 + number if floored else number)
     book = schema(draw)
+    book.floors = floors(draw, book) if floored else []
     register = park(draw, book)
     add_rules(draw, book, register)
-    base = [str(name)] + [spelled(line if line[0] in ('type', 'rel', 'rule') else show(line)) for line in lines(book, register)]
+    base = [str(name)] + [spelled(line if line[0] in ('type', 'floor', 'rel', 'rule') else show(line)) for line in lines(book, register)]
     for k in range(batches):
         events = [spelled(show(event)) for event in Batches(draw, book, register).batch()]
         yield ([f'+{name}.{k}'] if k else base) + events
@@ -389,5 +442,5 @@ def drawn(number, batches, near=True):
 if __name__ == '__main__':
     books, batches = int(sys.argv[1]), int(sys.argv[2])
     for number in range(books):
-        for block in drawn(number, batches, near='far' not in sys.argv):
+        for block in drawn(number, batches, near='far' not in sys.argv, floored='floors' in sys.argv):
             print('\n'.join(block) + '\n')

@@ -45,14 +45,15 @@ def shown(event):
 
 
 def expected(text):
-    """What each word prints of a text whose book and register are not refused, and the register that its batch leaves."""
+    """What each word prints of a text whose book is not refused, nor its register but by a floor."""
     book, register, events = plain.read(text)
-    checked, first = plain.Checked(book, register, events), plain.full_check(book, register)
+    checked, refused = plain.Checked(book, register, events), plain.register_refusal(book, register)
+    first = None if refused else plain.full_check(book, register)
     check = ended(['answer ' + ' '.join(map(str, checked.answer))] + ['pair %d %d' % pair for pair in checked.pairs])
     after = written(text, book, checked.left)
     return {
         'check': check,
-        'full': 'answer accepted\n' if first is None else 'answer broken %d %d\n' % first,
+        'full': 'answer refused %d %d\n' % refused if refused else 'answer accepted\n' if first is None else 'answer broken %d %d\n' % first,
         'events': ended(' '.join(['events', str(r)] + [shown(e) for e in plain.EventList(book, r).types]) for r in range(len(book.rules))),
         'after': check if checked.answer[0] != 'accepted' else after if len(after) <= 65536 else 'answer refused 2 0\n',
     }
@@ -91,7 +92,7 @@ class Count:
 
 # ---------------------------------------------------------------- a park of a thousand objects
 
-BOOK = ['(type 0 - 2)', '(type 1 - 1)', '(type 2 1 2)', '(type 3 - 1)', '(rel 0 0 1)', '(rel 1 1 3)',
+BOOK = ['(type 0 - 2)', '(type 1 - 1)', '(type 2 1 2)', '(type 3 - 1)', '(floor 1 0)', '(rel 0 0 1)', '(rel 1 1 3)',
         '(rule 0 0 (le (sum (role 0 0) 0) (cell 0 0)))', '(rule 1 1 (ge (size (role 0 2)) (num 1)))',
         '(rule 2 2 (forall (role 0 2) (ge (cell 1 0) (cell 0 1))))', '(rule 3 0 (le (size (select (role 0 0) (gt (cell 1 0) (num 20)))) (num 9)))',
         '(rule 4 3 (exists (role 0 3) (not (kind 1 0))))']
@@ -134,10 +135,17 @@ def refusals(count):
     links = ['(link 0 %d %d)' % (a, b) for a in range(1, 65) for b in range(1, 66)]
     visit = ['(insert 1 1)', '(delete 1)'] * 128
     rules = [f'(rule {i} 1 (kind 0 1))' for i in range(33)]
+    floors = [f'(floor {i // 8} {i % 8})' for i in range(256)]
+    every_floor = [f'(type {i} - 8)' for i in range(32)] + floors + ['(ent 1 31 1 2 3 4 5 6 7 8)']
     count.refusal('65,536 bytes', exactly(65536), [None] * 4)
     count.refusal('65,537 bytes', exactly(65537), ['refused 2 0'] * 4)
     count.refusal('no line break at the end', ended(TYPES)[:-1], ['refused 1 3'] * 4)
     count.refusal('a text above 65,536 bytes after the visit', exactly(61000) + ended(f'(insert {i} 0)' for i in range(30001, 30257)), [None] * 3 + ['refused 2 0'])
+    count.refusal('256 floors', ended(every_floor + ['(set 1 7 0)']), [None] * 4)
+    count.refusal('256 floors, a set below the last', ended(every_floor + ['(set 1 7 0)', '(set 1 7 -1)']), ['refused 15 1', None, None, 'refused 15 1'])
+    count.refusal('256 floors, an object below the last', ended(every_floor[:-1] + ['(ent 1 31 1 2 3 4 5 6 7 -8)']), ['refused 5 0', 'refused 5 0', None, 'refused 5 0'])
+    count.refusal('257 floors', ended(every_floor[:-1] + floors[-1:]), ['refused 2 289'] * 4)
+    count.refusal('a floor twice', ended(every_floor[:-2] + floors[:1]), ['refused 3 255'] * 4)
     for name, more, answers in [
         ('a line without its last bracket', ['(ent 1 1'], ['refused 1 4'] * 4),
         ('an object with a cell too many', ['(ent 1 1 1)'], ['refused 1 4'] * 4),

@@ -1,5 +1,5 @@
 #!/usr/bin/env python3
-"""A plain reading of document 01: what each block of a file of cases has to print.
+"""A plain reading of document 01, with requests 01, 02 and 07 of document 02: what each block of a file of cases has to print.
 
     plain.py FILE        the expected output of crates/test_batch for the blocks of FILE
 
@@ -33,7 +33,7 @@ def bracket(line):
 
 class Book:
     def __init__(self):
-        self.types, self.relationships, self.rules = [], [], []
+        self.types, self.floors, self.relationships, self.rules = [], [], [], []
 
     def above(self, t):
         # "A type is *under* itself, its parent and so on up": the types that t is under
@@ -44,6 +44,10 @@ class Book:
 
     def cells(self, t):
         return self.types[t][1]
+
+    def floored(self, t):
+        # Request 02: "cell k of t and of types under it is at least 0": the cells of a type that have to be, by its own floors and those above
+        return {k for u, k in self.floors if self.under(t, u)}
 
 
 class Register:
@@ -65,6 +69,8 @@ def read(text):
         head, *rest = bracket(line)
         if head == 'type':
             book.types.append((rest[1], rest[2]))
+        elif head == 'floor':
+            book.floors.append(tuple(rest))
         elif head == 'rel':
             book.relationships.append((rest[1], rest[2]))
         elif head == 'rule':
@@ -188,6 +194,25 @@ def fits(book, register, event):
     return True
 
 
+def below_floor(book, t, cells):
+    """Whether an object of a type would have a floored cell below 0."""
+    return any(cells[k] < 0 for k in book.floored(t))
+
+
+def register_refusal(book, register):
+    """Request 02: "A register below a floor is refusal 5", at the first such row, or None. In all else the registers here are in order."""
+    rows = [below_floor(book, *register.objects[i]) for i in sorted(register.objects)]
+    return (5, rows.index(True)) if True in rows else None
+
+
+def brought_below(book, register, event):
+    """Whether 15 is met: "a set puts a floored cell below 0 or a special brings an object with such a cell under a floor"."""
+    kind, *x = event
+    if kind == 'set':
+        return x[2] < 0 and x[1] in book.floored(register.type_of(x[0]))
+    return kind == 'special' and below_floor(book, x[1], register.objects[x[0]][1])
+
+
 def needed(book, register, event):
     """Whether 12 is met: "general out of a type a link needs"; by request 01 it "remains for `general` alone". Reading 14: at both ends."""
     kind, *x = event
@@ -217,6 +242,8 @@ def event_refusal(book, register, event):
         return 10
     if not fits(book, register, event):
         return 11
+    if brought_below(book, register, event):  # request 02: "checked after 11"
+        return 15
     if needed(book, register, event):
         return 12
     return 13 if full(register, event) else None
@@ -255,6 +282,7 @@ PARTS = {
     'select': '++',  # "gain if c gains or b may turn true at a member of c; loss if c loses or b may turn false at one"
     'size': '+',     # "rises by gain, falls by loss"
     'sum': '**',     # "either way by gain, loss or a set of that cell at a member" (the second part)
+    'floored sum': '+*',  # request 02: "rises by gain only and falls by loss only; a set moves it both ways"
     'add': '++', 'sub': '+-',  # "as its parts; `sub`: second part reversed"
     'le': '-+', 'lt': '-+',    # "may turn false if the left may rise or the right fall, true the other way"
     'ge': '+-', 'gt': '+-',    # "mirrored"
@@ -276,6 +304,15 @@ class Reach:
     Two readings have it: of a batch at some objects, where an answer is yes or no, and of a book "without objects", where it is the event
     types that do it. Each says what its leaves are, what a condition does at the members of a collection, and what sets a cell of them."""
 
+    def member_type(self, c):
+        if c[0] == 'role':
+            return self.book.relationships[c[2] // 2][1 - c[2] % 2]
+        return c[1] if c[0] == 'all' else self.member_type(c[1])
+
+    def row(self, f):
+        """The row of PARTS: a sum is over a floored cell by the members' type, whatever members there are."""
+        return 'floored sum' if f[0] == 'sum' and f[2] in self.book.floored(self.member_type(f[1])) else f[0]
+
     def moves(self, f, env):
         op = f[0]
         if op in ('role', 'all', 'num', 'cell', 'kind'):
@@ -288,7 +325,7 @@ class Reach:
             parts.append(self.at_members(f[1], f[2], env))
         elif op not in ('size', 'not'):
             parts.append(self.moves(f[2], env))
-        ups, downs = zip(*(turned(sign, part) for sign, part in zip(PARTS[op], parts)))
+        ups, downs = zip(*(turned(sign, part) for sign, part in zip(PARTS[self.row(f)], parts)))
         return self.either(ups), self.either(downs)
 
 
@@ -296,10 +333,12 @@ class Batch(Reach):
     """What the events of a batch did, each on what the one before it left, and the register they leave, *the end*."""
 
     def __init__(self, book, register, events):
-        self.book, self.end, self.refused = book, register.copy(), None
+        self.book, self.end, self.refused = book, register.copy(), register_refusal(book, register)
         self.sets, self.joined, self.parted = set(), set(), set()
         self.taken = set()  # (a link that a delete took along, the object deleted)
         self.changes = []  # (kind, id, the types it brought the object into, the types it took it out of)
+        if self.refused is not None:
+            return
         for place, event in enumerate(events):
             number = event_refusal(book, self.end, event)
             if number is not None:  # "the first faulty event decides"
@@ -432,11 +471,6 @@ class EventList(Reach):
     def parented(self, kind, t):
         # "`special t` and `general t` are left out where t has no parent"
         return set() if self.book.types[t][0] is None else {(kind, t, 0)}
-
-    def member_type(self, c):
-        if c[0] == 'role':
-            return self.book.relationships[c[2] // 2][1 - c[2] % 2]
-        return c[1] if c[0] == 'all' else self.member_type(c[1])
 
     either = staticmethod(lambda types: set().union(*types))
 

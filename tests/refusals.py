@@ -1,5 +1,5 @@
 #!/usr/bin/env python3
-"""Every refusal that a text can meet, through the program `check_text`; the answers were found by hand from document 01.
+"""Every refusal that a text can meet, through the program `check_text`; the answers were found by hand from documents 01 and 02.
 
     refusals.py PROGRAM
 
@@ -30,6 +30,7 @@ def links(count):
 CASES = [
     ('a line that is no bracket', 'refused 1 1', ['type 0 - 1']),
     ('two spaces', 'refused 1 3', BOOK[:2] + ['(rel 0 0  1)'] + BOOK[3:]),
+    ('a floor after the relationships', 'refused 1 4', BOOK[:3] + ['(floor 0 0)']),
     ('a value beyond 32 bits', 'refused 1 5', BOOK + ['(ent 10 0 2147483648)']),
     ('an object of a type that the text lacks', 'refused 1 5', BOOK + ['(ent 10 2)']),
     ('a type after the links', 'refused 1 9', BOOK + REGISTER + ['(type 2 - 1)']),
@@ -39,6 +40,7 @@ CASES = [
     ('a text of more than 8,192 bytes', 'refused 2 0', LONG + ['(set 10001 0 0)'] * 400),
     ('nine cells', 'refused 3 0', ['(type 0 - 9)'] + BOOK[1:]),
     ('a type that is its own parent', 'refused 3 1', ['(type 0 - 1)', '(type 1 1 1)'] + BOOK[2:]),
+    ('a floor twice', 'refused 3 1', BOOK[:2] + ['(floor 1 0)', '(floor 1 0)'] + BOOK[2:]),
     ('an end type that is not there', 'refused 3 0', BOOK[:2] + ['(rel 0 0 2)'] + BOOK[3:]),
     ('fewer cells than the parent, and an end type that is not there', 'refused 3 1', BOOK[:1] + ['(type 1 0 0)', '(rel 0 0 9)']),
     ('a cell that the members lack', 'refused 4 0', BOOK[:3] + ['(rule 0 0 (le (sum (role 0 0) 1) (cell 0 0)))']),
@@ -46,6 +48,7 @@ CASES = [
     ('a number as the body', 'refused 4 0', BOOK[:3] + ['(rule 0 0 (cell 0 0))']),
     ('an object twice', 'refused 5 1', BOOK + ['(ent 10 0 30)', '(ent 10 0 30)']),
     ('id 0', 'refused 5 0', BOOK + ['(ent 0 0 30)']),
+    ('an object below a floor', 'refused 5 0', BOOK[:2] + ['(floor 0 0)'] + BOOK[2:] + ['(ent 10 0 -1)']),
     ('a link the other way round', 'refused 5 0', BOOK + REGISTER[:3] + ['(link 0 20 10)']),
     ('a link twice', 'refused 5 1', BOOK + REGISTER + ['(link 0 10 20)']),
     ('an insert of an unknown type', 'refused 7 0', BOOK + REGISTER + ['(insert 12 2)']),
@@ -54,6 +57,7 @@ CASES = [
     ('a join of a link that is there', 'refused 9 0', BOOK + REGISTER + ['(join 0 10 20)']),
     ('a part of a link that is absent', 'refused 10 0', BOOK + REGISTER + ['(part 0 11 20)']),
     ('a set of a cell that the type lacks', 'refused 11 0', BOOK + REGISTER + ['(set 20 1 1)']),
+    ('a set of a floored cell below 0', 'refused 15 0', BOOK[:2] + ['(floor 1 0)'] + BOOK[2:] + REGISTER + ['(set 20 0 -1)']),
     ('a general out of a type that a link needs', 'refused 12 0', SUB + ['(general 20 1)']),
     ('the same once the link went with a delete', 'accepted', SUB + ['(delete 11)', '(general 20 1)']),
     ('an insert into 128 objects', 'refused 13 0', objects(128) + ['(insert 129 0)']),

@@ -10,6 +10,7 @@ rule 0, or `=> lists` and that of each rule, parted by ` |`. A case that is othe
 import collections
 import sys
 
+import draw
 import plain
 
 
@@ -49,8 +50,11 @@ def by_hand(name, book, checked):
 
 
 def count_book(count, book):
-    for _, body in book.rules:
+    count['books with floors'] += bool(book.floors)
+    count['floors'] += len(book.floors)
+    for rule, (_, body) in enumerate(book.rules):
         count['rules'] += 1
+        count['rules whose list is shorter by floors'] += draw.shortened(book, rule)
         count['rules quiet'] += plain.quiet(body)
         count.update('form ' + name for name in form_names(body))
         count['depth %d' % depth(body)] += 1
@@ -80,11 +84,22 @@ def count_undone(count, events):
     count['batch: a cell set twice'] += len(set(sets)) < len(sets)
 
 
+def count_floors(count, book, register, events, checked):
+    """What floors spare of a batch that they let pass."""
+    spared = set(plain.Batch(draw.without_floors(book), register, events).pairs()) - set(checked.pairs)
+    count['batch: fewer pairs by floors'] += bool(spared)
+    count['pairs spared by floors'] += len(spared)
+
+
 def count_case(count, book, register, events, checked):
     kind = checked.answer[0]
     count['answer ' + (kind if kind != 'refused' else 'refused %d' % checked.answer[1])] += 1
+    if checked.answer[:2] == ('refused', 15):
+        count['answer refused 15 by a ' + events[checked.answer[2]][0]] += 1
     if kind == 'refused':
         return
+    if book.floors:
+        count_floors(count, book, register, events, checked)
     count.update('event ' + event[0] for event in events)
     count['batch: empty'] += not events
     count_undone(count, events)

@@ -2,6 +2,7 @@
 """Runs the cases of crates/test_batch as texts through the program `check_text`, and compares what it prints with the plain check.
 
     texts.py PROGRAM [EVERY]        every case, or every so manieth of the drawn ones; marked cases are all run
+    texts.py PROGRAM FILE           every case of another file of blocks
 
 A text is the case's own book and register and then its events. Texts that the program's tables do not hold are counted and left out.
 """
@@ -11,7 +12,7 @@ import sys
 
 import plain
 
-ROOM = {'type': 32, 'rel': 32, 'rule': 8, 'ent': 128, 'link': 512}
+ROOM = {'type': 32, 'floor': 256, 'rel': 32, 'rule': 8, 'ent': 128, 'link': 512}
 BYTES, EVENTS = 8192, 64
 plain.OBJECT_ROWS, plain.LINK_ROWS, plain.LIST_WORDS = ROOM['ent'], ROOM['link'], 2048
 
@@ -42,9 +43,10 @@ def printed(text):
 
 
 def main():
-    program, every = sys.argv[1], int(sys.argv[2]) if len(sys.argv) > 2 else 1
+    program, choice = sys.argv[1], sys.argv[2] if len(sys.argv) > 2 else '1'
+    every = int(choice) if choice.isdigit() else 1
     here = pathlib.Path(__file__).parent
-    stored = (here.parent / 'crates/test_batch/stdin').read_text()
+    stored = pathlib.Path(here.parent / 'crates/test_batch/stdin' if choice.isdigit() else choice).read_text()
     marked = sum(len((here / name).read_text().strip('\n').split('\n\n')) for name in ('marked.txt', 'thesis.txt'))
     counts = {'accepted': 0, 'broken': 0, 'refused': 0, 'left out': 0, 'disagreements': 0}
     for n, (name, text) in enumerate(texts(stored)):

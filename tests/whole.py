@@ -1,4 +1,5 @@
-"""A plain reading of document 01 from a text to what the program `check` prints: its limits, refusals 1 to 5, and then the plain batch check.
+"""A plain reading of document 01, with requests 01, 02 and 07, from a text to what the program `check` prints: its limits, refusals 1 to 5,
+and then the plain batch check.
 
 Nothing is shared with the reader under test: a line is matched against patterns, and each check looks through whole lists.
 """
@@ -10,8 +11,9 @@ import plain
 sys.setrecursionlimit(20000)  # a text can hold some two thousand brackets, one in the other
 
 BYTES, FORMS = 8192, 64  # "It reads at most 8,192 bytes"; "a body of at most 64 forms"
-# "lends tables for 128 objects, 512 links, 8 rules and 64 events"; types and relationships to their limits. In the order of the sections.
-ROOM = {'type': 32, 'rel': 32, 'rule': 8, 'ent': 128, 'link': 512, 'event': 64}
+# "lends tables for 128 objects, 512 links, 8 rules and 64 events"; types and relationships to their limits; floors "at most 256 (`check` takes as
+# many)". In the order of the sections.
+ROOM = {'type': 32, 'floor': 256, 'rel': 32, 'rule': 8, 'ent': 128, 'link': 512, 'event': 64}
 plain.OBJECT_ROWS, plain.LINK_ROWS, plain.LIST_WORDS = ROOM['ent'], ROOM['link'], 2048
 
 # The parts of each body form: f a form, n a number.
@@ -106,6 +108,8 @@ class Text:
             parent = None if words[2] == '-' else number(words[2])
             ask(parent is None or parent >= 0)  # "so is a parent below 0"
             return 'type', (parent, number(words[3]))
+        if name == 'floor':  # any numbers: which types and cells there are is met at 3
+            return 'floor', tuple(numbers(line, name, 2))
         if name == 'rel':
             n, source, target = numbers(line, name, 3)
             self.numbered('rel', n)
@@ -134,6 +138,13 @@ def faulty_type(types, n):
     if not 0 <= cells <= 8:
         return True
     return parent is not None and not (parent < n and cells >= types[parent][1])
+
+
+def faulty_floor(book, n):
+    # request 02: "a floor out of order, twice or on an unknown cell"
+    t, k = book.floors[n]
+    known = 0 <= t < len(book.types) and 0 <= k < book.cells(t)
+    return not known or (n > 0 and book.floors[n - 1] >= book.floors[n])
 
 
 def sort_of(book, f, scope):
@@ -176,8 +187,9 @@ def faulty_rule(book, n):
     return not 0 <= context < len(book.types) or sort_of(book, body, [context]) != 'truth'
 
 
-def faulty_object(rows, n):
-    return not 1 <= rows[n][0] <= plain.MOST_ID or (n > 0 and rows[n - 1][0] >= rows[n][0])
+def faulty_object(book, rows, n):
+    faulty = not 1 <= rows[n][0] <= plain.MOST_ID or (n > 0 and rows[n - 1][0] >= rows[n][0])
+    return faulty or plain.below_floor(book, *rows[n][1:])
 
 
 def faulty_link(book, register, links, n):
@@ -195,11 +207,12 @@ def first(number, count, faulty):
 def checked_tables(rows):
     """The refusal 3, 4 or 5 that the tables meet, or the book and the register."""
     book = plain.Book()
-    book.types, book.relationships, book.rules = rows['type'], rows['rel'], rows['rule']
+    book.types, book.floors, book.relationships, book.rules = rows['type'], rows['floor'], rows['rel'], rows['rule']
     refused = first(3, len(book.types), lambda n: faulty_type(book.types, n)) \
+        or first(3, len(book.floors), lambda n: faulty_floor(book, n)) \
         or first(3, len(book.relationships), lambda n: not all(0 <= t < len(book.types) for t in book.relationships[n])) \
         or first(4, len(book.rules), lambda n: faulty_rule(book, n)) \
-        or first(5, len(rows['ent']), lambda n: faulty_object(rows['ent'], n))
+        or first(5, len(rows['ent']), lambda n: faulty_object(book, rows['ent'], n))
     if refused:
         return refused, None, None
     register = plain.Register({i: (t, tuple(values + [0] * (8 - len(values)))) for i, t, values in rows['ent']}, rows['link'])
