@@ -74,6 +74,7 @@ fn counts(checked: Checked, list: [u32; 48]) {
 fn check(
     n: Counts,
     types: &[u32],
+    floors: &[u32],
     relationships: &[u32],
     rules: &[u32],
     bodies: &[u32],
@@ -87,6 +88,7 @@ fn check(
     let checked = batch::check(
         n,
         types,
+        floors,
         relationships,
         rules,
         bodies,
@@ -107,6 +109,7 @@ fn check(
 fn check_soiled(
     n: Counts,
     types: &[u32],
+    floors: &[u32],
     relationships: &[u32],
     rules: &[u32],
     bodies: &[u32],
@@ -119,6 +122,7 @@ fn check_soiled(
     check(
         n,
         types,
+        floors,
         relationships,
         rules,
         bodies,
@@ -132,26 +136,27 @@ fn check_soiled(
 fn show_list(
     n: Counts,
     types: &[u32],
+    floors: &[u32],
     relationships: &[u32],
     rules: &[u32],
     bodies: &[u32],
     rule: u32,
 ) {
     let mut list = [0u16; 192];
-    match event_list::list(n, types, relationships, rules, bodies, rule, &mut list) {
+    match event_list::list(n, types, floors, relationships, rules, bodies, rule, &mut list) {
         Listed::Refused(number, place) => show::two(b" refused", number, place),
         Listed::Types(count) => show::event_types(list, count),
     }
 }
 
 // The event list of each rule.
-fn show_lists(n: Counts, types: &[u32], relationships: &[u32], rules: &[u32], bodies: &[u32]) {
+fn show_lists(n: Counts, types: &[u32], floors: &[u32], relationships: &[u32], rules: &[u32], bodies: &[u32]) {
     let count = n.rules;
     let mut rule: u32 = 0;
     while rule < count {
         io::print_decimal(1, rule as u64);
         io::write_all(1, b":");
-        show_list(n, types, relationships, rules, bodies, rule);
+        show_list(n, types, floors, relationships, rules, bodies, rule);
         io::write_all(1, b"\n");
         rule += 1;
     }
@@ -160,6 +165,7 @@ fn show_lists(n: Counts, types: &[u32], relationships: &[u32], rules: &[u32], bo
 // A text with its own book.
 fn try_book(text: &[u8]) {
     let mut types = [0u32; 64];
+    let mut floors = [0u32; 512];
     let mut relationships = [0u32; 64];
     let mut rules = [0u32; 16];
     let mut bodies = [0u32; 2048];
@@ -169,6 +175,7 @@ fn try_book(text: &[u8]) {
     match reader::read(
         text,
         &mut types,
+        &mut floors,
         &mut relationships,
         &mut rules,
         &mut bodies,
@@ -181,6 +188,7 @@ fn try_book(text: &[u8]) {
             check_soiled(
                 n,
                 &types,
+                &floors,
                 &relationships,
                 &rules,
                 &bodies,
@@ -188,7 +196,7 @@ fn try_book(text: &[u8]) {
                 &mut links,
                 &events,
             );
-            show_lists(n, &types, &relationships, &rules, &bodies);
+            show_lists(n, &types, &floors, &relationships, &rules, &bodies);
         }
     }
 }
@@ -196,6 +204,7 @@ fn try_book(text: &[u8]) {
 // The events of a text that has nothing else: how many there are, or more than any batch has where the text is refused.
 fn read_events(text: &[u8], events: &mut [u32]) -> u32 {
     let mut types = [0u32; 2];
+    let mut floors = [0u32; 2];
     let mut relationships = [0u32; 2];
     let mut rules = [0u32; 2];
     let mut bodies = [0u32; 256];
@@ -204,6 +213,7 @@ fn read_events(text: &[u8], events: &mut [u32]) -> u32 {
     match reader::read(
         text,
         &mut types,
+        &mut floors,
         &mut relationships,
         &mut rules,
         &mut bodies,
@@ -219,6 +229,7 @@ fn read_events(text: &[u8], events: &mut [u32]) -> u32 {
 // A batch for the book and the register of another text.
 fn try_batch(book: &[u8], batch: &[u8]) {
     let mut types = [0u32; 64];
+    let mut floors = [0u32; 512];
     let mut relationships = [0u32; 64];
     let mut rules = [0u32; 16];
     let mut bodies = [0u32; 2048];
@@ -228,6 +239,7 @@ fn try_batch(book: &[u8], batch: &[u8]) {
     match reader::read(
         book,
         &mut types,
+        &mut floors,
         &mut relationships,
         &mut rules,
         &mut bodies,
@@ -239,6 +251,7 @@ fn try_batch(book: &[u8], batch: &[u8]) {
         Outcome::Done(n) => {
             let more = Counts {
                 types: n.types,
+                floors: n.floors,
                 relationships: n.relationships,
                 rules: n.rules,
                 objects: n.objects,
@@ -248,6 +261,7 @@ fn try_batch(book: &[u8], batch: &[u8]) {
             check_soiled(
                 more,
                 &types,
+                &floors,
                 &relationships,
                 &rules,
                 &bodies,

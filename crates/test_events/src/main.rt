@@ -68,6 +68,7 @@ fn first_of(numbers: [u32; 256], count: u32) {
 fn show(
     n: Counts,
     types: &[u32],
+    floors: &[u32],
     relationships: &[u32],
     rules: &[u32],
     bodies: &[u32],
@@ -79,6 +80,7 @@ fn show(
     match writer::write(
         n,
         types,
+        floors,
         relationships,
         rules,
         bodies,
@@ -98,6 +100,7 @@ fn show(
 fn run(
     n: Counts,
     types: &[u32],
+    floors: &[u32],
     relationships: &[u32],
     rules: &[u32],
     bodies: &[u32],
@@ -110,6 +113,7 @@ fn run(
     let ran = lent_run::run(
         n,
         types,
+        floors,
         relationships,
         rules,
         bodies,
@@ -130,6 +134,7 @@ fn run(
             io::write_all(1, b"\n");
             let end = Counts {
                 types: n.types,
+                floors: n.floors,
                 relationships: n.relationships,
                 rules: n.rules,
                 objects: held.objects,
@@ -139,6 +144,7 @@ fn run(
             show(
                 end,
                 types,
+                floors,
                 relationships,
                 rules,
                 bodies,
@@ -152,6 +158,7 @@ fn run(
 // One text.
 fn try_text(text: &[u8]) {
     let mut types = [0u32; 64];
+    let mut floors = [0u32; 512];
     let mut relationships = [0u32; 64];
     let mut rules = [0u32; 4];
     let mut bodies = [0u32; 512];
@@ -161,6 +168,7 @@ fn try_text(text: &[u8]) {
     match reader::read(
         text,
         &mut types,
+        &mut floors,
         &mut relationships,
         &mut rules,
         &mut bodies,
@@ -172,6 +180,7 @@ fn try_text(text: &[u8]) {
         Outcome::Done(n) => run(
             n,
             &types,
+            &floors,
             &relationships,
             &rules,
             &bodies,

@@ -14,6 +14,16 @@ pub fn give64(all: &mut Words, table: u32, words: &[u32; 64]) {
     give(all, base(table), words);
 }
 
+pub fn out512(all: &Words, table: u32) -> [u32; 512] {
+    let mut words = [0u32; 512];
+    take(all, base(table), &mut words);
+    words
+}
+
+pub fn give512(all: &mut Words, table: u32, words: &[u32; 512]) {
+    give(all, base(table), words);
+}
+
 pub fn out1024(all: &Words, table: u32) -> [u32; 1024] {
     let mut words = [0u32; 1024];
     take(all, base(table), &mut words);
@@ -55,10 +65,10 @@ pub fn give12288(all: &mut Words, table: u32, words: &[u32; 12288]) {
 }
 
 // Numbers put from a place on.
-pub fn give6(all: &mut Words, at: u32, numbers: &[u32; 6]) {
+pub fn give7(all: &mut Words, at: u32, numbers: &[u32; 7]) {
     give(all, at, numbers);
 }
 
-pub fn give7(all: &mut Words, at: u32, numbers: &[u32; 7]) {
+pub fn give8(all: &mut Words, at: u32, numbers: &[u32; 8]) {
     give(all, at, numbers);
 }

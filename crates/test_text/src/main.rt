@@ -71,7 +71,7 @@ fn prepare(line: &[u8], all: &mut Words) {
 
 fn all_lines(input: &[u8]) {
     let mut text = [0u8; 65538];
-    let mut all = [0u32; 31952];
+    let mut all = [0u32; 32466];
     let mut at: usize = 0;
     while at < input.len() {
         let line = line::at(input, at);
