@@ -36,7 +36,17 @@ pub fn book_verdict(
         events: 0,
     };
     let none = &types[..0];
-    checks::check(book, types, floors, relationships, rules, bodies, none, none, false)
+    checks::check(
+        book,
+        types,
+        floors,
+        relationships,
+        rules,
+        bodies,
+        none,
+        none,
+        false,
+    )
 }
 
 // The same, and then 4 of a rule number that the book lacks.

@@ -86,7 +86,16 @@ pub extern "C" fn checker_full_check(
         links: links_used,
         events: 0,
     };
-    let said = full::check(n, types, floors, relationships, rules, bodies, objects, links);
+    let said = full::check(
+        n,
+        types,
+        floors,
+        relationships,
+        rules,
+        bodies,
+        objects,
+        links,
+    );
     *answer = told::answer(said);
 }
 

@@ -61,7 +61,15 @@ fn print_tables(
             &*links,
             out,
         ),
-        Asked::Events => park_tables::print_events(n, types, floors, relationships, rules, bodies, out),
+        Asked::Events => park_tables::print_events(
+            n,
+            types,
+            floors,
+            relationships,
+            rules,
+            bodies,
+            out,
+        ),
         Asked::After => park_tables::print_after(
             n,
             types,

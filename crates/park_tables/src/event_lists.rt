@@ -33,7 +33,16 @@ fn rule_line(
         (Put (now (out .entry)) at bytes (now (out .exit)) r) × (length bytes ≤ roomForEvents 1792)) ⌝ }
 {
     let mut words = [0u16; 5376];
-    match event_list::list(n, types, floors, relationships, rules, bodies, rule, &mut words) {
+    match event_list::list(
+        n,
+        types,
+        floors,
+        relationships,
+        rules,
+        bodies,
+        rule,
+        &mut words,
+    ) {
         Listed::Refused(_, _) => at,
         Listed::Types(count) => event_lines::line(out, at, rule, count, &words),
     }

@@ -32,7 +32,16 @@ pub fn print_full(
         let bytes = fullPrinted n s in
         (now (out .exit) ≡ inFront bytes (now (out .entry))) × (r ≡ length bytes)) ⌝ }
 {
-    let answer = full::check(n, types, floors, relationships, rules, bodies, objects, links);
+    let answer = full::check(
+        n,
+        types,
+        floors,
+        relationships,
+        rules,
+        bodies,
+        objects,
+        links,
+    );
     let none = [0u32; 1];
     printing::print(answer, 0, &none, out)
 }

@@ -143,14 +143,30 @@ fn show_list(
     rule: u32,
 ) {
     let mut list = [0u16; 192];
-    match event_list::list(n, types, floors, relationships, rules, bodies, rule, &mut list) {
+    match event_list::list(
+        n,
+        types,
+        floors,
+        relationships,
+        rules,
+        bodies,
+        rule,
+        &mut list,
+    ) {
         Listed::Refused(number, place) => show::two(b" refused", number, place),
         Listed::Types(count) => show::event_types(list, count),
     }
 }
 
 // The event list of each rule.
-fn show_lists(n: Counts, types: &[u32], floors: &[u32], relationships: &[u32], rules: &[u32], bodies: &[u32]) {
+fn show_lists(
+    n: Counts,
+    types: &[u32],
+    floors: &[u32],
+    relationships: &[u32],
+    rules: &[u32],
+    bodies: &[u32],
+) {
     let count = n.rules;
     let mut rule: u32 = 0;
     while rule < count {

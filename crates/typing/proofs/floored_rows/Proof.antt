@@ -66,8 +66,7 @@ loop-again c =
     let few = start .pre .0 .few in
     let code = c .before .before .field .ensures in
     let x = c .before .field2 .ensures in
-    let long = loop .loop .inv .1 in
-    (
+    let long = loop .loop .inv .1 in (
       omega arith,
       length-set (loop .loop .floored) row (c .floored-sum .result) ∙ long,
       rows-more (c .floored-sum .result) (omega arith) (loop .loop .inv .2) (c .floored-sum .ensures ∙ (λ j. flooredAt S (code j) (x j) ((ending rows row) .form))),
