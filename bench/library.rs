@@ -102,7 +102,8 @@ pub fn run(t: &Tables, used: (u32, u32), events: &[u32], scratch: &mut (Vec<u32>
     let mut answer = [0; 3];
     unsafe {
         checker_run(
-            (t.types.len() / 2) as u32, (t.floors.len() / 2) as u32, (t.relationships.len() / 2) as u32, (t.rules.len() / 2) as u32, used.0, used.1,
+            (t.types.len() / 2) as u32, (t.floors.len() / 2) as u32, (t.relationships.len() / 2) as u32, (t.rules.len() / 2) as u32,
+            used.0, used.1,
             t.types.as_ptr(), t.types.len(), t.floors.as_ptr(), t.floors.len(), t.relationships.as_ptr(), t.relationships.len(),
             t.rules.as_ptr(), t.rules.len(), t.bodies.as_ptr(), t.bodies.len(),
             t.objects.as_ptr(), t.objects.len(), t.links.as_ptr(), t.links.len(),
@@ -133,7 +134,8 @@ pub fn batch(t: &mut Tables, used: (u32, u32), events: &[[u32; 4]], scratch: &mu
     let mut answer = [0; 6];
     unsafe {
         checker_batch(
-            (t.types.len() / 2) as u32, (t.floors.len() / 2) as u32, (t.relationships.len() / 2) as u32, (t.rules.len() / 2) as u32, used.0, used.1, events.len() as u32,
+            (t.types.len() / 2) as u32, (t.floors.len() / 2) as u32, (t.relationships.len() / 2) as u32, (t.rules.len() / 2) as u32,
+            used.0, used.1, events.len() as u32,
             t.types.as_ptr(), t.types.len(), t.floors.as_ptr(), t.floors.len(), t.relationships.as_ptr(), t.relationships.len(),
             t.rules.as_ptr(), t.rules.len(), t.bodies.as_ptr(), t.bodies.len(),
             t.objects.as_mut_ptr(), t.objects.len(), t.links.as_mut_ptr(), t.links.len(),

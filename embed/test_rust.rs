@@ -23,7 +23,7 @@ mod spelling;
 #[path = "../bench/visits.rs"]
 mod visits;
 
-use checker::{Answer, EventType, Park, Refusal, Room};
+use checker::{Answer, Event, EventType, Park, Refusal, Room};
 use park::Park as Plain;
 
 const DRAWN: u32 = 5_000;
@@ -254,7 +254,7 @@ fn too_many() -> Tally {
     let (mut park, _) = Park::read_into(text.as_bytes(), room(4, 3)).expect("a text that fits");
     let five: Vec<_> = (1..=5).map(|id| checker::Object { id, type_number: 0, cells: [0; 8] }).collect();
     t.refusal("too few rows for a register", park.set_register(&five, &[]), (2, 0));
-    let many = vec![checker::Event::Delete { object: 4 }; 257];
+    let many = vec![Event::Delete { object: 4 }; 257];
     t.count(park.check(&many));
     t.agree("too many events", park.check(&many) == Answer::Refused { number: 2, place: 0 } && park.objects().count() == 4);
     t
@@ -270,32 +270,42 @@ fn event_lists() -> Tally {
     let (join, part) = (EventType::Join { relationship: 0 }, EventType::Part { relationship: 0 });
     t.agree("an event list", park.events(0) == Ok(vec![insert, delete, set(0), set(1), join, part]));
     t.refusal("a rule that is not there", park.events(4), (4, 4));
-    // the same where what a drive draws is at least 0: a sum that a removal cannot raise
+    t
+}
+
+// The example where what a drive draws has a floor: a sum that a removal cannot raise, and what is refused below it.
+fn floors() -> Tally {
+    let mut t = Tally::default();
     let example = include_str!("../docs/examples/park.txt");
     let types: usize = example.lines().take_while(|line| line.starts_with("(type")).map(|line| line.len() + 1).sum();
     let text = [&example[..types], "(floor 1 0)\n", &example[types..]].concat();
-    let (mut floored, _) = Park::read(text.as_bytes()).expect("the example with a floor");
-    t.agree("an event list with a floor", floored.events(0) == Ok(vec![insert, set(0), set(1), join]));
-    t.count(floored.check(&[checker::Event::Delete { object: 10 }]));
-    t.agree("the pairs that a floor leaves", floored.pairs().all(|p| p.rule != 0));
-    let below = [checker::Event::Set { object: 11, cell: 1, value: -1 }, checker::Event::Set { object: 11, cell: 0, value: -1 }];
-    t.refusal("a set below a floor", floored.run(&below), (15, 1));
-    t.count(floored.check(&below));
-    t.agree("a set below a floor", floored.check(&below) == Answer::Refused { number: 15, place: 1 });
-    let (objects, links): (Vec<_>, Vec<_>) = (floored.objects().map(|o| checker::Object { cells: [-1, 0, 0, 0, 0, 0, 0, 0], ..o }).collect(), floored.links().collect());
-    let first_drive = objects.iter().position(|o| [1, 2].contains(&o.type_number)).expect("a drive") as u32;
-    t.refusal("a register below a floor", floored.set_register(&objects, &links), (5, first_drive));
-    t.refusal("a floor twice", Park::read(text.replacen("(floor", "(floor 1 0)\n(floor", 1).as_bytes()).and_then(|(park, _)| park.events(0)), (3, 1));
+    let (mut park, _) = Park::read(text.as_bytes()).expect("the example with a floor");
+    let set = |type_number| EventType::Set { type_number, cell: 0 };
+    let (insert, join) = (EventType::Insert { type_number: 0 }, EventType::Join { relationship: 0 });
+    t.agree("an event list", park.events(0) == Ok(vec![insert, set(0), set(1), join]));
+    t.count(park.check(&[Event::Delete { object: 10 }]));
+    t.agree("the pairs of a removal", park.pairs().all(|p| p.rule != 0));
+    let below = [1, 0].map(|cell| Event::Set { object: 11, cell, value: -1 });
+    t.refusal("the run of a set below a floor", park.run(&below), (15, 1));
+    t.count(park.check(&below));
+    t.agree("a set below a floor", park.check(&below) == Answer::Refused { number: 15, place: 1 });
+    let lowered = |o: checker::Object| checker::Object { cells: std::array::from_fn(|k| if k == 0 { -1 } else { o.cells[k] }), ..o };
+    let (objects, links): (Vec<_>, Vec<_>) = (park.objects().map(lowered).collect(), park.links().collect());
+    let drive = objects.iter().position(|o| [1, 2].contains(&o.type_number)).expect("a drive");
+    t.refusal("a register below a floor", park.set_register(&objects, &links), (5, drive as u32));
+    let twice = text.replacen("(floor", "(floor 1 0)\n(floor", 1);
+    t.refusal("a floor twice", Park::read(twice.as_bytes()).and_then(|(park, _)| park.events(0)), (3, 1));
     t
 }
 
 fn tests() -> usize {
-    let groups: [(&str, fn() -> Tally); 5] = [
+    let groups: [(&str, fn() -> Tally); 6] = [
         ("visits to drawn parks", drawn_parks),
         ("visits to the largest parks", largest),
         ("damaged texts", damaged_texts),
         ("texts, registers and batches with too much", too_many),
         ("event lists", event_lists),
+        ("visits, lists and registers with a floor", floors),
     ];
     let tallies = groups.map(|(name, group)| {
         let t = group();
