@@ -5,10 +5,10 @@ use Rattle.test_batch.proofs.show_lists.Statement.{statement}
 use Rattle.test_batch.proofs.show_lists.Tie as tie
 
 abbrev Inv-loop : tie.InvT-loop
-Inv-loop n types relationships rules bodies count rule₀ t8 t9 rule = rule ≤ count
+Inv-loop n types floors relationships rules bodies count rule₀ t8 t9 rule = rule ≤ count
 
 abbrev μ-loop : tie.MeasureT-loop
-μ-loop n types relationships rules bodies count rule₀ t8 t9 rule = count - rule
+μ-loop n types floors relationships rules bodies count rule₀ t8 t9 rule = count - rule
 
 loop-holds : tie.Need-loop-holds Inv-loop μ-loop
 loop-holds c = search needs

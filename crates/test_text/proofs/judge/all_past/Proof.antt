@@ -8,7 +8,7 @@ abbrev Inv-loop : tie.InvT-loop
 Inv-loop all wrong₀ table₀ wrong table = Unit {0}
 
 abbrev μ-loop : tie.MeasureT-loop
-μ-loop all wrong₀ table₀ wrong table = 7 - table
+μ-loop all wrong₀ table₀ wrong table = 8 - table
 
 loop-holds : tie.Need-loop-holds Inv-loop μ-loop
 loop-holds c = tt

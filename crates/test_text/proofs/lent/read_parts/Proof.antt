@@ -1,6 +1,5 @@
 -- `lent::read_parts` is safe and ends.
 use borrow.Author.Needs.{needs}
-use borrow.Author.Needs.{needs}
 use Rattle.test_text.proofs.lent.read_parts.Statement.{statement}
 use Rattle.test_text.proofs.lent.read_parts.Tie as tie
 
@@ -24,6 +23,9 @@ some-requires-6 c κs = search needs
 
 some-requires-7 : tie.Need-some-requires-7
 some-requires-7 c κs = search needs
+
+some-requires-8 : tie.Need-some-requires-8
+some-requires-8 c κs = search needs
 
 mul-read : tie.Need-mul-read
 mul-read c = search needs
@@ -109,27 +111,39 @@ part-read-start-7 c = search needs
 part-read-end-7 : tie.Need-part-read-end-7
 part-read-end-7 c = search needs
 
+mul-read-8 : tie.Need-mul-read-8
+mul-read-8 c = search needs
+
+sub-read-8 : tie.Need-sub-read-8
+sub-read-8 c = search needs
+
+part-read-start-8 : tie.Need-part-read-start-8
+part-read-start-8 c = search needs
+
+part-read-end-8 : tie.Need-part-read-end-8
+part-read-end-8 c = search needs
+
 read-requires : tie.Need-read-requires
 read-requires c κs = search needs
 
 -- where the bodies come home, and the types
-abbrev bodies-home : tie.After-slice-known14 → tie.After-bodies
+abbrev bodies-home : tie.After-slice-known16 → tie.After-bodies
 bodies-home c = c .before .before .before .before .before .before .before
 
-abbrev types-home : tie.After-slice-known14 → tie.After-types
-types-home c = bodies-home c .before .before .before .before .before .before
+abbrev types-home : tie.After-slice-known16 → tie.After-types
+types-home c = bodies-home c .before .before .before .before .before .before .before .before
 
 same-length : tie.Need-same-length
 same-length c = let h = types-home c .types .given in search needs
 
 same-length-2 : tie.Need-same-length-2
-same-length-2 c = let h = bodies-home c .before .before .before .before .relationships .given in search needs
+same-length-2 c = let h = bodies-home c .before .before .before .before .before .before .floors .given in search needs
 
 same-length-3 : tie.Need-same-length-3
-same-length-3 c = let h = bodies-home c .before .before .rules .given in search needs
+same-length-3 c = let h = bodies-home c .before .before .before .before .relationships .given in search needs
 
 same-length-4 : tie.Need-same-length-4
-same-length-4 c = search needs
+same-length-4 c = let h = bodies-home c .before .before .rules .given in search needs
 
 same-length-5 : tie.Need-same-length-5
 same-length-5 c = search needs
@@ -139,6 +153,9 @@ same-length-6 c = search needs
 
 same-length-7 : tie.Need-same-length-7
 same-length-7 c = search needs
+
+same-length-8 : tie.Need-same-length-8
+same-length-8 c = search needs
 
 returns : tie.Need-returns
 returns c = search needs
@@ -154,6 +171,7 @@ read-parts-spec =
     some-requires-5
     some-requires-6
     some-requires-7
+    some-requires-8
     mul-read
     sub-read
     part-read-start
@@ -182,6 +200,10 @@ read-parts-spec =
     sub-read-7
     part-read-start-7
     part-read-end-7
+    mul-read-8
+    sub-read-8
+    part-read-start-8
+    part-read-end-8
     read-requires
     same-length
     same-length-2
@@ -190,4 +212,5 @@ read-parts-spec =
     same-length-5
     same-length-6
     same-length-7
+    same-length-8
     returns)
