@@ -153,10 +153,14 @@ sum-below true f f′ l l′ a a′ s least h =
     (total-below f′ l l′ a a′ s (least tt))
 sum-below false f f′ l l′ a a′ s least h = subst (λ k. total (map f l) ≤ℤ total k) terms (≤ℤ-refl (total (map f l)))
   where
+    -- where nothing is known of the cells, no member came and none went
+    both : Through either (λ e. Unmoved collection e l l′) down
+    both = s
+
     terms : map f l ≡ map f′ l′
     terms =
-        map-congr-left (λ x t. ∥∥₁-elim t (ℤ-set (f x) (f′ x)) (λ m. h x m (s .1 x m)))
-        ∙ ap (map f′) (ascending-unique _<_ lt-irrefl (λ x y z. lt-trans) l l′ a a′ (s .1) (s .0))
+        map-congr-left (λ x t. ∥∥₁-elim t (ℤ-set (f x) (f′ x)) (λ m. h x m (both .1 x m)))
+        ∙ ap (map f′) (ascending-unique _<_ lt-irrefl (λ x y z. lt-trans) l l′ a a′ (both .1) (both .0))
 
 pub sum-unmoved : (floor : Bool) (d : Direction) (f f′ : ℕ → ℤ) (l l′ : List ℕ) → Ascending _<_ l → Ascending _<_ l′ → Through (sumSource floor) (λ e. Unmoved collection e l l′) d → (T floor → NoneBelow f l) → (T floor → NoneBelow f′ l′) → ((x : ℕ) → x ∈ l → x ∈ l′ → f x ≡ f′ x) → Unmoved number d (total (map f l)) (total (map f′ l′))
 sum-unmoved floor up f f′ l l′ a a′ s least least′ h = sum-below floor f′ f l′ l a′ a (exchanged collection (sumSource floor) l l′ s) least (λ x m n. sym (h x n m))

@@ -1,5 +1,5 @@
 -- Document 01, "A full check answers ..", "A batch check answers ..", and "Where each refusal is met" for a book, a register
--- and a batch: refusals 3, 4, 5, 7 to 13 and 14. (2 and 6 are of the lent tables, 1 of the text.)
+-- and a batch: refusals 3, 4, 5, 7 to 13, 15 and 14. (2 and 6 are of the lent tables, 1 of the text.)
 use Prim.Native.Nat.{ℕ, _*_}
 use mathlib.Core.Bool.{Bool, cond}
 use mathlib.Core.List.{List, []}

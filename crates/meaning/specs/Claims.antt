@@ -31,7 +31,7 @@ endOf k g es = after (k .schema) g es
 abbrev pub changeOf : Book → Register → List Event → Change
 changeOf k g es = changeBy (k .schema) g es
 
--- "for every book and register and every batch that is not refused": refusals 3 to 5 of the book and the register, 7 to 13 of the events
+-- "for every book and register and every batch that is not refused": refusals 3 to 5 of the book and the register, 7 to 13 and 15 of the events
 abbrev pub NotRefused : Book → Lent → Register → List Event → Type 0
 NotRefused k lent g es = (refusal k g ≡ none) × (batchRefusal (k .schema) lent g es ≡ none)
 

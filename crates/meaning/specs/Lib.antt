@@ -5,7 +5,7 @@
 --   Register   objects and links; refusal 5
 --   Forms      the forms of a rule's body; scopes and types, refusal 4
 --   Meaning    what each form means (OCL 2.4); broken, holds
---   Events     what each event does; refusals 7 to 13; the register after a batch
+--   Events     what each event does; refusals 7 to 13 and 15; the register after a batch
 --   Reach      the reach rules; quiet; the selected pairs
 --   EventList  the event list of a rule; when a listed event type occurs
 --   Answers    the answers of the full check and of the batch check
