@@ -260,10 +260,11 @@ fn too_many() -> Tally {
     t
 }
 
-// The event list of the example's first rule, by hand: cabinets (0) with drives (1), and a sum of what they draw.
+// The event list of the example's first rule without its floors, by hand: cabinets (0) with drives (1), and a sum of what they draw.
 fn event_lists() -> Tally {
     let mut t = Tally::default();
-    let (park, events) = Park::read(include_bytes!("../docs/examples/park.txt")).expect("the example");
+    let text: String = include_str!("../docs/examples/park.txt").split_inclusive('\n').filter(|line| !line.starts_with("(floor")).collect();
+    let (park, events) = Park::read(text.as_bytes()).expect("the example without floors");
     t.count(park.clone().check(&events));
     let set = |type_number| EventType::Set { type_number, cell: 0 };
     let (insert, delete) = (EventType::Insert { type_number: 0 }, EventType::Delete { type_number: 1 });
@@ -273,13 +274,11 @@ fn event_lists() -> Tally {
     t
 }
 
-// The example where what a drive draws has a floor: a sum that a removal cannot raise, and what is refused below it.
+// The example, where what a drive draws has a floor: a sum that a removal cannot raise, and what is refused below it.
 fn floors() -> Tally {
     let mut t = Tally::default();
-    let example = include_str!("../docs/examples/park.txt");
-    let types: usize = example.lines().take_while(|line| line.starts_with("(type")).map(|line| line.len() + 1).sum();
-    let text = [&example[..types], "(floor 1 0)\n", &example[types..]].concat();
-    let (mut park, _) = Park::read(text.as_bytes()).expect("the example with a floor");
+    let text = include_str!("../docs/examples/park.txt");
+    let (mut park, _) = Park::read(text.as_bytes()).expect("the example");
     let set = |type_number| EventType::Set { type_number, cell: 0 };
     let (insert, join) = (EventType::Insert { type_number: 0 }, EventType::Join { relationship: 0 });
     t.agree("an event list", park.events(0) == Ok(vec![insert, set(0), set(1), join]));
