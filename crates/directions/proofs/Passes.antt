@@ -1,40 +1,91 @@
--- The table of passes by an operator's parts.
+-- The directions of a part by its form's, from the entries of the table.
 use Prim.Native.Nat.{ℕ, zero, suc, _+_, _*_, _<_}
-use mathlib.Core.Path.{_≡_, refl, sym, ap, subst, _∙_}
-use mathlib.Core.Bool.{Bool, true, false, _&&_, cond}
-use mathlib.Core.List.{List, [], _∷_, _++_, map}
-use mathlib.Core.Option.{Option, none, some, Option·some-injective}
+use mathlib.Core.Path.{_≡_, refl, sym, ap, _∙_}
+use mathlib.Core.Bool.{Bool, _&&_, cond}
+use mathlib.Core.List.{List, [], _∷_, _++_}
+use mathlib.Core.Option.{Option, none, some}
 use native.Mathlib.Omega.{arith}
-use lib.Dec.{T, ltb, eqb, lit<}
-use lib.ListN.{length, getD, List·getD-append}
-use lib.Seq.{getD-append-add}
-use mir.Facts.{and-yes, ltb-yes, eqb-yes}
-use borrow.Author.Tests.{eqb-false}
+use lib.Bits.{bitOr}
+use lib.Dec.{T, ltb, lit<}
+use lib.ListN.{getD}
+use mir.Facts.{and-yes, ltb-yes}
 use Rattle.meaning.specs.Lists.{every}
-use Rattle.meaning.specs.Reach.{Passing, same, reversed, either}
-use Rattle.tables.specs.Codes.{Operator, comparing, negating, connecting, quantifying, kindOf, literal, cellOf, sizeOf, sumOf, combining, roleOf, allOf, selecting, operators, operatorOf, codeOf}
-use Rattle.tables.proofs.Operators.{row-at}
-use Rattle.tables.proofs.Readings.{code-of}
-use Rattle.directions.specs.Sets.{passedSets, passed}
-use Rattle.directions.specs.Passes.{firstPassing, secondPassing, setsOf, passRow}
+use Rattle.meaning.specs.Reach.{up, down, Passing, same, reversed, either}
+use Rattle.tables.specs.Codes.{Operator, operatorOf}
+use Rattle.direction_table.specs.Entries.{firstPassing, secondPassing, entryOf, formRow, formNumber, ruleTable}
+use Rattle.direction_table.proofs.Rules.{rules-at}
+use Rattle.directions.specs.Sets.{holdsOne, passed}
+use Rattle.directions.specs.Passes.{passedBy, setsOf, passRow}
 
-four : (p : Option Passing) → length (setsOf p) ≡ 4
-four none = refl
-four (some same) = refl
-four (some reversed) = refl
-four (some either) = refl
+-- a part's directions stand in the row by its number and the set
+module _ (floored : Bool) (o : Operator) where
+  pub first-at : (set : ℕ) → set < 4 → getD (passRow floored o) (0 * 4 + set) 0 ≡ passedBy (firstPassing o) set
+  first-at zero h = refl
+  first-at (suc zero) h = refl
+  first-at (suc (suc zero)) h = refl
+  first-at (suc (suc (suc zero))) h = refl
+  first-at (suc (suc (suc (suc set)))) h = absurd (omega arith)
 
-module _ (floored : Bool) (o : Operator) (set : ℕ) (small : set < 4) where
-  pub first-passed : (p : Passing) → firstPassing o ≡ some p → getD (passRow floored o) (0 * 4 + set) 0 ≡ passed p set
-  first-passed p e =
-      let within : set < length (setsOf (firstPassing o)) = omega (arith, four (firstPassing o)) in
-      let at : 0 * 4 + set ≡ set = omega arith in
-      ap (λ i. getD (passRow floored o) i 0) at ∙ List·getD-append (setsOf (firstPassing o)) (setsOf (secondPassing floored o)) 0 set within ∙ ap (λ q. getD (setsOf q) set 0) e
+  pub second-at : (set : ℕ) → set < 4 → getD (passRow floored o) (1 * 4 + set) 0 ≡ passedBy (secondPassing floored o) set
+  second-at zero h = refl
+  second-at (suc zero) h = refl
+  second-at (suc (suc zero)) h = refl
+  second-at (suc (suc (suc zero))) h = refl
+  second-at (suc (suc (suc (suc set)))) h = absurd (omega arith)
 
-  pub second-passed : (p : Passing) → secondPassing floored o ≡ some p → getD (passRow floored o) (1 * 4 + set) 0 ≡ passed p set
-  second-passed p e =
-      let at : 1 * 4 + set ≡ length (setsOf (firstPassing o)) + set = omega (arith, four (firstPassing o)) in
-      ap (λ i. getD (passRow floored o) i 0) at ∙ getD-append-add (setsOf (firstPassing o)) (setsOf (secondPassing floored o)) set 0 ∙ ap (λ q. getD (setsOf q) set 0) e
+  module _ (set : ℕ) (small : set < 4) (p : Passing) where
+    pub first-passed : firstPassing o ≡ some p → getD (passRow floored o) (0 * 4 + set) 0 ≡ passed p set
+    first-passed e = first-at set small ∙ ap (λ q. passedBy q set) e
+
+    pub second-passed : secondPassing floored o ≡ some p → getD (passRow floored o) (1 * 4 + set) 0 ≡ passed p set
+    second-passed e = second-at set small ∙ ap (λ q. passedBy q set) e
+
+-- The entries of the directions in a set, put together.
+pub entries-passed : (p : Option Passing) (set : ℕ) → set < 4 → bitOr (cond (holdsOne set 1) (entryOf p up) 0) (cond (holdsOne set 2) (entryOf p down) 0) ≡ passedBy p set
+entries-passed p zero h = by-part p
+  where
+    by-part : (p : Option Passing) → bitOr 0 0 ≡ passedBy p 0
+    by-part none = refl
+    by-part (some same) = refl
+    by-part (some reversed) = refl
+    by-part (some either) = refl
+entries-passed p (suc zero) h = by-part p
+  where
+    by-part : (p : Option Passing) → bitOr (entryOf p up) 0 ≡ passedBy p 1
+    by-part none = refl
+    by-part (some same) = refl
+    by-part (some reversed) = refl
+    by-part (some either) = refl
+entries-passed p (suc (suc zero)) h = by-part p
+  where
+    by-part : (p : Option Passing) → bitOr 0 (entryOf p down) ≡ passedBy p 2
+    by-part none = refl
+    by-part (some same) = refl
+    by-part (some reversed) = refl
+    by-part (some either) = refl
+entries-passed p (suc (suc (suc zero))) h = by-part p
+  where
+    by-part : (p : Option Passing) → bitOr (entryOf p up) (entryOf p down) ≡ passedBy p 3
+    by-part none = refl
+    by-part (some same) = refl
+    by-part (some reversed) = refl
+    by-part (some either) = refl
+entries-passed p (suc (suc (suc (suc set)))) h = absurd (omega arith)
+
+-- The entries that are asked for, at the number of a form and of its part, are the directions of the part.
+pub asked-passed : (code : ℕ) (floored : Bool) (part set : ℕ) {form : ℕ} → form ≡ formNumber code floored → (o : Operator) → (code < 23) × (part < 2) × (set < 4) → operatorOf code ≡ some o
+    → bitOr (cond (holdsOne set 1) (getD (getD (getD ruleTable form []) part []) 0 0) 0) (cond (holdsOne set 2) (getD (getD (getD ruleTable form []) part []) 1 0) 0)
+    ≡ getD (passRow floored o) (part * 4 + set) 0
+asked-passed code floored part set {form} numbered o (low, two, four) e =
+    ap (λ row. put row part) (ap (λ k. getD ruleTable k []) numbered ∙ rules-at code floored o low e) ∙ of-part part two
+  where
+    put : List (List ℕ) → ℕ → ℕ
+    put row i = bitOr (cond (holdsOne set 1) (getD (getD row i []) 0 0) 0) (cond (holdsOne set 2) (getD (getD row i []) 1 0) 0)
+
+    of-part : (i : ℕ) → i < 2 → put (formRow floored o) i ≡ getD (passRow floored o) (i * 4 + set) 0
+    of-part zero h = entries-passed (firstPassing o) set four ∙ sym (first-at floored o set four)
+    of-part (suc zero) h = entries-passed (secondPassing floored o) set four ∙ sym (second-at floored o set four)
+    of-part (suc (suc i)) h = absurd (omega arith)
 
 -- what is passed is a set of directions again
 small : List ℕ → Bool
@@ -62,50 +113,3 @@ small-last (some either) = tt
 
 pub pass-small : (floored : Bool) (o : Operator) (i : ℕ) → getD (passRow floored o) i 0 < 4
 pass-small floored o = small-at (passRow floored o) (small-sets (firstPassing o) (setsOf (secondPassing floored o)) (small-last (secondPassing floored o)))
-
--- ---- the rows of the table: one for each operator, and one for a sum over a floored cell
-
-abbrev pub passTable : List (List ℕ)
-passTable = map (passRow false) operators ++ passRow true sumOf ∷ []
-
-abbrev pub rowOf : ℕ → Bool → ℕ
-rowOf code floored = cond (floored && eqb code 17) 23 code
-
-pub row-low : (code : ℕ) (floored : Bool) → code < 23 → rowOf code floored < 24
-row-low code floored h = step (floored && eqb code 17)
-  where
-    step : (b : Bool) → cond b 23 code < 24
-    step true = omega arith
-    step false = omega arith
-
--- what is no sum does not ask for floors
-unfloored : (o : Operator) → (o ≡ sumOf → ⊥) → passRow true o ≡ passRow false o
-unfolding secondPassing
-unfloored (comparing o) h = refl
-unfloored negating h = refl
-unfloored (connecting o) h = refl
-unfloored (quantifying q) h = refl
-unfloored kindOf h = refl
-unfloored literal h = refl
-unfloored cellOf h = refl
-unfloored sizeOf h = refl
-unfloored sumOf h = absurd (h refl)
-unfloored (combining o) h = refl
-unfloored roleOf h = refl
-unfloored allOf h = refl
-unfloored selecting h = refl
-
-pub row-passes : (code : ℕ) (floored : Bool) (o : Operator) → code < 23 → operatorOf code ≡ some o → getD passTable (rowOf code floored) [] ≡ passRow floored o
-unfolding operators operatorOf codeOf
-row-passes code floored o low e = step floored (eqb code 17) refl
-  where
-    plain : getD passTable code [] ≡ passRow false o
-    plain = List·getD-append (map (passRow false) operators) (passRow true sumOf ∷ []) [] code low ∙ row-at (passRow false) [] code o e
-
-    is-sum : code ≡ 17 → o ≡ sumOf
-    is-sum q = Option·some-injective o sumOf (sym (subst (λ k. operatorOf k ≡ some o) q e))
-
-    step : (f b : Bool) → eqb code 17 ≡ b → getD passTable (cond (f && b) 23 code) [] ≡ passRow f o
-    step false b q = plain
-    step true true q = ap (passRow true) (sym (is-sum (eqb-yes (subst T (sym q) tt))))
-    step true false q = plain ∙ sym (unfloored o (λ s. eqb-false code 17 q (sym (code-of code o e) ∙ ap codeOf s)))

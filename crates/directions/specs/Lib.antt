@@ -1,5 +1,5 @@
--- Which way a movement passes from the parts of a form to the form, as the code has it: sets of directions by operators.
+-- What the table of directions says of sets of directions.
 --   Sets      sets of directions as numbers
---   Passes    how each operator's parts pass a movement on
+--   Passes    the directions of a part by the directions of its form
 pub mod Sets
 pub mod Passes

@@ -1,10 +1,9 @@
 -- Sets of directions as numbers: 0 none, 1 up, 2 down, 3 both. A set goes down a body, so that a form that moves either way is walked once.
 use Prim.Native.Nat.{ℕ}
 use mathlib.Core.Bool.{Bool, _&&_, _||_}
-use mathlib.Core.List.{List, [], _∷_}
 use lib.Dec.{eqb}
-use lib.ListN.{getD}
-use Rattle.meaning.specs.Reach.{Direction, up, down, Passing, same, reversed, either}
+use Rattle.meaning.specs.Reach.{Direction, up, down, Passing, through}
+use Rattle.direction_table.specs.Entries.{alone, setOf}
 
 -- the direction of that number is in the set
 abbrev pub holdsOne : ℕ → ℕ → Bool
@@ -18,11 +17,6 @@ has set down = holdsOne set 2
 abbrev pub someOf : ℕ → (Direction → Bool) → Bool
 someOf set moved = (has set up && moved up) || (has set down && moved down)
 
--- What passes so from a part moves its form in a direction of the set when the part moves in one of these; by the set, 0 to 3.
-abbrev pub passedSets : Passing → List ℕ
-passedSets same = 0 ∷ 1 ∷ 2 ∷ 3 ∷ []
-passedSets reversed = 0 ∷ 2 ∷ 1 ∷ 3 ∷ []
-passedSets either = 0 ∷ 3 ∷ 3 ∷ 3 ∷ []
-
+-- the directions of a part that, alone, move its form in some direction of the set
 abbrev pub passed : Passing → ℕ → ℕ
-passed p set = getD (passedSets p) set 0
+passed p set = setOf (λ e. someOf set (through _||_ p (alone e)))

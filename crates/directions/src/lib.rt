@@ -1,11 +1,12 @@
-// Which way a movement passes from a part to its form: one table, and nothing else says a direction.
+// Sets of directions, and what the table of directions says of them.
 ghost use mathlib.Core.Path.{_≡_};
 ghost use mathlib.Core.Bool.{_&&_, cond};
+ghost use mathlib.Core.List.{[]};
 ghost use mathlib.Core.Option.{some};
-ghost use Prim.Native.Nat.{_+_, _*_, _<_};
-ghost use lib.Dec.{eqb};
+ghost use Prim.Native.Nat.{_+_, _-_, _*_, _<_};
 ghost use lib.ListN.{getD};
 ghost use Rattle.tables.specs.Codes.{Operator, operatorOf};
+ghost use Rattle.direction_table.specs.Entries.{formNumber, ruleTable};
 ghost use Rattle.directions.specs.Sets.{holdsOne};
 ghost use Rattle.directions.specs.Passes.{passRow};
 
@@ -19,39 +20,10 @@ pub const FIRST: u32 = 0;
 
 pub const SECOND: u32 = 1;
 
-// A sum's code, and the row of one over a floored cell, which is a form of its own after the operators.
+// A sum's code, and the number of one over a floored cell, which is a form of its own after the operators.
 const SUM: u32 = 17;
 
 const FLOORED_SUM: u32 = 23;
-
-// For each operator, by its code: which directions of its first part, and then of its second, move the form in a direction of
-// the set {}, {up}, {down}, {up, down}.
-const PASSES: [[u32; 8]; 24] = [
-    [0, 2, 1, 3, 0, 1, 2, 3], // le
-    [0, 2, 1, 3, 0, 1, 2, 3], // lt
-    [0, 3, 3, 3, 0, 3, 3, 3], // eq
-    [0, 3, 3, 3, 0, 3, 3, 3], // ne
-    [0, 1, 2, 3, 0, 2, 1, 3], // ge
-    [0, 1, 2, 3, 0, 2, 1, 3], // gt
-    [0, 0, 0, 0, 0, 2, 1, 3], // not
-    [0, 1, 2, 3, 0, 1, 2, 3], // and
-    [0, 1, 2, 3, 0, 1, 2, 3], // or
-    [0, 3, 3, 3, 0, 3, 3, 3], // xor
-    [0, 2, 1, 3, 0, 1, 2, 3], // implies
-    [0, 2, 1, 3, 0, 1, 2, 3], // forall
-    [0, 1, 2, 3, 0, 1, 2, 3], // exists
-    [0, 0, 0, 0, 0, 0, 0, 0], // kind
-    [0, 0, 0, 0, 0, 0, 0, 0], // num
-    [0, 0, 0, 0, 0, 0, 0, 0], // cell
-    [0, 0, 0, 0, 0, 1, 2, 3], // size
-    [0, 0, 0, 0, 0, 3, 3, 3], // sum
-    [0, 1, 2, 3, 0, 1, 2, 3], // add
-    [0, 1, 2, 3, 0, 2, 1, 3], // sub
-    [0, 0, 0, 0, 0, 0, 0, 0], // role
-    [0, 0, 0, 0, 0, 0, 0, 0], // all
-    [0, 1, 2, 3, 0, 1, 2, 3], // select
-    [0, 0, 0, 0, 0, 1, 2, 3], // sum over a floored cell
-];
 
 // Whether a direction, UP or DOWN, is in a set.
 pub fn contains(set: u32, direction: u32) -> bool
@@ -74,9 +46,9 @@ pub fn shared(a: u32, b: u32, direction: u32) -> bool
     }
 }
 
-// The row of the table: the operator's, by its code, but for a sum over a floored cell.
-fn row_of(code: u32, floored: bool) -> u32
-    ensures { λ r. ⌜ r ≡ cond (floored && eqb code 17) 23 code ⌝ }
+// The number of a form in the table: its code, but for a sum over a floored cell.
+fn form_of(code: u32, floored: bool) -> u32
+    ensures { λ r. ⌜ r ≡ formNumber code floored ⌝ }
 {
     if floored {
         if code == SUM {
@@ -86,12 +58,23 @@ fn row_of(code: u32, floored: bool) -> u32
     code
 }
 
+// The directions of a part that move its form in a direction, UP or DOWN, if that is in the set.
+fn asked(set: u32, direction: u32, form: u32, part: u32) -> u32
+    requires { ⌜ (0 < direction) × (direction < 3) × (form < 24) × (part < 2) ⌝ }
+    ensures { λ r. ⌜ r ≡ cond (holdsOne set direction) (getD (getD (getD ruleTable form []) part []) (direction - 1) 0) 0 ⌝ }
+{
+    if contains(set, direction) {
+        direction_table::entry(form, part, direction - 1)
+    } else {
+        0
+    }
+}
+
 // The directions of a part that move its form in a direction of the set. `floored` says of a sum that its cell is floored, and nothing of another form.
 pub fn pass(code: u32, floored: bool, part: u32, set: u32) -> u32
     requires { ⌜ (code < 23) × (part < 2) × (set < 4) ⌝ }
     ensures { λ r. ⌜ ((o : Operator) → operatorOf code ≡ some o → r ≡ getD (passRow floored o) (part * 4 + set) 0) ⌝ }
 {
-    let row = row_of(code, floored) as usize;
-    let at = (part * 4 + set) as usize;
-    PASSES[row][at]
+    let form = form_of(code, floored);
+    asked(set, UP, form, part) | asked(set, DOWN, form, part)
 }

@@ -13,7 +13,7 @@ use Rattle.meaning.specs.Lists.{every, firstOf, putInOrder, _∈_}
 use Rattle.meaning.specs.Limits.{maxTypes, maxRelationships, maxForms, cellCount}
 use Rattle.meaning.specs.Schema.{ObjectType, Relationship, Schema, knownType, knownRelationship, knownRole, typeAt, cellsOf, hasParent, under, relationshipOf, forward, relationshipAt, sourceType, targetType, nearType, farType, faultyRelationship, typeFault, floorFault, relationshipFault}
 use Rattle.meaning.specs.Forms.{Sort, Form, compare, negate, connect, quantify, kind, num, cell, size, sum, combine, role, all, select, bind, variable, memberType, wellTyped, formCount, Rule, Book, faultyRule, ruleFault}
-use Rattle.meaning.specs.Reach.{Direction, up, down, opposite, Passing, same, reversed, either, through, leftOf, rightOf, firstTruth, secondTruth, sourceOf, secondTerm, sumSource, flooredSum, quiet}
+use Rattle.meaning.specs.Reach.{Direction, up, down, opposite, Passing, same, reversed, either, through, leftOf, rightOf, negated, firstTruth, secondTruth, sourceOf, chosenFrom, firstTerm, secondTerm, sumSource, flooredSum, quiet}
 use Rattle.meaning.specs.EventList.{EventType, insertOf, deleteOf, setOf, joinOf, partOf, specialOf, generalOf, eventTypeWords, whereParent, roleLists, allLists, kindLists, lists, contextLists, eventList}
 use Rattle.meaning.specs.Answers.{refusalAt, bookRefusal}
 use Rattle.meaning.proofs.Lists.{decide, first-of-none, every-at, every-append}
@@ -155,7 +155,7 @@ module _ (S : Schema) (few-types : length (S .types) ≤ maxTypes) (few-relation
   lists-placed : {s : Sort} (f : Form s) (ts : List ℕ) → T (wellTyped S ts f) → ListsPlaced f ts
   unfolding wellTyped lists
   lists-placed (compare o a b) ts w = two-placed (leftOf o) (rightOf o) a b ts (lists-placed a ts) (lists-placed b ts) w
-  lists-placed (negate a) ts w = through-placed reversed (lists S a ts) (lists-placed a ts w)
+  lists-placed (negate a) ts w = through-placed negated (lists S a ts) (lists-placed a ts w)
   lists-placed (connect o a b) ts w = two-placed (firstTruth o) (secondTruth o) a b ts (lists-placed a ts) (lists-placed b ts) w
   lists-placed (quantify q c b) ts w =
       let inner = bind ts (memberType (S .relationships) c) in
@@ -167,7 +167,7 @@ module _ (S : Schema) (few-types : length (S .types) ≤ maxTypes) (few-relation
   lists-placed (sum c k) ts w =
       let member = memberType (S .relationships) c in
       over-placed (sumSource (flooredSum S c k)) c ts (λ d. setOf member k ∷ []) (wellTyped S ts c) (ltb k (cellsOf (S .types) member)) (lists-placed c ts) (λ h d. set-placed member k h) w
-  lists-placed (combine o a b) ts w = two-placed same (secondTerm o) a b ts (lists-placed a ts) (lists-placed b ts) w
+  lists-placed (combine o a b) ts w = two-placed (firstTerm o) (secondTerm o) a b ts (lists-placed a ts) (lists-placed b ts) w
   lists-placed (role v r) ts w =
       let known = ltb v (length ts) && knownRole (S .relationships) r in
       let fits = and-yes known (under (S .types) (variable ts v) (nearType (S .relationships) r)) w in
@@ -175,7 +175,7 @@ module _ (S : Schema) (few-types : length (S .types) ≤ maxTypes) (few-relation
   lists-placed (all t) ts w = all-placed t w
   lists-placed (select c b) ts w =
       let inner = bind ts (memberType (S .relationships) c) in
-      over-placed same c ts (lists S b inner) (wellTyped S ts c) (wellTyped S inner b) (lists-placed c ts) (lists-placed b inner) w
+      over-placed chosenFrom c ts (lists S b inner) (wellTyped S ts c) (wellTyped S inner b) (lists-placed c ts) (lists-placed b inner) w
 
   -- ---- a rule
 

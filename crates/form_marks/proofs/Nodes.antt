@@ -16,7 +16,8 @@ use Rattle.tables.specs.Codes.{Operator, comparing, negating, connecting, quant
 use Rattle.tables.specs.Bodies.{BodyRow, Part, part, asTruth, asNumber, asCollection, formOf, ending, firstPart, secondPart}
 use Rattle.tables.proofs.Readings.{node, code-of, sorted, sorted-parts, is-truth, is-number, is-collection}
 use Rattle.directions.specs.Sets.{someOf, passed}
-use Rattle.directions.specs.Passes.{firstPassing, secondPassing, passRow}
+use Rattle.direction_table.specs.Entries.{firstPassing, secondPassing}
+use Rattle.directions.specs.Passes.{passRow}
 use Rattle.directions.proofs.Sets.{through-some, some-or, some-same}
 use Rattle.directions.proofs.Passes.{first-passed, second-passed}
 use Rattle.body_rows.specs.Marks.{firstSort, secondSort}

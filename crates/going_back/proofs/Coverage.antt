@@ -15,7 +15,7 @@ use Rattle.meaning.specs.Schema.{Schema, knownRole}
 use Rattle.meaning.specs.Register.{isUnder, farEnds}
 use Rattle.meaning.specs.Forms.{Sort, truth, collection, Form, compare, negate, connect, quantify, kind, num, cell, size, sum, combine, role, all, select, bind, variable, memberType, wellTyped, Rule}
 use Rattle.meaning.specs.Meaning.{meaning}
-use Rattle.meaning.specs.Reach.{Change, Direction, up, down, opposite, Passing, same, reversed, either, through, leftOf, rightOf, firstTruth, secondTruth, sourceOf, secondTerm, sumSource, flooredSum, roleMoves, cellMoves, kindMoves, moves, broughtIn, selected}
+use Rattle.meaning.specs.Reach.{Change, Direction, up, down, opposite, Passing, same, reversed, either, through, leftOf, rightOf, firstTruth, secondTruth, sourceOf, chosenFrom, firstTerm, secondTerm, sumSource, flooredSum, roleMoves, cellMoves, kindMoves, moves, broughtIn, selected}
 use Rattle.meaning.proofs.Lists.{or-left, or-right, any-of, any-cases, keep-from}
 use Rattle.going_back.specs.Back.{leadsInto, throughMembers, reached, candidate}
 
@@ -110,13 +110,13 @@ module _ (c : Change) where
       members-found vs n (sumSource (flooredSum S k j)) (moves c k vs) (reached c k n) (λ x. cellMoves c x j) (meaning (S .types) (c .end) k vs) (leadsInto c k (λ x. cellMoves c x j)) d (covered k ts vs n h i) (led k ts vs n h i (λ x. cellMoves c x j)) t
   covered (combine o a b) ts vs n w i d t =
       let ws = and-yes (wellTyped S ts a) (wellTyped S ts b) w in
-      two-found vs n same (secondTerm o) (moves c a vs) (moves c b vs) (reached c a n) (reached c b n) d (covered a ts vs n (ws .0) i) (covered b ts vs n (ws .1) i) t
+      two-found vs n (firstTerm o) (secondTerm o) (moves c a vs) (moves c b vs) (reached c a n) (reached c b n) d (covered a ts vs n (ws .0) i) (covered b ts vs n (ws .1) i) t
   covered (role v r) ts vs n w i d t =
       here ts vs n i (λ u. roleMoves c r u d) v (and-yes (ltb v (length ts)) (knownRole (S .relationships) r) (and-yes (ltb v (length ts) && knownRole (S .relationships) r) _ w .0) .0) t
   covered (all y) ts vs n w i d t = (0, i .self, t)
   covered (select k b) ts vs n w i d t =
       let ws = and-yes (wellTyped S ts k) (wellTyped S (bind ts (memberType (S .relationships) k)) b) w in
-      over same k b ts vs n (ws .0) i d (covered k ts vs n (ws .0) i) (λ x. covered b (bind ts (memberType (S .relationships) k)) (bind vs x) (suc n) (ws .1) (scope-bind ts vs n (memberType (S .relationships) k) x i) d) t
+      over chosenFrom k b ts vs n (ws .0) i d (covered k ts vs n (ws .0) i) (λ x. covered b (bind ts (memberType (S .relationships) k)) (bind vs x) (suc n) (ws .1) (scope-bind ts vs n (memberType (S .relationships) k) x i) d) t
 
   -- a rule's body moves at reached objects only
   pub body-covered : (r : Rule) (s : ℕ) (d : Direction) → T (wellTyped S (r .context ∷ []) (r .body)) → T (moves c (r .body) (s ∷ []) d) → T (reached c (r .body) 1 0 s d)

@@ -9,12 +9,12 @@ use borrow.Author.Tests.{eq-eqb, ne-eqb}
 use Rattle.meaning.specs.Lists.{any}
 use Rattle.meaning.specs.Register.{instances, farEnds}
 use Rattle.meaning.specs.Forms.{Sort, truth, collection, Form, role, all, select}
-use Rattle.meaning.specs.Reach.{Change, Direction, Passing, same, reversed, through, leftOf, rightOf, firstTruth, secondTruth, sourceOf, secondTerm, sumSource, flooredSum, cellMoves}
+use Rattle.meaning.specs.Reach.{Change, Direction, Passing, through, leftOf, rightOf, negated, firstTruth, secondTruth, sourceOf, atMember, counted, chosenFrom, firstTerm, secondTerm, sumSource, flooredSum, cellMoves}
 use Rattle.tables.specs.Codes.{Operator, comparing, negating, connecting, quantifying, kindOf, literal, cellOf, sizeOf, sumOf, combining, roleOf, allOf, selecting, codeOf, shapeOf}
 use Rattle.tables.specs.Bodies.{BodyRow, Part, part, asTruth, asNumber, asCollection, formOf, ending, firstPart, secondPart}
 use Rattle.tables.proofs.Readings.{node, code-of, sorted, sorted-parts, is-truth, is-number, is-collection}
 use Rattle.directions.specs.Sets.{someOf}
-use Rattle.directions.specs.Passes.{firstPassing, secondPassing}
+use Rattle.direction_table.specs.Entries.{firstPassing, secondPassing}
 use Rattle.directions.proofs.Sets.{through-some, some-or}
 use Rattle.directions.proofs.Passes.{first-passed, second-passed}
 use Rattle.body_rows.specs.Marks.{firstSort, secondSort}
@@ -69,14 +69,14 @@ module _ (c : Change) (n set v u : ℕ) where
     two floored o p q a b f g e h x y = ap₂ _||_ (first o p a f e x) (second floored o q n v u b g h y) ∙ sym (some-or (through _||_ p (reached c f n v u)) (through _||_ q (reached c g n v u)) set small)
 
     -- a collection, and a truth at its members
-    over : (floored : Bool) (o : Operator) (p : Passing) (a b : Part) (f : Form collection) (g : Form truth) → firstPassing o ≡ some p → secondPassing floored o ≡ some same → a ≡ part collection f → b ≡ part truth g
+    over : (floored : Bool) (o : Operator) (p : Passing) (a b : Part) (f : Form collection) (g : Form truth) → firstPassing o ≡ some p → secondPassing floored o ≡ some atMember → a ≡ part collection f → b ≡ part truth g
         → (reachedBy c a n (passTo false set o 0) v u || throughMembers c (asCollection a) n (reachedBy c b (suc n) (passTo floored set o 1)) v u)
         ≡ someOf set (λ d. through _||_ p (reached c f n v u) d || throughMembers c f n (λ w x. reached c g (suc n) w x d) v u)
     unfolding asCollection
     over floored o p a b f g e h x y =
         let body : Direction → ℕ → ℕ → Bool = λ d w z. reached c g (suc n) w z d in
         ap₂ _||_ (first o p a f e x)
-        (ap₂ (λ k r. throughMembers c k n r v u) (ap asCollection x) (λ i w z. second floored o same (suc n) w z b g h y i)
+        (ap₂ (λ k r. throughMembers c k n r v u) (ap asCollection x) (λ i w z. second floored o atMember (suc n) w z b g h y i)
         ∙ ap (λ k. someOf set (reached c g (suc n) v u) || k) (sym (leads-some c set small f (λ z d. body d n z) v u))
         ∙ sym (some-or (λ d. body d v u) (λ d. leadsInto c f (body d n) v u) set small))
         ∙ sym (some-or (through _||_ p (reached c f n v u)) (λ d. throughMembers c f n (body d) v u) set small)
@@ -84,23 +84,23 @@ module _ (c : Change) (n set v u : ℕ) where
     node-reached : (o : Operator) (r : BodyRow) (a b : Part) → sorted ((shapeOf o) .parts) a b → nodeReached ((shapeOf o) .parts) o (codeOf o) r a b ≡ reachedBy c (formOf o r a b) n set v u
     unfolding shapeOf codeOf formOf memberOf partReached leafReached reached firstPassing secondPassing
     node-reached (comparing o) r a b t = two (floors c (comparing o) r b) (comparing o) (leftOf o) (rightOf o) a b (asNumber a) (asNumber b) refl refl (is-number a (t .0)) (is-number b (t .1))
-    node-reached negating r a b t = or-false _ ∙ second (floors c negating r b) negating reversed n v u b (asTruth b) refl (is-truth b t)
+    node-reached negating r a b t = or-false _ ∙ second (floors c negating r b) negating negated n v u b (asTruth b) refl (is-truth b t)
     node-reached (connecting o) r a b t = two (floors c (connecting o) r b) (connecting o) (firstTruth o) (secondTruth o) a b (asTruth a) (asTruth b) refl refl (is-truth a (t .0)) (is-truth b (t .1))
     node-reached (quantifying q) r a b t = over (floors c (quantifying q) r b) (quantifying q) (sourceOf q) a b (asCollection a) (asTruth b) refl refl (is-collection a (t .0)) (is-truth b (t .1))
     node-reached kindOf r a b t = refl
     node-reached literal r a b t = refl
     node-reached cellOf r a b t = refl
-    node-reached sizeOf r a b t = or-false _ ∙ second (floors c sizeOf r b) sizeOf same n v u b (asCollection b) refl (is-collection b t)
+    node-reached sizeOf r a b t = or-false _ ∙ second (floors c sizeOf r b) sizeOf counted n v u b (asCollection b) refl (is-collection b t)
     node-reached sumOf r a b t =
         let f = asCollection b in
         let floored = flooredSum (c .schema) f (r .x) in
         let cells = leadsInto c f (λ y. cellMoves c y (r .x)) v u in
         ap₂ _||_ (second floored sumOf (sumSource floored) n v u b f refl (is-collection b t)) (sym (always set cells some-set small))
         ∙ sym (some-or (through _||_ (sumSource floored) (reached c f n v u)) (λ d. cells) set small)
-    node-reached (combining o) r a b t = two (floors c (combining o) r b) (combining o) same (secondTerm o) a b (asNumber a) (asNumber b) refl refl (is-number a (t .0)) (is-number b (t .1))
+    node-reached (combining o) r a b t = two (floors c (combining o) r b) (combining o) (firstTerm o) (secondTerm o) a b (asNumber a) (asNumber b) refl refl (is-number a (t .0)) (is-number b (t .1))
     node-reached roleOf r a b t = refl
     node-reached allOf r a b t = refl
-    node-reached selecting r a b t = over (floors c selecting r b) selecting same a b (asCollection a) (asTruth b) refl refl (is-collection a (t .0)) (is-truth b (t .1))
+    node-reached selecting r a b t = over (floors c selecting r b) selecting chosenFrom a b (asCollection a) (asTruth b) refl refl (is-collection a (t .0)) (is-truth b (t .1))
 
 -- ---- the form that ends with a row, by what the code reads of the row
 

@@ -13,7 +13,7 @@ use Rattle.meaning.specs.Forms.{Sort, collection, Form, compare, negate, connec
 use Rattle.tables.specs.Bodies.{BodyRow, Part, part, asCollection, ending}
 use Rattle.directions.specs.Sets.{someOf}
 use Rattle.walks.specs.Site.{idIn}
-use Rattle.meaning.specs.Reach.{Change, Direction, down, same, reversed, through, leftOf, rightOf, firstTruth, secondTruth, sourceOf, secondTerm, sumSource, flooredSum, roleMoves, allMoves, cellMoves, kindMoves, broughtIn}
+use Rattle.meaning.specs.Reach.{Change, Direction, down, through, leftOf, rightOf, negated, firstTruth, secondTruth, sourceOf, atMember, counted, chosenFrom, firstTerm, secondTerm, sumSource, flooredSum, roleMoves, allMoves, cellMoves, kindMoves, broughtIn}
 
 -- With u for variable v, the collection below its selects has a member in the set. Over all objects of a type this does not depend on v and u.
 unfoldable pub leadsInto : Change → Form collection → (ℕ → Bool) → (v u : ℕ) → Bool
@@ -28,21 +28,21 @@ throughMembers c k n body v u = body v u || leadsInto c k (body n) v u
 -- u, as variable v of the n in scope, is reached from a movement of the form in a direction.
 unfoldable pub reached : {s : Sort} → Change → Form s → (n v u : ℕ) → Direction → Bool
 reached c (compare o a b) n v u d = through _||_ (leftOf o) (reached c a n v u) d || through _||_ (rightOf o) (reached c b n v u) d
-reached c (negate a) n v u d = through _||_ reversed (reached c a n v u) d
+reached c (negate a) n v u d = through _||_ negated (reached c a n v u) d
 reached c (connect o a b) n v u d = through _||_ (firstTruth o) (reached c a n v u) d || through _||_ (secondTruth o) (reached c b n v u) d
 reached c (quantify q k b) n v u d =
-    through _||_ (sourceOf q) (reached c k n v u) d || throughMembers c k n (λ w x. reached c b (suc n) w x d) v u
+    through _||_ (sourceOf q) (reached c k n v u) d || throughMembers c k n (λ w x. through _||_ atMember (reached c b (suc n) w x) d) v u
 reached c (kind w t) n v u d = eqb v w && kindMoves c u t d
 reached c (num z) n v u d = false
 reached c (cell w k) n v u d = eqb v w && cellMoves c u k
-reached c (size k) n v u d = through _||_ same (reached c k n v u) d
+reached c (size k) n v u d = through _||_ counted (reached c k n v u) d
 reached c (sum k j) n v u d =
     through _||_ (sumSource (flooredSum (c .schema) k j)) (reached c k n v u) d || leadsInto c k (λ x. cellMoves c x j) v u
-reached c (combine o a b) n v u d = through _||_ same (reached c a n v u) d || through _||_ (secondTerm o) (reached c b n v u) d
+reached c (combine o a b) n v u d = through _||_ (firstTerm o) (reached c a n v u) d || through _||_ (secondTerm o) (reached c b n v u) d
 reached c (role w r) n v u d = eqb v w && roleMoves c r u d
 reached c (all t) n v u d = allMoves c t d
 reached c (select k b) n v u d =
-    through _||_ same (reached c k n v u) d || throughMembers c k n (λ w x. reached c b (suc n) w x d) v u
+    through _||_ chosenFrom (reached c k n v u) d || throughMembers c k n (λ w x. through _||_ atMember (reached c b (suc n) w x) d) v u
 
 -- a form of any sort
 unfoldable pub partReached : Change → Part → (n v u : ℕ) → Direction → Bool

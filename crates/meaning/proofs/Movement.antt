@@ -15,7 +15,7 @@ use Rattle.meaning.specs.Schema.{ObjectType, Relationship, Schema, cells
 use Rattle.meaning.specs.Register.{Register, isUnder, cellAt, instances, farEnds}
 use Rattle.meaning.specs.Forms.{Sort, truth, number, collection, Form, compare, negate, connect, quantify, kind, num, cell, size, sum, combine, role, all, select, bind, variable, memberType, wellTyped}
 use Rattle.meaning.specs.Meaning.{Value, meaning}
-use Rattle.meaning.specs.Reach.{Change, Direction, up, down, opposite, Passing, same, reversed, either, through, leftOf, rightOf, firstTruth, secondTruth, sourceOf, secondTerm, sumSource, flooredSum, roleMoves, allMoves, cellMoves, kindMoves, moves}
+use Rattle.meaning.specs.Reach.{Change, Direction, up, down, opposite, Passing, same, reversed, either, through, leftOf, rightOf, firstTruth, secondTruth, sourceOf, chosenFrom, firstTerm, secondTerm, sumSource, flooredSum, roleMoves, allMoves, cellMoves, kindMoves, moves}
 use Rattle.meaning.proofs.Lists.{any-none, keep-from}
 use Rattle.meaning.proofs.Variables.{Each, each-at, each-bind}
 use Rattle.meaning.proofs.Registers.{RegisterFits}
@@ -129,7 +129,7 @@ module _ (c : Change) (first : Register) (Kept : ℕ → ℕ → Type 0) (leaves
       (λ x m m′. leaves .cell-unmoved x (memberType relationships e) j (h .0 .1 x m m′) (ltb→lt j (cellsOf types (memberType relationships e)) (ws .1)) (h .1 x m′))
   unmoved (combine o a b) ts vs w k d n =
       let ws = and-yes (wellTyped S ts a) (wellTyped S ts b) w in
-      let h = two-parts same (secondTerm o) (moves c a vs) (moves c b vs) (Claim number a vs) (Claim number b vs) d (unmoved a ts vs (ws .0) k) (unmoved b ts vs (ws .1) k) n in
+      let h = two-parts (firstTerm o) (secondTerm o) (moves c a vs) (moves c b vs) (Claim number a vs) (Claim number b vs) d (unmoved a ts vs (ws .0) k) (unmoved b ts vs (ws .1) k) n in
       arithmetic-unmoved o d _ _ _ _ (h .0) (h .1)
   unmoved (role v r) ts vs w k d n =
       let ws = and-yes (ltb v (length ts) && knownRole relationships r) (under types (variable ts v) (nearType relationships r)) w in
@@ -137,7 +137,7 @@ module _ (c : Change) (first : Register) (Kept : ℕ → ℕ → Type 0) (leaves
   unmoved (all t) ts vs w k d n = leaves .all-unmoved d t n
   unmoved (select e b) ts vs w k d n =
       let ws = and-yes (wellTyped S ts e) (wellTyped S (bind ts (memberType relationships e)) b) w in
-      let h = over-members same e vs (λ x. moves c b (bind vs x) d) d (unmoved e ts vs (ws .0) k) n in (
+      let h = over-members chosenFrom e vs (λ x. moves c b (bind vs x) d) d (unmoved e ts vs (ws .0) k) n in (
         select-unmoved d _ _ _ _ (h .0 .0) (λ x m m′. unmoved b (bind ts (memberType relationships e)) (bind vs x) (ws .1) (each-bind Kept vs ts x (memberType relationships e) k (h .0 .1 x m m′)) d (h .1 x m′)),
         λ x m m′. h .0 .1 x (keep-from _ _ m .0) (keep-from _ _ m′ .0),
       )

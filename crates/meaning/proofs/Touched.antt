@@ -14,7 +14,7 @@ use Rattle.meaning.specs.Forms.{Sort, truth, collection, Form, compare, 
 use Rattle.meaning.specs.Meaning.{meaning}
 use Rattle.meaning.specs.Events.{Event, insert, delete, set, join, part, special, general, linkOf, strictlyAbove, strictlyUnder}
 use Rattle.meaning.specs.Reach.{Step, stepAt, Change, someStep, Kind, inserts, sets, joins, parts, specials, generals, among, partNamed, leadsTo, taken, setsCell, insertsInto, specialisesInto, deletesFrom, generalisesFrom, anyone, Direction, up, down, opposite, Passing, same}
-use Rattle.meaning.specs.Reach.{reversed, either, through, leftOf, rightOf, firstTruth, secondTruth, sourceOf, secondTerm, sumSource, flooredSum, roleMoves, allMoves, cellMoves, kindMoves, moves, quiet, inserted, specialised, broughtIn, selected}
+use Rattle.meaning.specs.Reach.{reversed, either, through, leftOf, rightOf, negated, firstTruth, secondTruth, sourceOf, chosenFrom, firstTerm, secondTerm, sumSource, flooredSum, roleMoves, allMoves, cellMoves, kindMoves, moves, quiet, inserted, specialised, broughtIn, selected}
 use Rattle.meaning.specs.EventList.{EventType, insertOf, deleteOf, setOf, joinOf, partOf, specialOf, generalOf, eventTypeWords, whereParent, roleLists, allLists, kindLists, lists, contextLists, eventList, occurs, touched}
 use Rattle.meaning.proofs.Lists.{holds-some, or-left, or-right, decide, cond-yes, cond-no, any-of, any-cases, keep-from}
 use Rattle.meaning.proofs.Order.{put-other, put-has, put-ascending}
@@ -309,7 +309,7 @@ module _ (c : Change) where
     moves-listed : {s : Sort} (f : Form s) (vs ts : List ℕ) → Typed types (c .end) vs ts → T (wellTyped S ts f) → Listed f vs ts
     unfolding wellTyped moves lists
     moves-listed (compare o a b) vs ts v w = parts-listed (leftOf o) (rightOf o) a b vs ts (moves-listed a vs ts v) (moves-listed b vs ts v) w
-    moves-listed (negate a) vs ts v w = through-listed reversed a vs ts (moves-listed a vs ts v w)
+    moves-listed (negate a) vs ts v w = through-listed negated a vs ts (moves-listed a vs ts v w)
     moves-listed (connect o a b) vs ts v w = parts-listed (firstTruth o) (secondTruth o) a b vs ts (moves-listed a vs ts v) (moves-listed b vs ts v) w
     moves-listed (quantify q k b) vs ts v w = body-listed (sourceOf q) k b vs ts v (moves-listed k vs ts v) (moves-listed b) w
     moves-listed (kind x u) vs ts v w = kind-listed (variable vs x) u
@@ -324,10 +324,10 @@ module _ (c : Change) where
         members-listed (sumSource (flooredSum S k n)) k vs ts (λ u. cellMoves c u n) (setOf member n ∷ [])
         (moves-listed k vs ts v (and-yes (wellTyped S ts k) (ltb n (cellsOf types member)) w .0))
         (λ u h t. one-listed (setOf member n) (cell-listed u member n h t))
-    moves-listed (combine o a b) vs ts v w = parts-listed same (secondTerm o) a b vs ts (moves-listed a vs ts v) (moves-listed b vs ts v) w
+    moves-listed (combine o a b) vs ts v w = parts-listed (firstTerm o) (secondTerm o) a b vs ts (moves-listed a vs ts v) (moves-listed b vs ts v) w
     moves-listed (role x r) vs ts v w = role-listed r (variable vs x)
     moves-listed (all u) vs ts v w = all-listed u
-    moves-listed (select k b) vs ts v w = body-listed same k b vs ts v (moves-listed k vs ts v) (moves-listed b) w
+    moves-listed (select k b) vs ts v w = body-listed chosenFrom k b vs ts v (moves-listed k vs ts v) (moves-listed b) w
 
     context-listed : (r : Rule) (s : ℕ) → T (broughtIn c r s) → T (occur (contextLists S r))
     unfolding broughtIn contextLists inserted specialised occurs

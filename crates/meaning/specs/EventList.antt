@@ -8,7 +8,7 @@ use Rattle.meaning.specs.Schema.{Schema, hasParent, relationshipOf, farT
 use Rattle.meaning.specs.Register.{isUnder}
 use Rattle.meaning.specs.Forms.{Sort, Form, compare, negate, connect, quantify, kind, num, cell, size, sum, combine, role, all, select, bind, variable, memberType, Rule}
 use Rattle.meaning.specs.Reach.{Change, someStep, inserts, deletes, sets, joins, parts, specials, generals, kindPlace, among, setsCell, insertsInto, specialisesInto, deletesFrom, generalisesFrom}
-use Rattle.meaning.specs.Reach.{anyone, Direction, up, down, same, reversed, through, leftOf, rightOf, firstTruth, secondTruth, sourceOf, secondTerm, sumSource, flooredSum, quiet}
+use Rattle.meaning.specs.Reach.{anyone, Direction, up, down, through, leftOf, rightOf, negated, firstTruth, secondTruth, sourceOf, atMember, counted, chosenFrom, firstTerm, secondTerm, sumSource, flooredSum, quiet}
 
 -- What a rule lists: a kind of event with the type, the type and cell, or the relationship that it names.
 pub data EventType : Type 0 where
@@ -48,18 +48,18 @@ kindLists S t down = whereParent S t (generalOf t)
 -- What may move a form in a direction, by the types of its variables.
 unfoldable pub lists : {s : Sort} → Schema → Form s → List ℕ → Direction → List EventType
 lists S (compare o a b) ts d = through _++_ (leftOf o) (lists S a ts) d ++ through _++_ (rightOf o) (lists S b ts) d
-lists S (negate a) ts d = through _++_ reversed (lists S a ts) d
+lists S (negate a) ts d = through _++_ negated (lists S a ts) d
 lists S (connect o a b) ts d = through _++_ (firstTruth o) (lists S a ts) d ++ through _++_ (secondTruth o) (lists S b ts) d
-lists S (quantify q c b) ts d = through _++_ (sourceOf q) (lists S c ts) d ++ lists S b (bind ts (memberType (S .relationships) c)) d
+lists S (quantify q c b) ts d = through _++_ (sourceOf q) (lists S c ts) d ++ through _++_ atMember (lists S b (bind ts (memberType (S .relationships) c))) d
 lists S (kind v t) ts d = kindLists S t d
 lists S (num n) ts d = []
 lists S (cell v k) ts d = setOf (variable ts v) k ∷ []
-lists S (size c) ts d = through _++_ same (lists S c ts) d
+lists S (size c) ts d = through _++_ counted (lists S c ts) d
 lists S (sum c k) ts d = through _++_ (sumSource (flooredSum S c k)) (lists S c ts) d ++ setOf (memberType (S .relationships) c) k ∷ []
-lists S (combine o a b) ts d = through _++_ same (lists S a ts) d ++ through _++_ (secondTerm o) (lists S b ts) d
+lists S (combine o a b) ts d = through _++_ (firstTerm o) (lists S a ts) d ++ through _++_ (secondTerm o) (lists S b ts) d
 lists S (role v r) ts d = roleLists S r d
 lists S (all t) ts d = allLists S t d
-lists S (select c b) ts d = through _++_ same (lists S c ts) d ++ lists S b (bind ts (memberType (S .relationships) c)) d
+lists S (select c b) ts d = through _++_ chosenFrom (lists S c ts) d ++ through _++_ atMember (lists S b (bind ts (memberType (S .relationships) c))) d
 
 -- "kind and context as above": an insert into the context type unless the body is quiet, and a special into it
 unfoldable pub contextLists : Schema → Rule → List EventType

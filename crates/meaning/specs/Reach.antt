@@ -161,6 +161,10 @@ rightOf ne = either
 rightOf ge = reversed
 rightOf gt = reversed
 
+-- "`not` reverses"
+abbrev pub negated : Passing
+negated = reversed
+
 -- "`and`, `or` as either part; `implies` reverses its left; `xor` either way by any movement of a part."
 unfoldable pub firstTruth : Connective → Passing
 firstTruth and = same
@@ -179,7 +183,22 @@ unfoldable pub sourceOf : Quantifier → Passing
 sourceOf forall = reversed
 sourceOf exists = same
 
+-- "or if b may turn" the same way "at a member": the body of a quantifier, and the condition of a select
+abbrev pub atMember : Passing
+atMember = same
+
+-- "`size`: rises by gain, falls by loss."
+abbrev pub counted : Passing
+counted = same
+
+-- "`select c b`: gain if c gains ..; loss if c loses"
+abbrev pub chosenFrom : Passing
+chosenFrom = same
+
 -- "`add`: as its parts; `sub`: second part reversed."
+abbrev pub firstTerm : Arithmetic → Passing
+firstTerm o = same
+
 unfoldable pub secondTerm : Arithmetic → Passing
 secondTerm add = same
 secondTerm sub = reversed
@@ -225,28 +244,26 @@ kindMoves c u t down = someStep c (generalisesFrom (c .schema .types) t (eqb u))
 
 -- ---- the forms
 
--- Whether a form may move in a direction, by the ids that its variables stand for. "`not` reverses"; "`num`: never. `size`: rises by
--- gain, falls by loss. `sum`: either way by gain, loss", as `sumSource` has it, "or a set of that cell at a member." "`select c b`: gain if c gains or b may turn
--- true at a member of c; loss if c loses or b may turn false at one. Members are always those at the end." `forall` and `exists`
--- turn by their collection, "or if b may turn" the same way "at a member".
+-- Whether a form may move in a direction, by the ids that its variables stand for: through its parts, as the rules above say of each. "`num`: never."
+-- A sum besides by "a set of that cell at a member." A quantifier and a select through b "at a member": "Members are always those at the end."
 unfoldable pub moves : {s : Sort} → Change → Form s → List ℕ → Direction → Bool
 moves c (compare o a b) vs d = through _||_ (leftOf o) (moves c a vs) d || through _||_ (rightOf o) (moves c b vs) d
-moves c (negate a) vs d = through _||_ reversed (moves c a vs) d
+moves c (negate a) vs d = through _||_ negated (moves c a vs) d
 moves c (connect o a b) vs d = through _||_ (firstTruth o) (moves c a vs) d || through _||_ (secondTruth o) (moves c b vs) d
 moves c (quantify q k b) vs d =
-    through _||_ (sourceOf q) (moves c k vs) d || any (λ x. moves c b (bind vs x) d) (meaning (c .schema .types) (c .end) k vs)
+    through _||_ (sourceOf q) (moves c k vs) d || any (λ x. through _||_ atMember (moves c b (bind vs x)) d) (meaning (c .schema .types) (c .end) k vs)
 moves c (kind v t) vs d = kindMoves c (variable vs v) t d
 moves c (num n) vs d = false
 moves c (cell v k) vs d = cellMoves c (variable vs v) k
-moves c (size k) vs d = through _||_ same (moves c k vs) d
+moves c (size k) vs d = through _||_ counted (moves c k vs) d
 moves c (sum k n) vs d =
     through _||_ (sumSource (flooredSum (c .schema) k n)) (moves c k vs) d
     || any (λ x. cellMoves c x n) (meaning (c .schema .types) (c .end) k vs)
-moves c (combine o a b) vs d = through _||_ same (moves c a vs) d || through _||_ (secondTerm o) (moves c b vs) d
+moves c (combine o a b) vs d = through _||_ (firstTerm o) (moves c a vs) d || through _||_ (secondTerm o) (moves c b vs) d
 moves c (role v r) vs d = roleMoves c r (variable vs v) d
 moves c (all t) vs d = allMoves c t d
 moves c (select k b) vs d =
-    through _||_ same (moves c k vs) d || any (λ x. moves c b (bind vs x) d) (meaning (c .schema .types) (c .end) k vs)
+    through _||_ chosenFrom (moves c k vs) d || any (λ x. through _||_ atMember (moves c b (bind vs x)) d) (meaning (c .schema .types) (c .end) k vs)
 
 -- ---- quiet bodies
 

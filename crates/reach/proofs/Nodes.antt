@@ -11,12 +11,12 @@ use borrow.Author.Tests.{eq-eqb, ne-eqb}
 use Rattle.meaning.specs.Lists.{any}
 use Rattle.meaning.specs.Forms.{Sort, truth, number, collection, Form, bind, variable}
 use Rattle.meaning.specs.Meaning.{meaning}
-use Rattle.meaning.specs.Reach.{Change, Direction, up, down, Passing, same, reversed, through, leftOf, rightOf, firstTruth, secondTruth, sourceOf, secondTerm, sumSource, flooredSum, cellMoves, moves}
+use Rattle.meaning.specs.Reach.{Change, Direction, up, down, Passing, through, leftOf, rightOf, negated, firstTruth, secondTruth, sourceOf, atMember, counted, chosenFrom, firstTerm, secondTerm, sumSource, flooredSum, cellMoves, moves}
 use Rattle.tables.specs.Codes.{Operator, comparing, negating, connecting, quantifying, kindOf, literal, cellOf, sizeOf, sumOf, combining, roleOf, allOf, selecting, codeOf, shapeOf}
 use Rattle.tables.specs.Bodies.{BodyRow, Part, part, asTruth, asNumber, asCollection, formOf, ending, firstPart, secondPart}
 use Rattle.tables.proofs.Readings.{node, code-of, sorted, sorted-parts, is-truth, is-number, is-collection}
 use Rattle.directions.specs.Sets.{someOf, passed}
-use Rattle.directions.specs.Passes.{firstPassing, secondPassing, passRow}
+use Rattle.direction_table.specs.Entries.{firstPassing, secondPassing}
 use Rattle.directions.proofs.Sets.{through-some, some-or, some-same}
 use Rattle.directions.proofs.Passes.{first-passed, second-passed}
 use Rattle.body_rows.specs.Marks.{firstSort, secondSort}
@@ -88,14 +88,14 @@ module _ (c : Change) (ids : List ℕ) (set : ℕ) where
     two floored o p q a b f g e h x y = ap₂ _||_ (first o p a f e x) (second floored o q ids b g h y) ∙ sym (some-or (through _||_ p (moves c f ids)) (through _||_ q (moves c g ids)) set small)
 
     -- a collection, and a truth at its members
-    over : (floored : Bool) (o : Operator) (p : Passing) (a b : Part) (f : Form collection) (g : Form truth) → firstPassing o ≡ some p → secondPassing floored o ≡ some same → a ≡ part collection f → b ≡ part truth g
+    over : (floored : Bool) (o : Operator) (p : Passing) (a b : Part) (f : Form collection) (g : Form truth) → firstPassing o ≡ some p → secondPassing floored o ≡ some atMember → a ≡ part collection f → b ≡ part truth g
         → (movedBy c a ids (passTo false set o 0) || any (λ m. movedBy c b (bind ids m) (passTo floored set o 1)) (membersIn a))
         ≡ someOf set (λ d. through _||_ p (moves c f ids) d || any (λ m. moves c g (bind ids m) d) (meaning (c .schema .types) (c .end) f ids))
     unfolding asCollection
     over floored o p a b f g e h x y =
         ap₂ _||_ (first o p a f e x)
         (ap (λ k. any (λ m. movedBy c b (bind ids m) (passTo floored set o 1)) (membersIn k)) x
-        ∙ any-same (λ m. movedBy c b (bind ids m) (passTo floored set o 1)) (λ m. someOf set (moves c g (bind ids m))) (λ m. second floored o same (bind ids m) b g h y) (meaning (c .schema .types) (c .end) f ids)
+        ∙ any-same (λ m. movedBy c b (bind ids m) (passTo floored set o 1)) (λ m. someOf set (moves c g (bind ids m))) (λ m. second floored o atMember (bind ids m) b g h y) (meaning (c .schema .types) (c .end) f ids)
         ∙ sym (any-some set small (λ m. moves c g (bind ids m)) (meaning (c .schema .types) (c .end) f ids)))
         ∙ sym (some-or (through _||_ p (moves c f ids)) (λ d. any (λ m. moves c g (bind ids m) d) (meaning (c .schema .types) (c .end) f ids)) set small)
       where
@@ -106,23 +106,23 @@ module _ (c : Change) (ids : List ℕ) (set : ℕ) where
     node-moves : (o : Operator) (r : BodyRow) (a b : Part) → sorted ((shapeOf o) .parts) a b → nodeMoves ((shapeOf o) .parts) o (codeOf o) r a b ≡ movedBy c (formOf o r a b) ids set
     unfolding shapeOf codeOf formOf memberOf partMoves leafMoves moves firstPassing secondPassing
     node-moves (comparing o) r a b t = two (floors c (comparing o) r b) (comparing o) (leftOf o) (rightOf o) a b (asNumber a) (asNumber b) refl refl (is-number a (t .0)) (is-number b (t .1))
-    node-moves negating r a b t = or-false _ ∙ second (floors c negating r b) negating reversed ids b (asTruth b) refl (is-truth b t)
+    node-moves negating r a b t = or-false _ ∙ second (floors c negating r b) negating negated ids b (asTruth b) refl (is-truth b t)
     node-moves (connecting o) r a b t = two (floors c (connecting o) r b) (connecting o) (firstTruth o) (secondTruth o) a b (asTruth a) (asTruth b) refl refl (is-truth a (t .0)) (is-truth b (t .1))
     node-moves (quantifying q) r a b t = over (floors c (quantifying q) r b) (quantifying q) (sourceOf q) a b (asCollection a) (asTruth b) refl refl (is-collection a (t .0)) (is-truth b (t .1))
     node-moves kindOf r a b t = refl
     node-moves literal r a b t = refl
     node-moves cellOf r a b t = refl
-    node-moves sizeOf r a b t = or-false _ ∙ second (floors c sizeOf r b) sizeOf same ids b (asCollection b) refl (is-collection b t)
+    node-moves sizeOf r a b t = or-false _ ∙ second (floors c sizeOf r b) sizeOf counted ids b (asCollection b) refl (is-collection b t)
     node-moves sumOf r a b t =
         let f = asCollection b in
         let floored = flooredSum (c .schema) f (r .x) in
         let cells = any (λ m. cellMoves c m (r .x)) (meaning (c .schema .types) (c .end) f ids) in
         ap₂ _||_ (second floored sumOf (sumSource floored) ids b f refl (is-collection b t)) (sym (always set cells some-set small))
         ∙ sym (some-or (through _||_ (sumSource floored) (moves c f ids)) (λ d. cells) set small)
-    node-moves (combining o) r a b t = two (floors c (combining o) r b) (combining o) same (secondTerm o) a b (asNumber a) (asNumber b) refl refl (is-number a (t .0)) (is-number b (t .1))
+    node-moves (combining o) r a b t = two (floors c (combining o) r b) (combining o) (firstTerm o) (secondTerm o) a b (asNumber a) (asNumber b) refl refl (is-number a (t .0)) (is-number b (t .1))
     node-moves roleOf r a b t = refl
     node-moves allOf r a b t = refl
-    node-moves selecting r a b t = over (floors c selecting r b) selecting same a b (asCollection a) (asTruth b) refl refl (is-collection a (t .0)) (is-truth b (t .1))
+    node-moves selecting r a b t = over (floors c selecting r b) selecting chosenFrom a b (asCollection a) (asTruth b) refl refl (is-collection a (t .0)) (is-truth b (t .1))
 
 -- ---- the form that ends with a row, by what the code reads of the row
 
