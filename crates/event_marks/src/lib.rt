@@ -6,6 +6,7 @@ use form_marks::mark_form;
 use quietness::quiet::quiet;
 use type_marks::put_members;
 use typing::Place;
+use typing::floored_rows;
 ghost use mathlib.Core.Path.{_≡_};
 ghost use lib.Dec.{T};
 ghost use lib.ListN.{length};
@@ -49,12 +50,13 @@ pub fn rule_marks(
         end,
         depth: 1,
     };
+    let floored = floored_rows(types, floors, relationships, bodies, &starts, form);
     mark_form(
         types,
-        floors,
         relationships,
         bodies,
         &starts,
+        &floored,
         &env,
         form,
         DOWN,

@@ -10,7 +10,7 @@ use borrow.Author.Tests.{eq-eqb, ne-eqb}
 use Rattle.meaning.specs.Lists.{any, sameList}
 use Rattle.meaning.specs.Schema.{Schema}
 use Rattle.meaning.specs.Forms.{Sort, truth, number, collection, Form, bind, variable, memberType}
-use Rattle.meaning.specs.Reach.{Direction, up, down, Passing, same, reversed, either, through, leftOf, rightOf, firstTruth, secondTruth, sourceOf, secondTerm, sumSource, flooredSum}
+use Rattle.meaning.specs.Reach.{Direction, up, down, Passing, same, reversed, either, through, leftOf, rightOf, negated, firstTruth, secondTruth, sourceOf, atMember, counted, chosenFrom, firstTerm, secondTerm, sumSource, flooredSum}
 use Rattle.meaning.specs.EventList.{EventType, setOf, eventTypeWords, lists}
 use Rattle.tables.specs.Codes.{Operator, comparing, negating, connecting, quantifying, kindOf, literal, cellOf, sizeOf, sumOf, combining, roleOf, allOf, selecting, codeOf, shapeOf}
 use Rattle.tables.specs.Bodies.{BodyRow, Part, part, asTruth, asNumber, asCollection, formOf, ending, firstPart, secondPart}
@@ -65,58 +65,66 @@ inner S ts first a = cond (eqb first 2) (bind ts (memberOf (S .relationships) a)
 abbrev pub passTo : Bool → ℕ → Operator → ℕ → ℕ
 passTo floored set o which = getD (passRow floored o) (which * 4 + set) 0
 
+-- of an operator's row, whether it is a sum over a floored cell
+abbrev pub floors : Schema → Operator → BodyRow → Part → Bool
+floors S o r b = flooredAt S (codeOf o) (r .x) b
+
+-- the directions of the second part
+abbrev pub toSecond : Schema → ℕ → Operator → ℕ → BodyRow → Part → ℕ
+toSecond S set o code r b = passTo (flooredAt S code (r .x) b) set o 1
+
 module _ (S : Schema) (ts : List ℕ) (set place : ℕ) where
   abbrev pub nodeMarks : List Sort → Operator → ℕ → BodyRow → Part → Part → Bool
   nodeMarks parts o code r a b =
       cond (eqb (secondSort parts) 3) (markedBy set (leafLists S ts code (r .x) (r .y)) place)
-      (cond (eqb (firstSort parts) 3) (sumMarks (S .relationships) set place code (r .x) b || partMarks S b ts (passTo (flooredAt S code (r .x) b) set o 1) place)
-      (partMarks S a ts (passTo false set o 0) place || partMarks S b (inner S ts (firstSort parts) a) (passTo false set o 1) place))
+      (cond (eqb (firstSort parts) 3) (sumMarks (S .relationships) set place code (r .x) b || partMarks S b ts (toSecond S set o code r b) place)
+      (partMarks S a ts (passTo false set o 0) place || partMarks S b (inner S ts (firstSort parts) a) (toSecond S set o code r b) place))
 
   module _ (small : set < 4) where
-    one : {s : Sort} (floored : Bool) (o : Operator) (p : Passing) (us : List ℕ) (b : Part) (f : Form s) → secondPassing floored o ≡ some p → b ≡ part s f → partMarks S b us (passTo floored set o 1) place ≡ markedBy (passed p set) (lists S f us) place
+    second : {s : Sort} (floored : Bool) (o : Operator) (p : Passing) (us : List ℕ) (b : Part) (f : Form s) → secondPassing floored o ≡ some p → b ≡ part s f → partMarks S b us (passTo floored set o 1) place ≡ markedBy (passed p set) (lists S f us) place
     unfolding partLists
-    one floored o p us b f e q = ap₂ (λ x k. partMarks S x us k place) q (second-passed floored o set small p e)
+    second floored o p us b f e q = ap₂ (λ x k. partMarks S x us k place) q (second-passed floored o set small p e)
 
     first : {s : Sort} (o : Operator) (p : Passing) (a : Part) (f : Form s) → firstPassing o ≡ some p → a ≡ part s f → partMarks S a ts (passTo false set o 0) place ≡ markedBy (passed p set) (lists S f ts) place
     unfolding partLists
     first o p a f e q = ap₂ (λ x k. partMarks S x ts k place) q (first-passed false o set small p e)
 
     -- two parts, the second with its own variables
-    two : {s u : Sort} (o : Operator) (p q : Passing) (us : List ℕ) (a b : Part) (f : Form s) (g : Form u) → firstPassing o ≡ some p → secondPassing false o ≡ some q → a ≡ part s f → b ≡ part u g
-        → (partMarks S a ts (passTo false set o 0) place || partMarks S b us (passTo false set o 1) place) ≡ markedBy set (λ d. through _++_ p (lists S f ts) d ++ through _++_ q (lists S g us) d) place
-    two o p q us a b f g e h x y = ap₂ _||_ (first o p a f e x) (one false o q us b g h y) ∙ by-parts place set small p q (lists S f ts) (lists S g us)
+    two : {s u : Sort} (floored : Bool) (o : Operator) (p q : Passing) (us : List ℕ) (a b : Part) (f : Form s) (g : Form u) → firstPassing o ≡ some p → secondPassing floored o ≡ some q → a ≡ part s f → b ≡ part u g
+        → (partMarks S a ts (passTo false set o 0) place || partMarks S b us (passTo floored set o 1) place) ≡ markedBy set (λ d. through _++_ p (lists S f ts) d ++ through _++_ q (lists S g us) d) place
+    two floored o p q us a b f g e h x y = ap₂ _||_ (first o p a f e x) (second floored o q us b g h y) ∙ by-parts place set small p q (lists S f ts) (lists S g us)
 
     -- a collection, and a truth with one variable more
-    over : (o : Operator) (p : Passing) (a b : Part) (f : Form collection) (g : Form truth) → firstPassing o ≡ some p → secondPassing false o ≡ some same → a ≡ part collection f → b ≡ part truth g
-        → (partMarks S a ts (passTo false set o 0) place || partMarks S b (bind ts (memberOf (S .relationships) a)) (passTo false set o 1) place)
+    over : (floored : Bool) (o : Operator) (p : Passing) (a b : Part) (f : Form collection) (g : Form truth) → firstPassing o ≡ some p → secondPassing floored o ≡ some atMember → a ≡ part collection f → b ≡ part truth g
+        → (partMarks S a ts (passTo false set o 0) place || partMarks S b (bind ts (memberOf (S .relationships) a)) (passTo floored set o 1) place)
         ≡ markedBy set (λ d. through _++_ p (lists S f ts) d ++ lists S g (bind ts (memberType (S .relationships) f)) d) place
     unfolding memberOf asCollection
-    over o p a b f g e h x y =
-        ap (λ c. partMarks S a ts (passTo false set o 0) place || partMarks S b (bind ts (memberOf (S .relationships) c)) (passTo false set o 1) place) x
-        ∙ two o p same (bind ts (memberType (S .relationships) f)) a b f g e h x y
+    over floored o p a b f g e h x y =
+        ap (λ c. partMarks S a ts (passTo false set o 0) place || partMarks S b (bind ts (memberOf (S .relationships) c)) (passTo floored set o 1) place) x
+        ∙ two floored o p atMember (bind ts (memberType (S .relationships) f)) a b f g e h x y
 
     node-marks : (o : Operator) (r : BodyRow) (a b : Part) → sorted ((shapeOf o) .parts) a b → nodeMarks ((shapeOf o) .parts) o (codeOf o) r a b ≡ partMarks S (formOf o r a b) ts set place
     unfolding shapeOf codeOf formOf partLists leafLists memberOf lists firstPassing secondPassing
-    node-marks (comparing o) r a b t = two (comparing o) (leftOf o) (rightOf o) ts a b (asNumber a) (asNumber b) refl refl (is-number a (t .0)) (is-number b (t .1))
-    node-marks negating r a b t = one false negating reversed ts b (asTruth b) refl (is-truth b t) ∙ by-part place set small reversed (lists S (asTruth b) ts)
-    node-marks (connecting o) r a b t = two (connecting o) (firstTruth o) (secondTruth o) ts a b (asTruth a) (asTruth b) refl refl (is-truth a (t .0)) (is-truth b (t .1))
-    node-marks (quantifying q) r a b t = over (quantifying q) (sourceOf q) a b (asCollection a) (asTruth b) refl refl (is-collection a (t .0)) (is-truth b (t .1))
+    node-marks (comparing o) r a b t = two (floors S (comparing o) r b) (comparing o) (leftOf o) (rightOf o) ts a b (asNumber a) (asNumber b) refl refl (is-number a (t .0)) (is-number b (t .1))
+    node-marks negating r a b t = second (floors S negating r b) negating negated ts b (asTruth b) refl (is-truth b t) ∙ by-part place set small negated (lists S (asTruth b) ts)
+    node-marks (connecting o) r a b t = two (floors S (connecting o) r b) (connecting o) (firstTruth o) (secondTruth o) ts a b (asTruth a) (asTruth b) refl refl (is-truth a (t .0)) (is-truth b (t .1))
+    node-marks (quantifying q) r a b t = over (floors S (quantifying q) r b) (quantifying q) (sourceOf q) a b (asCollection a) (asTruth b) refl refl (is-collection a (t .0)) (is-truth b (t .1))
     node-marks kindOf r a b t = refl
     node-marks literal r a b t = refl
     node-marks cellOf r a b t = refl
-    node-marks sizeOf r a b t = one false sizeOf same ts b (asCollection b) refl (is-collection b t) ∙ by-part place set small same (lists S (asCollection b) ts)
+    node-marks sizeOf r a b t = second (floors S sizeOf r b) sizeOf counted ts b (asCollection b) refl (is-collection b t) ∙ by-part place set small counted (lists S (asCollection b) ts)
     node-marks sumOf r a b t =
         let members = asCollection b in
         let cell : Direction → List EventType = λ d. setOf (memberType (S .relationships) members) (r .x) ∷ [] in
         let floored = flooredSum S members (r .x) in
         let p = sumSource floored in
         or-comm (markedBy set cell place) (partMarks S b ts (passTo floored set sumOf 1) place)
-        ∙ ap (λ x. x || markedBy set cell place) (one floored sumOf p ts b members refl (is-collection b t) ∙ by-part place set small p (lists S members ts))
+        ∙ ap (λ x. x || markedBy set cell place) (second floored sumOf p ts b members refl (is-collection b t) ∙ by-part place set small p (lists S members ts))
         ∙ by-two place set small (through _++_ p (lists S members ts)) cell
-    node-marks (combining o) r a b t = two (combining o) same (secondTerm o) ts a b (asNumber a) (asNumber b) refl refl (is-number a (t .0)) (is-number b (t .1))
+    node-marks (combining o) r a b t = two (floors S (combining o) r b) (combining o) (firstTerm o) (secondTerm o) ts a b (asNumber a) (asNumber b) refl refl (is-number a (t .0)) (is-number b (t .1))
     node-marks roleOf r a b t = refl
     node-marks allOf r a b t = refl
-    node-marks selecting r a b t = over selecting same a b (asCollection a) (asTruth b) refl refl (is-collection a (t .0)) (is-truth b (t .1))
+    node-marks selecting r a b t = over (floors S selecting r b) selecting chosenFrom a b (asCollection a) (asTruth b) refl refl (is-collection a (t .0)) (is-truth b (t .1))
 
 -- ---- the form that ends with a row, by what the code reads of the row
 
@@ -144,8 +152,8 @@ module _ (rows : ℕ → BodyRow) (i : ℕ) (sound : T ((ending rows (suc i)) .s
   leaf-here e = simp (eq-eqb (secondSort sorts) 3 e) at marks-here
 
   module _ (n : secondSort sorts ≡ 3 → ⊥) where
-    pub one-here : firstSort sorts ≡ 3 → (sumMarks (S .relationships) set place ((rows i) .code) ((rows i) .x) b || partMarks S b ts (passTo (flooredAt S ((rows i) .code) ((rows i) .x) b) set op 1) place) ≡ partMarks S ((ending rows (suc i)) .form) ts set place
+    pub one-here : firstSort sorts ≡ 3 → (sumMarks (S .relationships) set place ((rows i) .code) ((rows i) .x) b || partMarks S b ts (toSecond S set op ((rows i) .code) (rows i) b) place) ≡ partMarks S ((ending rows (suc i)) .form) ts set place
     one-here e = simp (ne-eqb (secondSort sorts) 3 n, eq-eqb (firstSort sorts) 3 e) at marks-here
 
-    pub two-here : (firstSort sorts ≡ 3 → ⊥) → (partMarks S a ts (passTo false set op 0) place || partMarks S b (inner S ts (firstSort sorts) a) (passTo false set op 1) place) ≡ partMarks S ((ending rows (suc i)) .form) ts set place
+    pub two-here : (firstSort sorts ≡ 3 → ⊥) → (partMarks S a ts (passTo false set op 0) place || partMarks S b (inner S ts (firstSort sorts) a) (toSecond S set op ((rows i) .code) (rows i) b) place) ≡ partMarks S ((ending rows (suc i)) .form) ts set place
     two-here m = simp (ne-eqb (secondSort sorts) 3 n, ne-eqb (firstSort sorts) 3 m) at marks-here

@@ -6,20 +6,18 @@ use body_rows::body::SECOND;
 use body_rows::body::field;
 use body_rows::body::shape;
 use typing::Place;
-use typing::floored_sum;
 use typing::member_type;
 ghost use mathlib.Core.Path.{_≡_};
-ghost use mathlib.Core.Option.{some};
-ghost use Prim.Native.Nat.{_+_, _*_, _≤_, _<_};
+ghost use mathlib.Core.List.{List};
+ghost use Prim.Native.Nat.{_+_, _≤_, _<_};
 ghost use lib.Dec.{T};
-ghost use lib.ListN.{length, getD, take};
+ghost use lib.ListN.{length, take};
+ghost use Rattle.meaning.specs.Schema.{Floor};
 ghost use Rattle.meaning.specs.Forms.{collection};
-ghost use Rattle.tables.specs.Codes.{Operator, operatorOf};
 ghost use Rattle.tables.specs.Bodies.{reads, ending};
-ghost use Rattle.tables.specs.Columns.{floorsOf, relationshipsOf, schemaOf};
-ghost use Rattle.directions.specs.Passes.{passRow};
+ghost use Rattle.tables.specs.Columns.{relationshipsOf, schemaOf};
 ghost use Rattle.body_rows.specs.Marks.{bodyOf, Starts};
-ghost use Rattle.typing.specs.Types.{flooredAt};
+ghost use Rattle.typing.specs.Types.{FlooredRows};
 ghost use Rattle.type_marks.specs.Marks.{places, Added};
 ghost use Rattle.type_marks.specs.Lists.{partMarks, sumMarks};
 
@@ -50,36 +48,13 @@ fn mark_sum(
     type_marks::put_cell(member, x, set, marks);
 }
 
-// The directions of a form's only part that move it in a direction of the set, by its code and its first field.
-fn to_only(
-    types: &[u32],
-    floors: &[u32],
-    relationships: &[u32],
-    bodies: &[u32],
-    starts: &[u32; 65],
-    at: Place,
-    code: u32,
-    x: u32,
-    set: u32,
-) -> u32
-    requires { ⌜ (Starts (bodyOf (now bodies) (at .rule)) (now starts) (at .end))
-        × (code ≡ 17 → T (reads collection (ending (bodyOf (now bodies) (at .rule)) (at .end))))
-        × (code < 23) × (set < 4) ⌝ }
-    ensures { λ r. ⌜ ((o : Operator) → operatorOf code ≡ some o → r ≡ getD (passRow (flooredAt
-        (schemaOf (at .types) (now (types .entry)) (floorsOf (at .floors) (now (floors .entry))) (at .relationships) (now (relationships .entry)))
-        code x ((ending (bodyOf (now (bodies .entry)) (at .rule)) (at .end)) .form)) o) (1 * 4 + set) 0) ⌝ }
-{
-    let floored = floored_sum(types, floors, relationships, bodies, starts, at, code, x);
-    directions::pass(code, floored, directions::SECOND, set)
-}
-
-// Marks what moves a form in a direction of the set, by the types of its variables.
+// Marks what moves a form in a direction of the set, by the types of its variables; `floored` marks the sums over floored cells.
 pub fn mark_form(
     types: &[u32],
-    floors: &[u32],
     relationships: &[u32],
     bodies: &[u32],
     starts: &[u32; 65],
+    floored: &[bool; 64],
     env: &[u32; 64],
     at: Place,
     set: u32,
@@ -89,9 +64,13 @@ pub fn mark_form(
         × T ((ending (bodyOf (now bodies) (at .rule)) (at .end)) .sound)
         × (length (now env) ≡ 64) × (at .depth + at .end ≤ 65)
         × (length (now marks) ≡ places) × (set < 4) ⌝ }
-    ensures { λ _. ⌜ Added (now (marks .entry)) (now (marks .exit)) (λ place.
-        partMarks (schemaOf (at .types) (now (types .entry)) (floorsOf (at .floors) (now (floors .entry))) (at .relationships) (now (relationships .entry)))
-        ((ending (bodyOf (now (bodies .entry)) (at .rule)) (at .end)) .form) (take (at .depth) (now (env .entry))) set place) ⌝ }
+    ensures { λ _. ⌜ (length (now (marks .exit)) ≡ places)
+        × ((fs : List Floor) → FlooredRows
+        (schemaOf (at .types) (now (types .entry)) fs (at .relationships) (now (relationships .entry)))
+        (bodyOf (now (bodies .entry)) (at .rule)) (at .end) (now (floored .entry))
+        → Added (now (marks .entry)) (now (marks .exit)) (λ place.
+        partMarks (schemaOf (at .types) (now (types .entry)) fs (at .relationships) (now (relationships .entry)))
+        ((ending (bodyOf (now (bodies .entry)) (at .rule)) (at .end)) .form) (take (at .depth) (now (env .entry))) set place)) ⌝ }
 {
     let row = at.end - 1;
     let code = field(bodies, at.rule, row, 0);
@@ -101,45 +80,34 @@ pub fn mark_form(
         type_marks::put_leaf(types, relationships, env, at, code, x, y, set, marks);
         return;
     }
+    let index = row as usize;
+    let to_second = directions::pass(code, floored[index], directions::SECOND, set);
     let mut second = at;
     second.end = row;
     if shape(code, FIRST) == NONE {
-        let only = to_only(
-            types,
-            floors,
-            relationships,
-            bodies,
-            starts,
-            second,
-            code,
-            x,
-            set,
-        );
         mark_sum(relationships, bodies, starts, second, code, x, set, marks);
         mark_form(
             types,
-            floors,
             relationships,
             bodies,
             starts,
+            floored,
             env,
             second,
-            only,
+            to_second,
             marks,
         );
         return;
     }
-    let index = row as usize;
     let mut first = at;
     first.end = starts[index];
     let to_first = directions::pass(code, false, directions::FIRST, set);
-    let to_second = directions::pass(code, false, directions::SECOND, set);
     mark_form(
         types,
-        floors,
         relationships,
         bodies,
         starts,
+        floored,
         env,
         first,
         to_first,
@@ -148,10 +116,10 @@ pub fn mark_form(
     if shape(code, FIRST) != COLLECTION {
         mark_form(
             types,
-            floors,
             relationships,
             bodies,
             starts,
+            floored,
             env,
             second,
             to_second,
@@ -165,10 +133,10 @@ pub fn mark_form(
     second.depth = at.depth + 1;
     mark_form(
         types,
-        floors,
         relationships,
         bodies,
         starts,
+        floored,
         &inner,
         second,
         to_second,

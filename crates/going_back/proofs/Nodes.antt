@@ -20,8 +20,8 @@ use Rattle.directions.proofs.Passes.{first-passed, second-passed}
 use Rattle.body_rows.specs.Marks.{firstSort, secondSort}
 use Rattle.typing.specs.Types.{memberOf}
 use Rattle.typing.proofs.Types.{operatorHere, partsHere}
-use Rattle.form_marks.proofs.Nodes.{passTo}
-use Rattle.reach.proofs.Nodes.{any-some, always, floors, toSecond}
+use Rattle.form_marks.proofs.Nodes.{passTo, floors, toSecond}
+use Rattle.reach.proofs.Nodes.{any-some, always}
 use Rattle.going_back.specs.Back.{leadsInto, throughMembers, reached, partReached, reachedBy, leafReached}
 
 module _ (c : Change) (set : ℕ) (small : set < 4) where
@@ -51,8 +51,8 @@ module _ (c : Change) (n set v u : ℕ) where
   abbrev pub nodeReached : List Sort → Operator → ℕ → BodyRow → Part → Part → Bool
   nodeReached parts o code r a b =
       cond (eqb (secondSort parts) 3) (someOf set (leafReached c code (r .x) (r .y) v u))
-      (cond (eqb (firstSort parts) 3) (reachedBy c b n (toSecond c set o code r b) v u || sumReached code (r .x) b)
-      (reachedBy c a n (passTo false set o 0) v u || secondReached (firstSort parts) (toSecond c set o code r b) a b))
+      (cond (eqb (firstSort parts) 3) (reachedBy c b n (toSecond (c .schema) set o code r b) v u || sumReached code (r .x) b)
+      (reachedBy c a n (passTo false set o 0) v u || secondReached (firstSort parts) (toSecond (c .schema) set o code r b) a b))
 
   module _ (some-set : 0 < set) (small : set < 4) where
     -- a part of whichever depth, at whichever variable and id
@@ -83,24 +83,24 @@ module _ (c : Change) (n set v u : ℕ) where
 
     node-reached : (o : Operator) (r : BodyRow) (a b : Part) → sorted ((shapeOf o) .parts) a b → nodeReached ((shapeOf o) .parts) o (codeOf o) r a b ≡ reachedBy c (formOf o r a b) n set v u
     unfolding shapeOf codeOf formOf memberOf partReached leafReached reached firstPassing secondPassing
-    node-reached (comparing o) r a b t = two (floors c (comparing o) r b) (comparing o) (leftOf o) (rightOf o) a b (asNumber a) (asNumber b) refl refl (is-number a (t .0)) (is-number b (t .1))
-    node-reached negating r a b t = or-false _ ∙ second (floors c negating r b) negating negated n v u b (asTruth b) refl (is-truth b t)
-    node-reached (connecting o) r a b t = two (floors c (connecting o) r b) (connecting o) (firstTruth o) (secondTruth o) a b (asTruth a) (asTruth b) refl refl (is-truth a (t .0)) (is-truth b (t .1))
-    node-reached (quantifying q) r a b t = over (floors c (quantifying q) r b) (quantifying q) (sourceOf q) a b (asCollection a) (asTruth b) refl refl (is-collection a (t .0)) (is-truth b (t .1))
+    node-reached (comparing o) r a b t = two (floors (c .schema) (comparing o) r b) (comparing o) (leftOf o) (rightOf o) a b (asNumber a) (asNumber b) refl refl (is-number a (t .0)) (is-number b (t .1))
+    node-reached negating r a b t = or-false _ ∙ second (floors (c .schema) negating r b) negating negated n v u b (asTruth b) refl (is-truth b t)
+    node-reached (connecting o) r a b t = two (floors (c .schema) (connecting o) r b) (connecting o) (firstTruth o) (secondTruth o) a b (asTruth a) (asTruth b) refl refl (is-truth a (t .0)) (is-truth b (t .1))
+    node-reached (quantifying q) r a b t = over (floors (c .schema) (quantifying q) r b) (quantifying q) (sourceOf q) a b (asCollection a) (asTruth b) refl refl (is-collection a (t .0)) (is-truth b (t .1))
     node-reached kindOf r a b t = refl
     node-reached literal r a b t = refl
     node-reached cellOf r a b t = refl
-    node-reached sizeOf r a b t = or-false _ ∙ second (floors c sizeOf r b) sizeOf counted n v u b (asCollection b) refl (is-collection b t)
+    node-reached sizeOf r a b t = or-false _ ∙ second (floors (c .schema) sizeOf r b) sizeOf counted n v u b (asCollection b) refl (is-collection b t)
     node-reached sumOf r a b t =
         let f = asCollection b in
         let floored = flooredSum (c .schema) f (r .x) in
         let cells = leadsInto c f (λ y. cellMoves c y (r .x)) v u in
         ap₂ _||_ (second floored sumOf (sumSource floored) n v u b f refl (is-collection b t)) (sym (always set cells some-set small))
         ∙ sym (some-or (through _||_ (sumSource floored) (reached c f n v u)) (λ d. cells) set small)
-    node-reached (combining o) r a b t = two (floors c (combining o) r b) (combining o) (firstTerm o) (secondTerm o) a b (asNumber a) (asNumber b) refl refl (is-number a (t .0)) (is-number b (t .1))
+    node-reached (combining o) r a b t = two (floors (c .schema) (combining o) r b) (combining o) (firstTerm o) (secondTerm o) a b (asNumber a) (asNumber b) refl refl (is-number a (t .0)) (is-number b (t .1))
     node-reached roleOf r a b t = refl
     node-reached allOf r a b t = refl
-    node-reached selecting r a b t = over (floors c selecting r b) selecting chosenFrom a b (asCollection a) (asTruth b) refl refl (is-collection a (t .0)) (is-truth b (t .1))
+    node-reached selecting r a b t = over (floors (c .schema) selecting r b) selecting chosenFrom a b (asCollection a) (asTruth b) refl refl (is-collection a (t .0)) (is-truth b (t .1))
 
 -- ---- the form that ends with a row, by what the code reads of the row
 
@@ -131,8 +131,8 @@ module _ (rows : ℕ → BodyRow) (i : ℕ) (sound : T ((ending rows (suc i)) .s
   leaf-here e = simp (eq-eqb (secondSort sorts) 3 e) at reached-here
 
   module _ (m : secondSort sorts ≡ 3 → ⊥) where
-    pub one-here : firstSort sorts ≡ 3 → (reachedBy c b n (toSecond c set op ((rows i) .code) (rows i) b) v u || sumReached c n set v u ((rows i) .code) ((rows i) .x) b) ≡ whole
+    pub one-here : firstSort sorts ≡ 3 → (reachedBy c b n (toSecond (c .schema) set op ((rows i) .code) (rows i) b) v u || sumReached c n set v u ((rows i) .code) ((rows i) .x) b) ≡ whole
     one-here e = simp (ne-eqb (secondSort sorts) 3 m, eq-eqb (firstSort sorts) 3 e) at reached-here
 
-    pub two-here : (firstSort sorts ≡ 3 → ⊥) → (reachedBy c a n (passTo false set op 0) v u || secondReached c n set v u (firstSort sorts) (toSecond c set op ((rows i) .code) (rows i) b) a b) ≡ whole
+    pub two-here : (firstSort sorts ≡ 3 → ⊥) → (reachedBy c a n (passTo false set op 0) v u || secondReached c n set v u (firstSort sorts) (toSecond (c .schema) set op ((rows i) .code) (rows i) b) a b) ≡ whole
     two-here k = simp (ne-eqb (secondSort sorts) 3 m, ne-eqb (firstSort sorts) 3 k) at reached-here

@@ -13,10 +13,9 @@ use Rattle.meaning.specs.Reach.{Change, cellMoves}
 use Rattle.tables.specs.Bodies.{asCollection, ending, firstPart}
 use Rattle.directions.specs.Sets.{someOf}
 use Rattle.body_rows.specs.Marks.{firstSort, secondSort}
-use Rattle.form_marks.proofs.Nodes.{passTo}
+use Rattle.form_marks.proofs.Nodes.{passTo, toSecond}
 use Rattle.walks.specs.Site.{Site, rowsAt, formAt, codeAt}
 use Rattle.reach.specs.Able.{Able}
-use Rattle.reach.proofs.Nodes.{toSecond}
 use Rattle.reach.proofs.Abilities.{whole, last-sound, op, sorts}
 use Rattle.going_back.specs.Back.{leadsInto, throughMembers, reachedBy, leafReached, Covered}
 use Rattle.row_sets.specs.Sets.{GrownBelow}
@@ -45,7 +44,7 @@ module _ {S : Schema} {w : Site} {starts : List ℕ} {e : ℕ} {vars : List ℕ}
   leaf-covers p q z h =
       covered-as (λ v u. (λ i. someOf set (leafReached c (p i) (q i) (z i) v u)) ∙ leaf-here (rowsAt w) (e - 1) (last-sound able) c depth set some-set small v u h ∙ at-end v u)
 
-  module _ (n : secondSort (sorts able) ≡ 3 → ⊥) {dirs : ℕ} (to : dirs ≡ toSecond c set (op able) (codeAt w e) (rowsAt w (e - 1)) (formAt w (e - 1))) where
+  module _ (n : secondSort (sorts able) ≡ 3 → ⊥) {dirs : ℕ} (to : dirs ≡ toSecond (c .schema) set (op able) (codeAt w e) (rowsAt w (e - 1)) (formAt w (e - 1))) where
     -- ---- one part
 
     module _ (f : firstSort (sorts able) ≡ 3) {r : Bool} {s : List Bool} (still : r ≡ false) (part : Cover (reach (e - 1) dirs) r s) where

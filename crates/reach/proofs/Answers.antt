@@ -14,14 +14,14 @@ use Rattle.meaning.specs.Reach.{Change, cellMoves}
 use Rattle.tables.specs.Bodies.{Part, asCollection, ending, firstPart, secondPart}
 use Rattle.directions.specs.Sets.{someOf}
 use Rattle.body_rows.specs.Marks.{firstSort, secondSort}
-use Rattle.form_marks.proofs.Nodes.{passTo}
+use Rattle.form_marks.proofs.Nodes.{passTo, toSecond}
 use Rattle.walks.specs.Site.{Site, typesAt, registerAt, rowsAt, formAt, codeAt, idsOf}
 use Rattle.walks.specs.Values.{membersOf}
 use Rattle.trace_places.specs.Traces.{Traced}
 use Rattle.reach.specs.Moves.{movedBy, leafMoves, movesAt, movesOver}
 use Rattle.reach.specs.Able.{Able}
 use Rattle.reach.proofs.Abilities.{whole, last-sound, op, sorts}
-use Rattle.reach.proofs.Nodes.{membersIn, sumMoves, secondMoves, toSecond, leaf-here, one-here, two-here}
+use Rattle.reach.proofs.Nodes.{membersIn, sumMoves, secondMoves, leaf-here, one-here, two-here}
 
 -- no direction, no movement
 pub none-asked : (c : Change) (w : Site) (e : ℕ) (vars : List ℕ) (depth : ℕ) → false ≡ movesAt c w e vars depth 0
@@ -44,7 +44,7 @@ module _ {S : Schema} {w : Site} {starts : List ℕ} {e : ℕ} {vars : List ℕ}
   leaf-made p q z h a =
       a ∙ (λ i. someOf set (leafMoves c ids (p i) (q i) (z i))) ∙ leaf-here (rowsAt w) (e - 1) (last-sound able) c ids set some-set small h ∙ at-end
 
-  module _ (n : secondSort (sorts able) ≡ 3 → ⊥) {dirs : ℕ} (to : dirs ≡ toSecond c set (op able) (codeAt w e) (rowsAt w (e - 1)) (formAt w (e - 1))) where
+  module _ (n : secondSort (sorts able) ≡ 3 → ⊥) {dirs : ℕ} (to : dirs ≡ toSecond (c .schema) set (op able) (codeAt w e) (rowsAt w (e - 1)) (formAt w (e - 1))) where
     -- ---- one part
 
     module _ (f : firstSort (sorts able) ≡ 3) {r : Bool} (part : r ≡ asks (e - 1) dirs) where

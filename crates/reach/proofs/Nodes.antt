@@ -20,9 +20,9 @@ use Rattle.direction_table.specs.Entries.{firstPassing, secondPassing}
 use Rattle.directions.proofs.Sets.{through-some, some-or, some-same}
 use Rattle.directions.proofs.Passes.{first-passed, second-passed}
 use Rattle.body_rows.specs.Marks.{firstSort, secondSort}
-use Rattle.typing.specs.Types.{memberOf, flooredAt}
+use Rattle.typing.specs.Types.{memberOf}
 use Rattle.typing.proofs.Types.{operatorHere, partsHere}
-use Rattle.form_marks.proofs.Nodes.{passTo}
+use Rattle.form_marks.proofs.Nodes.{passTo, floors, toSecond}
 use Rattle.reach.specs.Moves.{partMoves, movedBy, leafMoves}
 
 -- ---- a set of directions, at members
@@ -49,14 +49,6 @@ always (suc (suc (suc (suc set)))) b p h = absurd (omega arith)
 
 -- ---- a form by its parts
 
--- of an operator's row, whether it is a sum over a floored cell
-abbrev pub floors : Change → Operator → BodyRow → Part → Bool
-floors c o r b = flooredAt (c .schema) (codeOf o) (r .x) b
-
--- the directions of the second part
-abbrev pub toSecond : Change → ℕ → Operator → ℕ → BodyRow → Part → ℕ
-toSecond c set o code r b = passTo (flooredAt (c .schema) code (r .x) b) set o 1
-
 module _ (c : Change) (ids : List ℕ) (set : ℕ) where
   abbrev pub membersIn : Part → List ℕ
   membersIn a = meaning (c .schema .types) (c .end) (asCollection a) ids
@@ -71,8 +63,8 @@ module _ (c : Change) (ids : List ℕ) (set : ℕ) where
   abbrev pub nodeMoves : List Sort → Operator → ℕ → BodyRow → Part → Part → Bool
   nodeMoves parts o code r a b =
       cond (eqb (secondSort parts) 3) (someOf set (leafMoves c ids code (r .x) (r .y)))
-      (cond (eqb (firstSort parts) 3) (movedBy c b ids (toSecond c set o code r b) || sumMoves code (r .x) b)
-      (movedBy c a ids (passTo false set o 0) || secondMoves (firstSort parts) (toSecond c set o code r b) a b))
+      (cond (eqb (firstSort parts) 3) (movedBy c b ids (toSecond (c .schema) set o code r b) || sumMoves code (r .x) b)
+      (movedBy c a ids (passTo false set o 0) || secondMoves (firstSort parts) (toSecond (c .schema) set o code r b) a b))
 
   module _ (some-set : 0 < set) (small : set < 4) where
     second : {s : Sort} (floored : Bool) (o : Operator) (p : Passing) (vs : List ℕ) (b : Part) (f : Form s) → secondPassing floored o ≡ some p → b ≡ part s f → movedBy c b vs (passTo floored set o 1) ≡ someOf set (through _||_ p (moves c f vs))
@@ -105,24 +97,24 @@ module _ (c : Change) (ids : List ℕ) (set : ℕ) where
 
     node-moves : (o : Operator) (r : BodyRow) (a b : Part) → sorted ((shapeOf o) .parts) a b → nodeMoves ((shapeOf o) .parts) o (codeOf o) r a b ≡ movedBy c (formOf o r a b) ids set
     unfolding shapeOf codeOf formOf memberOf partMoves leafMoves moves firstPassing secondPassing
-    node-moves (comparing o) r a b t = two (floors c (comparing o) r b) (comparing o) (leftOf o) (rightOf o) a b (asNumber a) (asNumber b) refl refl (is-number a (t .0)) (is-number b (t .1))
-    node-moves negating r a b t = or-false _ ∙ second (floors c negating r b) negating negated ids b (asTruth b) refl (is-truth b t)
-    node-moves (connecting o) r a b t = two (floors c (connecting o) r b) (connecting o) (firstTruth o) (secondTruth o) a b (asTruth a) (asTruth b) refl refl (is-truth a (t .0)) (is-truth b (t .1))
-    node-moves (quantifying q) r a b t = over (floors c (quantifying q) r b) (quantifying q) (sourceOf q) a b (asCollection a) (asTruth b) refl refl (is-collection a (t .0)) (is-truth b (t .1))
+    node-moves (comparing o) r a b t = two (floors (c .schema) (comparing o) r b) (comparing o) (leftOf o) (rightOf o) a b (asNumber a) (asNumber b) refl refl (is-number a (t .0)) (is-number b (t .1))
+    node-moves negating r a b t = or-false _ ∙ second (floors (c .schema) negating r b) negating negated ids b (asTruth b) refl (is-truth b t)
+    node-moves (connecting o) r a b t = two (floors (c .schema) (connecting o) r b) (connecting o) (firstTruth o) (secondTruth o) a b (asTruth a) (asTruth b) refl refl (is-truth a (t .0)) (is-truth b (t .1))
+    node-moves (quantifying q) r a b t = over (floors (c .schema) (quantifying q) r b) (quantifying q) (sourceOf q) a b (asCollection a) (asTruth b) refl refl (is-collection a (t .0)) (is-truth b (t .1))
     node-moves kindOf r a b t = refl
     node-moves literal r a b t = refl
     node-moves cellOf r a b t = refl
-    node-moves sizeOf r a b t = or-false _ ∙ second (floors c sizeOf r b) sizeOf counted ids b (asCollection b) refl (is-collection b t)
+    node-moves sizeOf r a b t = or-false _ ∙ second (floors (c .schema) sizeOf r b) sizeOf counted ids b (asCollection b) refl (is-collection b t)
     node-moves sumOf r a b t =
         let f = asCollection b in
         let floored = flooredSum (c .schema) f (r .x) in
         let cells = any (λ m. cellMoves c m (r .x)) (meaning (c .schema .types) (c .end) f ids) in
         ap₂ _||_ (second floored sumOf (sumSource floored) ids b f refl (is-collection b t)) (sym (always set cells some-set small))
         ∙ sym (some-or (through _||_ (sumSource floored) (moves c f ids)) (λ d. cells) set small)
-    node-moves (combining o) r a b t = two (floors c (combining o) r b) (combining o) (firstTerm o) (secondTerm o) a b (asNumber a) (asNumber b) refl refl (is-number a (t .0)) (is-number b (t .1))
+    node-moves (combining o) r a b t = two (floors (c .schema) (combining o) r b) (combining o) (firstTerm o) (secondTerm o) a b (asNumber a) (asNumber b) refl refl (is-number a (t .0)) (is-number b (t .1))
     node-moves roleOf r a b t = refl
     node-moves allOf r a b t = refl
-    node-moves selecting r a b t = over (floors c selecting r b) selecting chosenFrom a b (asCollection a) (asTruth b) refl refl (is-collection a (t .0)) (is-truth b (t .1))
+    node-moves selecting r a b t = over (floors (c .schema) selecting r b) selecting chosenFrom a b (asCollection a) (asTruth b) refl refl (is-collection a (t .0)) (is-truth b (t .1))
 
 -- ---- the form that ends with a row, by what the code reads of the row
 
@@ -153,8 +145,8 @@ module _ (rows : ℕ → BodyRow) (i : ℕ) (sound : T ((ending rows (suc i)) .s
   leaf-here e = simp (eq-eqb (secondSort sorts) 3 e) at moves-here
 
   module _ (n : secondSort sorts ≡ 3 → ⊥) where
-    pub one-here : firstSort sorts ≡ 3 → (movedBy c b ids (toSecond c set op ((rows i) .code) (rows i) b) || sumMoves c ids set ((rows i) .code) ((rows i) .x) b) ≡ moved
+    pub one-here : firstSort sorts ≡ 3 → (movedBy c b ids (toSecond (c .schema) set op ((rows i) .code) (rows i) b) || sumMoves c ids set ((rows i) .code) ((rows i) .x) b) ≡ moved
     one-here e = simp (ne-eqb (secondSort sorts) 3 n, eq-eqb (firstSort sorts) 3 e) at moves-here
 
-    pub two-here : (firstSort sorts ≡ 3 → ⊥) → (movedBy c a ids (passTo false set op 0) || secondMoves c ids set (firstSort sorts) (toSecond c set op ((rows i) .code) (rows i) b) a b) ≡ moved
+    pub two-here : (firstSort sorts ≡ 3 → ⊥) → (movedBy c a ids (passTo false set op 0) || secondMoves c ids set (firstSort sorts) (toSecond (c .schema) set op ((rows i) .code) (rows i) b) a b) ≡ moved
     two-here m = simp (ne-eqb (secondSort sorts) 3 n, ne-eqb (firstSort sorts) 3 m) at moves-here

@@ -121,7 +121,7 @@ fn summable(
 }
 
 // Whether a row is a sum over a collection's floored cell; what is no sum is none.
-pub fn floored_sum(
+fn floored_sum(
     types: &[u32],
     floors: &[u32],
     relationships: &[u32],

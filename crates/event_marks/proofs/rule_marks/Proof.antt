@@ -20,8 +20,14 @@ use Rattle.event_marks.proofs.rule_marks.Tie as tie
 abbrev size-start : tie.After-word2 → tie.Start
 size-start c = c .before .before .before .before .before .before .before .before
 
+abbrev sums-scan : tie.After-floored-rows → tie.After-scan
+sums-scan c = c .before .before .before
+
+abbrev form-sums : tie.After-mark-form → tie.After-floored-rows
+form-sums c = c .before .before .before .before .before
+
 abbrev form-scan : tie.After-mark-form → tie.After-scan
-form-scan c = c .before .before .before .before .before
+form-scan c = sums-scan (form-sums c)
 
 abbrev quiet-form : tie.After-quiet → tie.After-mark-form
 quiet-form c = c .before .before .before .before
@@ -60,9 +66,12 @@ scan-requires c κs = body-is c .few
 array-write-env : tie.Need-array-write-env
 array-write-env c = search needs
 
+floored-rows-requires : tie.Need-floored-rows-requires
+floored-rows-requires c κs = let scanned = c .before .before in (scanned .scan .ensures .0, whole (scanned .before))
+
 mark-form-requires : tie.Need-mark-form-requires
 mark-form-requires c κs =
-    let scanned = c .before .before .before .before in
+    let scanned = sums-scan (c .before .before .before .before) in
     let w = body-is (scanned .before) in
     let few = w .few in
     (scanned .scan .ensures .0, w .sound, refl, omega arith, size-start (scanned .before) .pre .1, omega arith)
@@ -71,9 +80,7 @@ quiet-requires : tie.Need-quiet-requires
 quiet-requires c κs = let scanned = form-scan (c .before .before .before) in (scanned .scan .ensures .0, body-is (scanned .before) .sound)
 
 put-members-requires : tie.Need-put-members-requires
-put-members-requires c κs =
-    let form = quiet-form (c .before) in
-    form .mark-form .ensures .long ∙ size-start (form-scan form .before) .pre .1
+put-members-requires c κs = quiet-form (c .before) .mark-form .ensures .0
 
 same-length : tie.Need-same-length
 same-length c = search needs
@@ -85,7 +92,7 @@ returns c =
     let form = quiet-form still in
     let size = form-scan form .before in
     let s = size-start size in
-    added-as (added-then (form .mark-form .ensures) (listed .put-members .ensures (schema s .floors) (schema s .relationships)))
+    added-as (added-then (form .mark-form .ensures .1 (schema s .floors) (form-sums form .floored-rows .ensures)) (listed .put-members .ensures (schema s .floors) (schema s .relationships)))
     (λ place h.
     rule-marked (schema s) (s .args .rules .now) (s .args .bodies .now) (s .args .rule) (size .before .word .result) (size .word2 .result) (still .quiet .result) (whole size) (rule-is size) (still .quiet .ensures) place)
 
@@ -97,6 +104,7 @@ rule-marks-spec =
     word-requires-2
     scan-requires
     array-write-env
+    floored-rows-requires
     mark-form-requires
     quiet-requires
     put-members-requires

@@ -18,10 +18,9 @@ use Rattle.typing.specs.Types.{FlooredRows}
 use Rattle.typing.proofs.Types.{code-here, sums-here}
 use Rattle.typing.proofs.Floors.{rows-less}
 use Rattle.directions.proofs.Passes.{pass-small}
-use Rattle.form_marks.proofs.Nodes.{passTo}
+use Rattle.form_marks.proofs.Nodes.{passTo, toSecond}
 use Rattle.walks.specs.Site.{Site, siteOf, rowsAt, formAt, codeAt}
 use Rattle.reach.specs.Able.{Able, LeafAble, OverAble}
-use Rattle.reach.proofs.Nodes.{toSecond}
 use Rattle.reach.proofs.Abilities.{positive, last-sound, op, sorts, coded, ready, leaf-able, deep, one-able, first-low, first-able, plain-able, over-able}
 use Rattle.going_back.specs.Back.{reachedBy}
 use Rattle.going_back.specs.Walkable.{Walkable, OverWalkable}
@@ -225,7 +224,7 @@ module _ (t : ℕ) where
   passed-second c = c .pass .ensures (op (able (pass-start c))) (coded-field (pass-field c))
 
   to-second : (c : Pass) (k : Change) → Marks (pass-start c) k → let s = pass-start c in
-      c .pass .result ≡ toSecond k (s .args .set) (op (able s)) (codeAt (site s) (s .args .at .1)) (rowsAt (site s) (s .args .at .1 - 1)) (formAt (site s) (s .args .at .1 - 1))
+      c .pass .result ≡ toSecond (k .schema) (s .args .set) (op (able s)) (codeAt (site s) (s .args .at .1)) (rowsAt (site s) (s .args .at .1 - 1)) (formAt (site s) (s .args .at .1 - 1))
   to-second c k marks =
       let s = pass-start c in
       let h = positive (able s) in

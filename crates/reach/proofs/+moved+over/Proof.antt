@@ -23,7 +23,7 @@ use Rattle.typing.specs.Types.{FlooredRows}
 use Rattle.typing.proofs.Types.{code-here, sums-here}
 use Rattle.typing.proofs.Floors.{rows-less}
 use Rattle.directions.proofs.Passes.{pass-small}
-use Rattle.form_marks.proofs.Nodes.{passTo}
+use Rattle.form_marks.proofs.Nodes.{passTo, toSecond}
 use Rattle.walks.specs.Site.{Site, siteOf, rowsAt, formAt, codeAt, idIn, idsOf}
 use Rattle.walks.specs.Values.{membersOf}
 use Rattle.walks.specs.Walks.{leftAt, Stands}
@@ -34,7 +34,6 @@ use Rattle.reach.specs.Moves.{movedBy, movesAt, movesOver}
 use Rattle.reach.specs.Able.{Able, LeafAble, OverAble}
 use Rattle.reach.proofs.Abilities.{positive, whole, last-sound, op, sorts, coded, ready, leaf-able, deep, one-able, first-low, first-able, plain-able, over-able}
 use Rattle.reach.proofs.Members.{Left, any-starts, any-ends, any-stops, any-goes-on}
-use Rattle.reach.proofs.Nodes.{toSecond}
 use Rattle.reach.proofs.Answers.{none-asked, leaf-made, one-moves, one-still, one-sums, first-moves, plain-moves, over-moves, members-end}
 use Rattle.reach.proofs.moved.Reads as moved
 use Rattle.reach.proofs.moved.Kinds as moved-kinds
@@ -241,7 +240,7 @@ module _ (t : ℕ) where
   passed-second c = c .pass .ensures (op (able (pass-start c))) (coded-field (pass-field c))
 
   to-second : (c : Pass) (k : Change) → Marks (pass-start c) k → let s = pass-start c in
-      c .pass .result ≡ toSecond k (s .args .set) (op (able s)) (codeAt (site s) (s .args .at .1)) (rowsAt (site s) (s .args .at .1 - 1)) (formAt (site s) (s .args .at .1 - 1))
+      c .pass .result ≡ toSecond (k .schema) (s .args .set) (op (able s)) (codeAt (site s) (s .args .at .1)) (rowsAt (site s) (s .args .at .1 - 1)) (formAt (site s) (s .args .at .1 - 1))
   to-second c k marks =
       let s = pass-start c in
       let h = positive (able s) in
