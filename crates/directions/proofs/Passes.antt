@@ -1,7 +1,7 @@
 -- The directions of a part by its form's, from the entries of the table.
 use Prim.Native.Nat.{ℕ, zero, suc, _+_, _*_, _<_}
 use mathlib.Core.Path.{_≡_, refl, sym, ap, _∙_}
-use mathlib.Core.Bool.{Bool, _&&_, cond}
+use mathlib.Core.Bool.{Bool, cond}
 use mathlib.Core.List.{List, [], _∷_, _++_}
 use mathlib.Core.Option.{Option, none, some}
 use native.Mathlib.Omega.{arith}
@@ -111,5 +111,5 @@ small-last (some same) = tt
 small-last (some reversed) = tt
 small-last (some either) = tt
 
-pub pass-small : (floored : Bool) (o : Operator) (i : ℕ) → getD (passRow floored o) i 0 < 4
-pass-small floored o = small-at (passRow floored o) (small-sets (firstPassing o) (setsOf (secondPassing floored o)) (small-last (secondPassing floored o)))
+pub pass-small : (floored : Bool) (o : Operator) (part set : ℕ) → getD (passRow floored o) (part * 4 + set) 0 < 4
+pass-small floored o part set = small-at (passRow floored o) (small-sets (firstPassing o) (setsOf (secondPassing floored o)) (small-last (secondPassing floored o))) (part * 4 + set)

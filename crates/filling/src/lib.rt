@@ -53,7 +53,8 @@ pub fn clear_all(
     links: &mut [u32],
     events: &mut [u32],
 )
-    ensures { λ _. ⌜ sheetOf (now (types .exit)) (now (floors .exit)) (now (relationships .exit)) (now (rules .exit)) (now (bodies .exit)) (now (objects .exit)) (now (links .exit)) (now (events .exit)) ≡ sheetWith [] (sheetOf (now (types .entry)) (now (floors .entry)) (now (relationships .entry)) (now (rules .entry)) (now (bodies .entry)) (now (objects .entry)) (now (links .entry)) (now (events .entry))) ⌝ }
+    ensures { λ _. ⌜ sheetOf (now (types .exit)) (now (floors .exit)) (now (relationships .exit)) (now (rules .exit)) (now (bodies .exit)) (now (objects .exit)) (now (links .exit)) (now (events .exit))
+        ≡ sheetWith [] (sheetOf (now (types .entry)) (now (floors .entry)) (now (relationships .entry)) (now (rules .entry)) (now (bodies .entry)) (now (objects .entry)) (now (links .entry)) (now (events .entry))) ⌝ }
 {
     clear(types);
     clear(floors);

@@ -1,21 +1,21 @@
 -- What a form lists, by its row and its parts.
 use Prim.Native.Nat.{ℕ, suc, _+_, _*_, _<_}
 use mathlib.Core.Path.{_≡_, refl, sym, ap, ap₂, _∙_}
-use mathlib.Core.Bool.{Bool, true, false, _||_, cond, or-false, or-comm, or-assoc}
+use mathlib.Core.Bool.{Bool, false, _||_, cond, or-comm, or-assoc}
 use mathlib.Core.List.{List, [], _∷_, _++_}
 use mathlib.Core.Option.{some}
 use lib.Dec.{T, eqb}
 use lib.ListN.{getD}
 use borrow.Author.Tests.{eq-eqb, ne-eqb}
-use Rattle.meaning.specs.Lists.{any, sameList}
+use Rattle.meaning.specs.Lists.{sameList}
 use Rattle.meaning.specs.Schema.{Schema}
-use Rattle.meaning.specs.Forms.{Sort, truth, number, collection, Form, bind, variable, memberType}
+use Rattle.meaning.specs.Forms.{Sort, truth, collection, Form, bind, memberType}
 use Rattle.meaning.specs.Reach.{Direction, up, down, Passing, same, reversed, either, through, leftOf, rightOf, negated, firstTruth, secondTruth, sourceOf, atMember, counted, chosenFrom, firstTerm, secondTerm, sumSource, flooredSum}
 use Rattle.meaning.specs.EventList.{EventType, setOf, eventTypeWords, lists}
 use Rattle.tables.specs.Codes.{Operator, comparing, negating, connecting, quantifying, kindOf, literal, cellOf, sizeOf, sumOf, combining, roleOf, allOf, selecting, codeOf, shapeOf}
 use Rattle.tables.specs.Bodies.{BodyRow, Part, part, asTruth, asNumber, asCollection, formOf, ending, firstPart, secondPart}
 use Rattle.tables.proofs.Readings.{node, code-of, sorted, sorted-parts, is-truth, is-number, is-collection}
-use Rattle.directions.specs.Sets.{someOf, passed}
+use Rattle.directions.specs.Sets.{passed}
 use Rattle.direction_table.specs.Entries.{firstPassing, secondPassing}
 use Rattle.directions.specs.Passes.{passRow}
 use Rattle.directions.proofs.Sets.{through-some, some-or, some-same}
@@ -25,7 +25,6 @@ use Rattle.typing.specs.Types.{memberOf, flooredAt}
 use Rattle.typing.proofs.Types.{operatorHere, partsHere}
 use Rattle.type_marks.specs.Marks.{wordsAt, marked}
 use Rattle.type_marks.specs.Lists.{partLists, markedBy, partMarks, leafLists, sumMarks}
-use Rattle.type_marks.proofs.Marks.{none-listed}
 
 module _ (place : ℕ) where
   abbrev hit : EventType → Bool

@@ -1,9 +1,8 @@
 -- What the forward rule answers of a form, by what it answers of the parts that the code looked at.
 use Prim.Native.Nat.{ℕ, suc, _-_, _<_}
 use mathlib.Core.Path.{_≡_, refl, sym, ap, ap₂, _∙_}
-use mathlib.Core.Bool.{Bool, true, false, _||_, cond}
+use mathlib.Core.Bool.{Bool, true, false, _||_}
 use mathlib.Core.List.{List}
-use lib.Dec.{eqb}
 use lib.ListN.{getD}
 use borrow.Author.Tests.{eq-eqb, ne-eqb}
 use native.Mathlib.Omega.{arith}
@@ -11,11 +10,11 @@ use Rattle.meaning.specs.Lists.{any}
 use Rattle.meaning.specs.Schema.{Schema}
 use Rattle.meaning.specs.Meaning.{meaning}
 use Rattle.meaning.specs.Reach.{Change, cellMoves}
-use Rattle.tables.specs.Bodies.{Part, asCollection, ending, firstPart, secondPart}
+use Rattle.tables.specs.Bodies.{asCollection, ending, firstPart}
 use Rattle.directions.specs.Sets.{someOf}
 use Rattle.body_rows.specs.Marks.{firstSort, secondSort}
 use Rattle.form_marks.proofs.Nodes.{passTo, toSecond}
-use Rattle.walks.specs.Site.{Site, typesAt, registerAt, rowsAt, formAt, codeAt, idsOf}
+use Rattle.walks.specs.Site.{Site, rowsAt, formAt, codeAt, idsOf}
 use Rattle.walks.specs.Values.{membersOf}
 use Rattle.trace_places.specs.Traces.{Traced}
 use Rattle.reach.specs.Moves.{movedBy, leafMoves, movesAt, movesOver}

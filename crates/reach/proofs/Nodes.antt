@@ -1,23 +1,22 @@
 -- Whether a form moves, by its row and its parts.
-use Prim.Native.Nat.{ℕ, zero, suc, _+_, _*_, _<_}
+use Prim.Native.Nat.{ℕ, zero, suc, _<_}
 use mathlib.Core.Path.{_≡_, refl, sym, ap, ap₂, _∙_}
-use mathlib.Core.Bool.{Bool, true, false, _&&_, _||_, cond, or-false, or-self}
+use mathlib.Core.Bool.{Bool, false, _||_, cond, or-false, or-self}
 use mathlib.Core.List.{List, [], _∷_}
 use mathlib.Core.Option.{some}
 use native.Mathlib.Omega.{arith}
 use lib.Dec.{T, eqb}
-use lib.ListN.{getD}
 use borrow.Author.Tests.{eq-eqb, ne-eqb}
 use Rattle.meaning.specs.Lists.{any}
-use Rattle.meaning.specs.Forms.{Sort, truth, number, collection, Form, bind, variable}
+use Rattle.meaning.specs.Forms.{Sort, truth, collection, Form, bind}
 use Rattle.meaning.specs.Meaning.{meaning}
-use Rattle.meaning.specs.Reach.{Change, Direction, up, down, Passing, through, leftOf, rightOf, negated, firstTruth, secondTruth, sourceOf, atMember, counted, chosenFrom, firstTerm, secondTerm, sumSource, flooredSum, cellMoves, moves}
+use Rattle.meaning.specs.Reach.{Change, Direction, Passing, through, leftOf, rightOf, negated, firstTruth, secondTruth, sourceOf, atMember, counted, chosenFrom, firstTerm, secondTerm, sumSource, flooredSum, cellMoves, moves}
 use Rattle.tables.specs.Codes.{Operator, comparing, negating, connecting, quantifying, kindOf, literal, cellOf, sizeOf, sumOf, combining, roleOf, allOf, selecting, codeOf, shapeOf}
 use Rattle.tables.specs.Bodies.{BodyRow, Part, part, asTruth, asNumber, asCollection, formOf, ending, firstPart, secondPart}
 use Rattle.tables.proofs.Readings.{node, code-of, sorted, sorted-parts, is-truth, is-number, is-collection}
-use Rattle.directions.specs.Sets.{someOf, passed}
+use Rattle.directions.specs.Sets.{someOf}
 use Rattle.direction_table.specs.Entries.{firstPassing, secondPassing}
-use Rattle.directions.proofs.Sets.{through-some, some-or, some-same}
+use Rattle.directions.proofs.Sets.{through-some, some-or}
 use Rattle.directions.proofs.Passes.{first-passed, second-passed}
 use Rattle.body_rows.specs.Marks.{firstSort, secondSort}
 use Rattle.typing.specs.Types.{memberOf}

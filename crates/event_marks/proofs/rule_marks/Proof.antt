@@ -1,12 +1,11 @@
 -- `event_marks::rule_marks` meets its contract, by the laws of Rules.
-use Prim.Native.Nat.{ℕ, _+_, _≤_, _<_}
-use mathlib.Core.Path.{_≡_, refl, sym, ap, subst, _∙_}
-use mathlib.Core.List.{List}
+use Prim.Native.Nat.{ℕ}
+use mathlib.Core.Path.{_≡_, refl, sym, subst}
 use native.Mathlib.Omega.{arith}
 use lib.Dec.{T}
 use borrow.Author.Needs.{needs}
 use Rattle.meaning.specs.Schema.{Schema}
-use Rattle.tables.specs.Bodies.{BodyRow, wholeBody, readBody, ending}
+use Rattle.tables.specs.Bodies.{BodyRow, wholeBody, readBody}
 use Rattle.tables.specs.Columns.{ruleRow, floorsOf, schemaOf}
 use Rattle.tables.proofs.Forms.{WholeBody, whole-body}
 use Rattle.body_rows.specs.Marks.{bodyOf}

@@ -2,7 +2,7 @@
 -- The measure is where the form ends: each part ends before its form's row.
 use Prim.Native.Nat.{ℕ, suc, _-_, _+_, _≤_, _<_}
 use mathlib.Core.Path.{_≡_, sym, ap, ap₂, subst, _∙_}
-use mathlib.Core.Bool.{Bool, true, false, _||_}
+use mathlib.Core.Bool.{Bool, false, _||_}
 use mathlib.Core.List.{List, []}
 use mathlib.Core.Option.{some}
 use native.Mathlib.Omega.{arith}
@@ -230,7 +230,7 @@ module _ (t : ℕ) where
       passed-second c ∙ ap (λ b. passTo b (s .args .set) (op s) 1) (floored .each (row s) (omega arith))
 
   second-set : (c : Pass) → c .pass .result < 4
-  second-set c = let s = pass-start c in subst (λ k. k < 4) (sym (passed-second c)) (pass-small (floored-here s) (op s) _)
+  second-set c = let s = pass-start c in subst (λ k. k < 4) (sym (passed-second c)) (pass-small (floored-here s) (op s) 1 (s .args .set))
 
   to-first : (c : Pass2) → let s = two-start (pass2-two c) in c .pass2 .result ≡ passTo false (s .args .set) (op s) 0
   to-first c = let two = pass2-two c in c .pass2 .ensures (op (two-start two)) (coded (pass-field (two-pass two)))
@@ -421,7 +421,7 @@ module _ (t : ℕ) where
           s .pre .1 .2,
           omega arith,
           s .pre .1 .4,
-          subst (λ k. k < 4) (sym (to-first (c .before))) (pass-small false (op s) _),
+          subst (λ k. k < 4) (sym (to-first (c .before))) (pass-small false (op s) 0 (s .args .set)),
         ),
       )
 

@@ -231,7 +231,7 @@ module _ (t : ℕ) where
       passed-second c ∙ ap (λ floored. passTo floored (s .args .set) (op (able s)) 1) (marks .each (s .args .at .1 - 1) (omega arith))
 
   second-set : (c : Pass) → c .pass .result < 4
-  second-set c = subst (λ k. k < 4) (sym (passed-second c)) (pass-small (floored-here (pass-start c)) (op (able (pass-start c))) _)
+  second-set c = subst (λ k. k < 4) (sym (passed-second c)) (pass-small (floored-here (pass-start c)) (op (able (pass-start c))) 1 (pass-start c .args .set))
 
   first : (c : Shape2) → c .shape2 .result ≡ firstSort (sorts (able (shape2-start c)))
   first c = c .shape2 .ensures (op (able (shape2-start c))) (coded-field (pass-field (c .before)))
@@ -375,7 +375,8 @@ module _ (t : ℕ) where
       let s = pass-start pass in (
         below-then (call .back .ensures .0) (sum .members .ensures .0),
         λ k traced marks.
-            sum-covers (able s) k (s .args .set) (some-set (asked-of pass)) (small s) (now (s .args .objects)) (s .args .n .objects) (second-some (pass-parts pass)) (to-second pass k marks) (first-none one) (is-sum .before .if4 .left) (call .back .ensures .1 k traced (part-marks s k marks)) (few s) (code-is pass) (is-sum .if5 .left) (x-is pass) (sum .members .ensures .0) (sum .members .ensures .1 k traced),
+            sum-covers (able s) k (s .args .set) (some-set (asked-of pass)) (small s) (now (s .args .objects)) (s .args .n .objects) (second-some (pass-parts pass)) (to-second pass k marks) (first-none one) (is-sum .before .if4 .left)
+            (call .back .ensures .1 k traced (part-marks s k marks)) (few s) (code-is pass) (is-sum .if5 .left) (x-is pass) (sum .members .ensures .0) (sum .members .ensures .1 k traced),
       )
 
   back-mul-if7 : back-lts.Need-mul-if7 (back-calls t) (back-at t) back.Post
@@ -393,7 +394,7 @@ module _ (t : ℕ) where
       let s = two-start two in
       let below = first-low (able s) (second-some (pass-parts (two-pass two))) (first-some two) in (
         omega (arith, s .pre .0),
-        (walk s _ (first-able (able s) (second-some (pass-parts (two-pass two))) (first-some two)), s .pre .1 .1, subst (λ k. k < 4) (sym (to-first (c .before))) (pass-small false (op (able s)) _), s .pre .1 .3),
+        (walk s _ (first-able (able s) (second-some (pass-parts (two-pass two))) (first-some two)), s .pre .1 .1, subst (λ k. k < 4) (sym (to-first (c .before))) (pass-small false (op (able s)) 0 (s .args .set)), s .pre .1 .3),
       )
 
   back-same-length-5 : back-lts.Need-same-length-5 (back-calls t) (back-at t) back.Post

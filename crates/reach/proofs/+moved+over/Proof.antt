@@ -1,6 +1,6 @@
 -- The forward rule meets its contract. The measure is twice the row where the form ends: `over` keeps the row and lies below `moved`, which
 -- calls it; every other call is of a part, which ends before.
-use Prim.Native.Nat.{ℕ, _+_, _-_, _≤_, _<_}
+use Prim.Native.Nat.{ℕ, _+_, _-_, _<_}
 use mathlib.Core.Path.{_≡_, refl, sym, ap, subst, _∙_}
 use mathlib.Core.Bool.{Bool, false}
 use mathlib.Core.List.{List}
@@ -16,8 +16,7 @@ use Rattle.meaning.specs.Lists.{any}
 use Rattle.meaning.specs.Schema.{Schema}
 use Rattle.meaning.specs.Forms.{collection, bind}
 use Rattle.meaning.specs.Reach.{Change, cellMoves}
-use Rattle.tables.specs.Codes.{Operator, operatorOf}
-use Rattle.tables.specs.Bodies.{reads, ending}
+use Rattle.tables.specs.Codes.{operatorOf}
 use Rattle.body_rows.specs.Marks.{firstSort, secondSort}
 use Rattle.typing.specs.Types.{FlooredRows}
 use Rattle.typing.proofs.Types.{code-here, sums-here}
@@ -25,14 +24,13 @@ use Rattle.typing.proofs.Floors.{rows-less}
 use Rattle.directions.proofs.Passes.{pass-small}
 use Rattle.form_marks.proofs.Nodes.{passTo, toSecond}
 use Rattle.walks.specs.Site.{Site, siteOf, rowsAt, formAt, codeAt, idIn, idsOf}
-use Rattle.walks.specs.Values.{membersOf}
 use Rattle.walks.specs.Walks.{leftAt, Stands}
 use Rattle.walks.proofs.Steps.{fewer-left}
 use Rattle.ocl.proofs.Variables.{one-more}
-use Rattle.trace_places.specs.Traces.{Traced, Traces}
+use Rattle.trace_places.specs.Traces.{Traced}
 use Rattle.reach.specs.Moves.{movedBy, movesAt, movesOver}
 use Rattle.reach.specs.Able.{Able, LeafAble, OverAble}
-use Rattle.reach.proofs.Abilities.{positive, whole, last-sound, op, sorts, coded, ready, leaf-able, deep, one-able, first-low, first-able, plain-able, over-able}
+use Rattle.reach.proofs.Abilities.{positive, last-sound, op, sorts, coded, ready, leaf-able, deep, one-able, first-low, first-able, plain-able, over-able}
 use Rattle.reach.proofs.Members.{Left, any-starts, any-ends, any-stops, any-goes-on}
 use Rattle.reach.proofs.Answers.{none-asked, leaf-made, one-moves, one-still, one-sums, first-moves, plain-moves, over-moves, members-end}
 use Rattle.reach.proofs.moved.Reads as moved
@@ -247,7 +245,7 @@ module _ (t : ℕ) where
       passed-second c ∙ ap (λ floored. passTo floored (s .args .set) (op (able s)) 1) (marks .each (s .args .at .1 - 1) (omega arith))
 
   second-set : (c : Pass) → c .pass .result < 4
-  second-set c = subst (λ k. k < 4) (sym (passed-second c)) (pass-small (floored-here (pass-start c)) (op (able (pass-start c))) _)
+  second-set c = subst (λ k. k < 4) (sym (passed-second c)) (pass-small (floored-here (pass-start c)) (op (able (pass-start c))) 1 (pass-start c .args .set))
 
   first : (c : Shape2) → c .shape2 .result ≡ firstSort (sorts (able (shape2-start c)))
   first c = c .shape2 .ensures (op (able (shape2-start c))) (coded-field (pass-field (c .before)))
@@ -384,7 +382,7 @@ module _ (t : ℕ) where
       let s = two-start two in
       let below = first-low (able s) (second-some (pass-parts (two-pass two))) (first-some two) in (
         omega (arith, s .pre .0),
-        ((schema s, first-able (able s) (second-some (pass-parts (two-pass two))) (first-some two)), s .pre .1 .1, subst (λ k. k < 4) (sym (to-first c)) (pass-small false (op (able s)) _)),
+        ((schema s, first-able (able s) (second-some (pass-parts (two-pass two))) (first-some two)), s .pre .1 .1, subst (λ k. k < 4) (sym (to-first c)) (pass-small false (op (able s)) 0 (s .args .set))),
       )
 
   moved-returns-6 : moved-lts.Need-returns-6 (moved-calls t) (moved-at t) moved.Post
@@ -415,7 +413,8 @@ module _ (t : ℕ) where
       let two = first-two call in
       let s = two-start two in
       λ k traced marks.
-      plain-moves (able s) k (s .args .set) (some-set (asked-of (two-pass two))) (small s) (second-some (pass-parts (two-pass two))) (to-second (two-pass two) k marks) (first-some two) refl (to-first (call .before)) (call .moved2 .ensures k traced (first-marks two k marks)) (shape .before .if6 .left) (λ q. c .before .if7 .taken (binds shape ∙ q)) (c .moved3 .ensures k traced (part-marks s k marks))
+      plain-moves (able s) k (s .args .set) (some-set (asked-of (two-pass two))) (small s) (second-some (pass-parts (two-pass two))) (to-second (two-pass two) k marks) (first-some two) refl (to-first (call .before))
+      (call .moved2 .ensures k traced (first-marks two k marks)) (shape .before .if6 .left) (λ q. c .before .if7 .taken (binds shape ∙ q)) (c .moved3 .ensures k traced (part-marks s k marks))
 
   moved-over-requires : moved-lts.Need-over-requires (moved-calls t) (moved-at t) moved.Post
   moved-over-requires c κs =
