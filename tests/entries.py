@@ -15,12 +15,12 @@ SOURCE = 'crates/direction_table/src/lib.rt'
 THEOREM = 'proofs/table/Proof.antt'
 VALUES = ['NONE', 'UP', 'DOWN', 'BOTH']
 PLACES = ['first up', 'first down', 'second up', 'second down']
-ROW = re.compile(r'^    \[\[(\w+), (\w+)\], \[(\w+), (\w+)\]\], // (.+)$', re.M)
+ROW = re.compile(r'^    \[(\w+), (\w+), (\w+), (\w+)\], // (.+)$', re.M)
 SAID = re.compile(r'^rt: must-fail direction_table/(\w+): (.*)$', re.M)
 
 
 def line(entries, form):
-    return '    [[{}, {}], [{}, {}]], // {}'.format(*entries, form)
+    return '    [{}, {}, {}, {}], // {}'.format(*entries, form)
 
 
 def changes(text):

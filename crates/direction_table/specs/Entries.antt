@@ -62,13 +62,13 @@ abbrev pub entriesOf : Option Passing → List ℕ
 entriesOf p = entryOf p up ∷ entryOf p down ∷ []
 
 -- the entries of a form
-abbrev pub formRow : Bool → Operator → List (List ℕ)
-formRow floored o = entriesOf (firstPassing o) ∷ entriesOf (secondPassing floored o) ∷ []
+abbrev pub formRow : Bool → Operator → List ℕ
+formRow floored o = entriesOf (firstPassing o) ++ entriesOf (secondPassing floored o)
 
 -- a form's number: its operator's code, and the next for a sum over a floored cell, which is a form of its own
 abbrev pub formNumber : ℕ → Bool → ℕ
 formNumber code floored = cond (floored && eqb code 17) 23 code
 
 -- the forms in the order of their numbers
-abbrev pub ruleTable : List (List (List ℕ))
+abbrev pub ruleTable : List (List ℕ)
 ruleTable = map (formRow false) operators ++ formRow true sumOf ∷ []

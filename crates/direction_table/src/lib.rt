@@ -1,7 +1,7 @@
 // Which way a movement passes from a part to its form: one table, by form, part and direction, and nothing else says a direction.
 ghost use mathlib.Core.Path.{_≡_};
 ghost use mathlib.Core.List.{[]};
-ghost use Prim.Native.Nat.{_<_};
+ghost use Prim.Native.Nat.{_+_, _*_, _<_};
 ghost use lib.ListN.{getD};
 ghost use Rattle.direction_table.specs.Entries.{ruleTable};
 
@@ -16,35 +16,35 @@ const BOTH: u32 = 3;
 
 // For each form, by its code, and then for a sum over a floored cell: of its first part, and then of its second, the directions that
 // move the form up, and those that move it down. A form of one part has the second.
-const PASSES: [[[u32; 2]; 2]; 24] = [
-    [[DOWN, UP], [UP, DOWN]], // le
-    [[DOWN, UP], [UP, DOWN]], // lt
-    [[BOTH, BOTH], [BOTH, BOTH]], // eq
-    [[BOTH, BOTH], [BOTH, BOTH]], // ne
-    [[UP, DOWN], [DOWN, UP]], // ge
-    [[UP, DOWN], [DOWN, UP]], // gt
-    [[NONE, NONE], [DOWN, UP]], // not
-    [[UP, DOWN], [UP, DOWN]], // and
-    [[UP, DOWN], [UP, DOWN]], // or
-    [[BOTH, BOTH], [BOTH, BOTH]], // xor
-    [[DOWN, UP], [UP, DOWN]], // implies
-    [[DOWN, UP], [UP, DOWN]], // forall
-    [[UP, DOWN], [UP, DOWN]], // exists
-    [[NONE, NONE], [NONE, NONE]], // kind
-    [[NONE, NONE], [NONE, NONE]], // num
-    [[NONE, NONE], [NONE, NONE]], // cell
-    [[NONE, NONE], [UP, DOWN]], // size
-    [[NONE, NONE], [BOTH, BOTH]], // sum
-    [[UP, DOWN], [UP, DOWN]], // add
-    [[UP, DOWN], [DOWN, UP]], // sub
-    [[NONE, NONE], [NONE, NONE]], // role
-    [[NONE, NONE], [NONE, NONE]], // all
-    [[UP, DOWN], [UP, DOWN]], // select
-    [[NONE, NONE], [UP, DOWN]], // sum over a floored cell
+const PASSES: [[u32; 4]; 24] = [
+    [DOWN, UP, UP, DOWN], // le
+    [DOWN, UP, UP, DOWN], // lt
+    [BOTH, BOTH, BOTH, BOTH], // eq
+    [BOTH, BOTH, BOTH, BOTH], // ne
+    [UP, DOWN, DOWN, UP], // ge
+    [UP, DOWN, DOWN, UP], // gt
+    [NONE, NONE, DOWN, UP], // not
+    [UP, DOWN, UP, DOWN], // and
+    [UP, DOWN, UP, DOWN], // or
+    [BOTH, BOTH, BOTH, BOTH], // xor
+    [DOWN, UP, UP, DOWN], // implies
+    [DOWN, UP, UP, DOWN], // forall
+    [UP, DOWN, UP, DOWN], // exists
+    [NONE, NONE, NONE, NONE], // kind
+    [NONE, NONE, NONE, NONE], // num
+    [NONE, NONE, NONE, NONE], // cell
+    [NONE, NONE, UP, DOWN], // size
+    [NONE, NONE, BOTH, BOTH], // sum
+    [UP, DOWN, UP, DOWN], // add
+    [UP, DOWN, DOWN, UP], // sub
+    [NONE, NONE, NONE, NONE], // role
+    [NONE, NONE, NONE, NONE], // all
+    [UP, DOWN, UP, DOWN], // select
+    [NONE, NONE, UP, DOWN], // sum over a floored cell
 ];
 
 // The table, whole. The reach rules are proved of it at once: the prover computes that it is theirs, unused entries and all.
-fn table() -> [[[u32; 2]; 2]; 24]
+fn table() -> [[u32; 4]; 24]
     ensures { λ r. ⌜ r ≡ ruleTable ⌝ }
 {
     PASSES
@@ -53,11 +53,10 @@ fn table() -> [[[u32; 2]; 2]; 24]
 // The directions of a part that move its form in a direction, 0 for up and 1 for down.
 pub fn entry(form: u32, part: u32, direction: u32) -> u32
     requires { ⌜ (form < 24) × (part < 2) × (direction < 2) ⌝ }
-    ensures { λ r. ⌜ r ≡ getD (getD (getD ruleTable form []) part []) direction 0 ⌝ }
+    ensures { λ r. ⌜ r ≡ getD (getD ruleTable form []) (part * 2 + direction) 0 ⌝ }
 {
     let row = form as usize;
-    let which = part as usize;
-    let way = direction as usize;
+    let at = (part * 2 + direction) as usize;
     let passes = table();
-    passes[row][which][way]
+    passes[row][at]
 }

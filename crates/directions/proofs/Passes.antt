@@ -74,13 +74,13 @@ entries-passed p (suc (suc (suc (suc set)))) h = absurd (omega arith)
 
 -- The entries that are asked for, at the number of a form and of its part, are the directions of the part.
 pub asked-passed : (code : ℕ) (floored : Bool) (part set : ℕ) {form : ℕ} → form ≡ formNumber code floored → (o : Operator) → (code < 23) × (part < 2) × (set < 4) → operatorOf code ≡ some o
-    → bitOr (cond (holdsOne set 1) (getD (getD (getD ruleTable form []) part []) 0 0) 0) (cond (holdsOne set 2) (getD (getD (getD ruleTable form []) part []) 1 0) 0)
+    → bitOr (cond (holdsOne set 1) (getD (getD ruleTable form []) (part * 2 + 0) 0) 0) (cond (holdsOne set 2) (getD (getD ruleTable form []) (part * 2 + 1) 0) 0)
     ≡ getD (passRow floored o) (part * 4 + set) 0
 asked-passed code floored part set {form} numbered o (low, two, four) e =
     ap (λ row. put row part) (ap (λ k. getD ruleTable k []) numbered ∙ rules-at code floored o low e) ∙ of-part part two
   where
-    put : List (List ℕ) → ℕ → ℕ
-    put row i = bitOr (cond (holdsOne set 1) (getD (getD row i []) 0 0) 0) (cond (holdsOne set 2) (getD (getD row i []) 1 0) 0)
+    put : List ℕ → ℕ → ℕ
+    put row i = bitOr (cond (holdsOne set 1) (getD row (i * 2 + 0) 0) 0) (cond (holdsOne set 2) (getD row (i * 2 + 1) 0) 0)
 
     of-part : (i : ℕ) → i < 2 → put (formRow floored o) i ≡ getD (passRow floored o) (i * 4 + set) 0
     of-part zero h = entries-passed (firstPassing o) set four ∙ sym (first-at floored o set four)

@@ -61,7 +61,7 @@ fn form_of(code: u32, floored: bool) -> u32
 // The directions of a part that move its form in a direction, UP or DOWN, if that is in the set.
 fn asked(set: u32, direction: u32, form: u32, part: u32) -> u32
     requires { ⌜ (0 < direction) × (direction < 3) × (form < 24) × (part < 2) ⌝ }
-    ensures { λ r. ⌜ r ≡ cond (holdsOne set direction) (getD (getD (getD ruleTable form []) part []) (direction - 1) 0) 0 ⌝ }
+    ensures { λ r. ⌜ r ≡ cond (holdsOne set direction) (getD (getD ruleTable form []) (part * 2 + (direction - 1)) 0) 0 ⌝ }
 {
     if contains(set, direction) {
         direction_table::entry(form, part, direction - 1)

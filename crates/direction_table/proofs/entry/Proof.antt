@@ -2,9 +2,19 @@
 use mathlib.Core.Path.{ap}
 use mathlib.Core.List.{[]}
 use borrow.Author.Needs.{needs}
+use Prim.Native.Nat.{_+_, _*_}
 use lib.ListN.{getD}
 use Rattle.direction_table.proofs.entry.Statement.{statement}
 use Rattle.direction_table.proofs.entry.Tie as tie
+
+mul-at : tie.Need-mul-at
+mul-at c = search needs
+
+add-at : tie.Need-add-at
+add-at c = search needs
+
+cast-at : tie.Need-cast-at
+cast-at c = search needs
 
 table-requires : tie.Need-table-requires
 table-requires c κs = search needs
@@ -15,24 +25,16 @@ mul-result c = search needs
 mul-result-2 : tie.Need-mul-result-2
 mul-result-2 c = search needs
 
-mul-result-3 : tie.Need-mul-result-3
-mul-result-3 c = search needs
-
 index-1-result : tie.Need-index-1-result
 index-1-result c = search needs
 
 index-2-result : tie.Need-index-2-result
 index-2-result c = search needs
 
-index-3-result : tie.Need-index-3-result
-index-3-result c = search needs
-
 returns : tie.Need-returns
 returns c =
     let a = c .before .before .args in
-    ap (λ t. getD (getD (getD t (a .form) []) (a .part) []) (a .direction) 0) (c .before .table .ensures)
+    ap (λ t. getD (getD t (a .form) []) (a .part * 2 + a .direction) 0) (c .before .table .ensures)
 
 pub entry-spec : {M : Type 1} → statement M
-entry-spec =
-    tie.close
-    (tie.spec table-requires mul-result mul-result-2 mul-result-3 index-1-result index-2-result index-3-result returns)
+entry-spec = tie.close (tie.spec mul-at add-at cast-at table-requires mul-result mul-result-2 index-1-result index-2-result returns)
