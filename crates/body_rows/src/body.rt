@@ -17,7 +17,7 @@ pub const NONE: u32 = 3;
 
 // For each operator, by its code: the sort that it makes, the sorts of its first and its second part (an operator of one part has
 // the second), and how many fields it uses.
-const SHAPES: [[u32; 4]; 23] = [
+const SHAPES: [[u8; 4]; 23] = [
     [0, 1, 1, 0], // le
     [0, 1, 1, 0], // lt
     [0, 1, 1, 0], // eq
@@ -58,14 +58,22 @@ pub struct Spans {
     pub mark: u32,
 }
 
-// A column of the shape of an operator.
-pub fn shape(code: u32, column: u32) -> u32
+// A column of an operator's row. The table is of bytes, since it is set up anew wherever it is read.
+fn stored(code: u32, column: u32) -> u8
     requires { ⌜ (code < 23) × (column < 4) ⌝ }
     ensures { λ r. ⌜ ((o : Operator) → operatorOf code ≡ some o → r ≡ shapeWord (shapeOf o) column) ⌝ }
 {
     let row = code as usize;
     let at = column as usize;
     SHAPES[row][at]
+}
+
+// A column of the shape of an operator.
+pub fn shape(code: u32, column: u32) -> u32
+    requires { ⌜ (code < 23) × (column < 4) ⌝ }
+    ensures { λ r. ⌜ ((o : Operator) → operatorOf code ≡ some o → r ≡ shapeWord (shapeOf o) column) ⌝ }
+{
+    stored(code, column) as u32
 }
 
 // A word of a row of a rule's body, 0 past the table's end. A rule has 64 rows of four words.

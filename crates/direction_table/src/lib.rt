@@ -6,17 +6,17 @@ ghost use lib.ListN.{getD};
 ghost use Rattle.direction_table.specs.Entries.{ruleTable};
 
 // Sets of directions. UP: may turn true, rise, gain. DOWN: may turn false, fall, lose. An entry that is not used is NONE.
-const NONE: u32 = 0;
+const NONE: u8 = 0;
 
-const UP: u32 = 1;
+const UP: u8 = 1;
 
-const DOWN: u32 = 2;
+const DOWN: u8 = 2;
 
-const BOTH: u32 = 3;
+const BOTH: u8 = 3;
 
 // For each form, by its code, and then for a sum over a floored cell: of its first part, and then of its second, the directions that
-// move the form up, and those that move it down. A form of one part has the second.
-const PASSES: [[u32; 4]; 24] = [
+// move the form up, and those that move it down. A form of one part has the second. It is of bytes, since it is set up anew wherever it is read.
+const PASSES: [[u8; 4]; 24] = [
     [DOWN, UP, UP, DOWN], // le
     [DOWN, UP, UP, DOWN], // lt
     [BOTH, BOTH, BOTH, BOTH], // eq
@@ -44,14 +44,14 @@ const PASSES: [[u32; 4]; 24] = [
 ];
 
 // The table, whole. The reach rules are proved of it at once: the prover computes that it is theirs, unused entries and all.
-fn table() -> [[u32; 4]; 24]
+fn table() -> [[u8; 4]; 24]
     ensures { λ r. ⌜ r ≡ ruleTable ⌝ }
 {
     PASSES
 }
 
 // The directions of a part that move its form in a direction, 0 for up and 1 for down.
-pub fn entry(form: u32, part: u32, direction: u32) -> u32
+pub fn entry(form: u32, part: u32, direction: u32) -> u8
     requires { ⌜ (form < 24) × (part < 2) × (direction < 2) ⌝ }
     ensures { λ r. ⌜ r ≡ getD (getD ruleTable form []) (part * 2 + direction) 0 ⌝ }
 {

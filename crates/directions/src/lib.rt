@@ -64,7 +64,7 @@ fn asked(set: u32, direction: u32, form: u32, part: u32) -> u32
     ensures { λ r. ⌜ r ≡ cond (holdsOne set direction) (getD (getD ruleTable form []) (part * 2 + (direction - 1)) 0) 0 ⌝ }
 {
     if contains(set, direction) {
-        direction_table::entry(form, part, direction - 1)
+        direction_table::entry(form, part, direction - 1) as u32
     } else {
         0
     }

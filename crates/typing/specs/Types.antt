@@ -21,8 +21,11 @@ abbrev pub summed : Schema → ℕ → ℕ → Part → Bool
 summed S code x p = cond (eqb code 17) (ltb x (cellsOf (S .types) (memberOf (S .relationships) p))) true
 
 -- a sum is over a floored cell; what is no sum is over none
+abbrev pub flooredOver : Schema → ℕ → Part → Bool
+flooredOver S x p = floored (S .types) (S .floors) (memberOf (S .relationships) p) x
+
 abbrev pub flooredAt : Schema → ℕ → ℕ → Part → Bool
-flooredAt S code x p = eqb code 17 && floored (S .types) (S .floors) (memberOf (S .relationships) p) x
+flooredAt S code x p = eqb code 17 && flooredOver S x p
 
 -- of the first e rows of a body, the marks say which are sums over a floored cell
 pub record FlooredRows (S : Schema) (rows : ℕ → BodyRow) (e : ℕ) (floored : List Bool) : Type 0 where

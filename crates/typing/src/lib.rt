@@ -14,7 +14,7 @@ ghost use Rattle.meaning.specs.Forms.{collection};
 ghost use Rattle.tables.specs.Bodies.{reads, ending, wholeBody};
 ghost use Rattle.tables.specs.Columns.{floorsOf, relationshipsOf, schemaOf};
 ghost use Rattle.body_rows.specs.Marks.{bodyOf, Starts};
-ghost use Rattle.typing.specs.Types.{typedPart, memberOf, summed, flooredAt, FlooredRows, typedLeaf};
+ghost use Rattle.typing.specs.Types.{typedPart, memberOf, summed, flooredOver, FlooredRows, typedLeaf};
 
 // The codes of operators.
 const KIND: u32 = 13;
@@ -120,7 +120,7 @@ fn summable(
     x < schema::cells_of(at.types, types, member)
 }
 
-// Whether a row is a sum over a collection's floored cell; what is no sum is none.
+// Whether a cell of a collection's members is floored.
 fn floored_sum(
     types: &[u32],
     floors: &[u32],
@@ -128,17 +128,13 @@ fn floored_sum(
     bodies: &[u32],
     starts: &[u32; 65],
     at: Place,
-    code: u32,
     x: u32,
 ) -> bool
-    requires { ⌜ (Starts (bodyOf (now bodies) (at .rule)) (now starts) (at .end)) × (code ≡ 17 → T (reads collection (ending (bodyOf (now bodies) (at .rule)) (at .end)))) ⌝ }
-    ensures { λ r. ⌜ r ≡ flooredAt
+    requires { ⌜ (Starts (bodyOf (now bodies) (at .rule)) (now starts) (at .end)) × T (reads collection (ending (bodyOf (now bodies) (at .rule)) (at .end))) ⌝ }
+    ensures { λ r. ⌜ r ≡ flooredOver
         (schemaOf (at .types) (now (types .entry)) (floorsOf (at .floors) (now (floors .entry))) (at .relationships) (now (relationships .entry)))
-        code x ((ending (bodyOf (now (bodies .entry)) (at .rule)) (at .end)) .form) ⌝ }
+        x ((ending (bodyOf (now (bodies .entry)) (at .rule)) (at .end)) .form) ⌝ }
 {
-    if code != SUM {
-        return false;
-    }
     let member = member_type(relationships, bodies, starts, at);
     schema::floors::floored(at.types, types, at.floors, floors, member, x)
 }
@@ -160,11 +156,13 @@ pub fn floored_rows(
     let mut floored = [false; 64];
     let mut row: u32 = 0;
     while row < at.end {
-        let mut part = at;
-        part.end = row;
-        let code = field(bodies, at.rule, row, 0);
-        let x = field(bodies, at.rule, row, 1);
-        let sum = floored_sum(types, floors, relationships, bodies, starts, part, code, x);
+        let mut sum = false;
+        if field(bodies, at.rule, row, 0) == SUM {
+            let mut part = at;
+            part.end = row;
+            let x = field(bodies, at.rule, row, 1);
+            sum = floored_sum(types, floors, relationships, bodies, starts, part, x);
+        }
         let index = row as usize;
         floored[index] = sum;
         row += 1;

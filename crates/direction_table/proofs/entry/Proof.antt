@@ -22,9 +22,6 @@ table-requires c κs = search needs
 mul-result : tie.Need-mul-result
 mul-result c = search needs
 
-mul-result-2 : tie.Need-mul-result-2
-mul-result-2 c = search needs
-
 index-1-result : tie.Need-index-1-result
 index-1-result c = search needs
 
@@ -37,4 +34,4 @@ returns c =
     ap (λ t. getD (getD t (a .form) []) (a .part * 2 + a .direction) 0) (c .before .table .ensures)
 
 pub entry-spec : {M : Type 1} → statement M
-entry-spec = tie.close (tie.spec mul-at add-at cast-at table-requires mul-result mul-result-2 index-1-result index-2-result returns)
+entry-spec = tie.close (tie.spec mul-at add-at cast-at table-requires mul-result index-1-result index-2-result returns)
