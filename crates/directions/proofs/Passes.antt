@@ -17,59 +17,49 @@ use Rattle.direction_table.proofs.Rules.{rules-at}
 use Rattle.directions.specs.Sets.{holdsOne, passed}
 use Rattle.directions.specs.Passes.{passedBy, setsOf, passRow}
 
--- a part's directions stand in the row by its number and the set
-module _ (floored : Bool) (o : Operator) where
-  pub first-at : (set : ℕ) → set < 4 → getD (passRow floored o) (0 * 4 + set) 0 ≡ passedBy (firstPassing o) set
-  first-at zero h = refl
-  first-at (suc zero) h = refl
-  first-at (suc (suc zero)) h = refl
-  first-at (suc (suc (suc zero))) h = refl
-  first-at (suc (suc (suc (suc set)))) h = absurd (omega arith)
+-- a part's directions stand in its four of a row, by the set
+sets-at : (p : Option Passing) (more : List ℕ) (set : ℕ) → set < 4 → getD (setsOf p ++ more) set 0 ≡ passedBy p set
+sets-at p more zero h = refl
+sets-at p more (suc zero) h = refl
+sets-at p more (suc (suc zero)) h = refl
+sets-at p more (suc (suc (suc zero))) h = refl
+sets-at p more (suc (suc (suc (suc set)))) h = absurd (omega arith)
 
-  pub second-at : (set : ℕ) → set < 4 → getD (passRow floored o) (1 * 4 + set) 0 ≡ passedBy (secondPassing floored o) set
-  second-at zero h = refl
-  second-at (suc zero) h = refl
-  second-at (suc (suc zero)) h = refl
-  second-at (suc (suc (suc zero))) h = refl
-  second-at (suc (suc (suc (suc set)))) h = absurd (omega arith)
+module _ (floored : Bool) (o : Operator) (set : ℕ) (small : set < 4) where
+  first-at : getD (passRow floored o) (0 * 4 + set) 0 ≡ passedBy (firstPassing o) set
+  first-at =
+      let at : 0 * 4 + set ≡ set = omega arith in
+      ap (λ i. getD (passRow floored o) i 0) at ∙ sets-at (firstPassing o) (setsOf (secondPassing floored o)) set small
 
-  module _ (set : ℕ) (small : set < 4) (p : Passing) where
-    pub first-passed : firstPassing o ≡ some p → getD (passRow floored o) (0 * 4 + set) 0 ≡ passed p set
-    first-passed e = first-at set small ∙ ap (λ q. passedBy q set) e
+  second-at : getD (passRow floored o) (1 * 4 + set) 0 ≡ passedBy (secondPassing floored o) set
+  second-at =
+      let at : 1 * 4 + set ≡ suc (suc (suc (suc set))) = omega arith in
+      ap (λ i. getD (passRow floored o) i 0) at ∙ sets-at (secondPassing floored o) [] set small
 
-    pub second-passed : secondPassing floored o ≡ some p → getD (passRow floored o) (1 * 4 + set) 0 ≡ passed p set
-    second-passed e = second-at set small ∙ ap (λ q. passedBy q set) e
+  pub first-passed : (p : Passing) → firstPassing o ≡ some p → getD (passRow floored o) (0 * 4 + set) 0 ≡ passed p set
+  first-passed p e = first-at ∙ ap (λ q. passedBy q set) e
+
+  pub second-passed : (p : Passing) → secondPassing floored o ≡ some p → getD (passRow floored o) (1 * 4 + set) 0 ≡ passed p set
+  second-passed p e = second-at ∙ ap (λ q. passedBy q set) e
 
 -- The entries of the directions in a set, put together.
-pub entries-passed : (p : Option Passing) (set : ℕ) → set < 4 → bitOr (cond (holdsOne set 1) (entryOf p up) 0) (cond (holdsOne set 2) (entryOf p down) 0) ≡ passedBy p set
-entries-passed p zero h = by-part p
-  where
-    by-part : (p : Option Passing) → bitOr 0 0 ≡ passedBy p 0
-    by-part none = refl
-    by-part (some same) = refl
-    by-part (some reversed) = refl
-    by-part (some either) = refl
-entries-passed p (suc zero) h = by-part p
-  where
-    by-part : (p : Option Passing) → bitOr (entryOf p up) 0 ≡ passedBy p 1
-    by-part none = refl
-    by-part (some same) = refl
-    by-part (some reversed) = refl
-    by-part (some either) = refl
-entries-passed p (suc (suc zero)) h = by-part p
-  where
-    by-part : (p : Option Passing) → bitOr 0 (entryOf p down) ≡ passedBy p 2
-    by-part none = refl
-    by-part (some same) = refl
-    by-part (some reversed) = refl
-    by-part (some either) = refl
-entries-passed p (suc (suc (suc zero))) h = by-part p
-  where
-    by-part : (p : Option Passing) → bitOr (entryOf p up) (entryOf p down) ≡ passedBy p 3
-    by-part none = refl
-    by-part (some same) = refl
-    by-part (some reversed) = refl
-    by-part (some either) = refl
+entries-passed : (p : Option Passing) (set : ℕ) → set < 4 → bitOr (cond (holdsOne set 1) (entryOf p up) 0) (cond (holdsOne set 2) (entryOf p down) 0) ≡ passedBy p set
+entries-passed none zero h = refl
+entries-passed none (suc zero) h = refl
+entries-passed none (suc (suc zero)) h = refl
+entries-passed none (suc (suc (suc zero))) h = refl
+entries-passed (some same) zero h = refl
+entries-passed (some same) (suc zero) h = refl
+entries-passed (some same) (suc (suc zero)) h = refl
+entries-passed (some same) (suc (suc (suc zero))) h = refl
+entries-passed (some reversed) zero h = refl
+entries-passed (some reversed) (suc zero) h = refl
+entries-passed (some reversed) (suc (suc zero)) h = refl
+entries-passed (some reversed) (suc (suc (suc zero))) h = refl
+entries-passed (some either) zero h = refl
+entries-passed (some either) (suc zero) h = refl
+entries-passed (some either) (suc (suc zero)) h = refl
+entries-passed (some either) (suc (suc (suc zero))) h = refl
 entries-passed p (suc (suc (suc (suc set)))) h = absurd (omega arith)
 
 -- The entries that are asked for, at the number of a form and of its part, are the directions of the part.
@@ -104,12 +94,6 @@ small-sets (some same) l t = t
 small-sets (some reversed) l t = t
 small-sets (some either) l t = t
 
-small-last : (p : Option Passing) → T (small (setsOf p))
-unfolding small
-small-last none = tt
-small-last (some same) = tt
-small-last (some reversed) = tt
-small-last (some either) = tt
-
 pub pass-small : (floored : Bool) (o : Operator) (part set : ℕ) → getD (passRow floored o) (part * 4 + set) 0 < 4
-pass-small floored o part set = small-at (passRow floored o) (small-sets (firstPassing o) (setsOf (secondPassing floored o)) (small-last (secondPassing floored o))) (part * 4 + set)
+unfolding small
+pass-small floored o part set = small-at (passRow floored o) (small-sets (firstPassing o) (setsOf (secondPassing floored o)) (small-sets (secondPassing floored o) [] tt)) (part * 4 + set)
