@@ -53,6 +53,10 @@ schema c =
     let a = start c .args in
     schemaOf (a .at .types) (a .types .now) (floorsOf (a .at .floors) (a .floors .now)) (a .at .relationships) (a .relationships .now)
 
+-- what is asked of a sum is of its own row
+sum-asked : (c : tie.After-floored-sum Inv-loop μ-loop) → let f = c .before .before .before in c .floored-sum .result ≡ flooredOver (schema f) (c .before .field2 .result) (part f)
+sum-asked c = c .floored-sum .ensures
+
 -- what is marked at the row
 marked : (c : tie.Joined2 Inv-loop μ-loop) → let f = c .before in c .if2 .sum ≡ flooredAt (schema f) ((rows f (row f)) .code) ((rows f (row f)) .x) (part f)
 marked c =
@@ -62,7 +66,7 @@ marked c =
     ⊎-elim
     (λ w.
     w .3
-    ∙ w .2 .ensures
+    ∙ sum-asked (record { before = record { before = record { before = f; if2 = w .0 }; field2 = w .1 }; floored-sum = w .2 })
     ∙ ap (λ x. flooredOver (schema f) x (part f)) (w .1 .ensures)
     ∙ sym (ap (λ b. b && over) (eq-eqb code 17 (sym (f .field .ensures) ∙ w .0 .taken))))
     (λ w. w .1 ∙ sym (ap (λ b. b && over) (ne-eqb code 17 (λ q. w .0 .left (f .field .ensures ∙ q)))))
