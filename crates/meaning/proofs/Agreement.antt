@@ -2,20 +2,20 @@
 use Prim.Native.Nat.{ℕ}
 use mathlib.Core.Path.{_≡_, refl}
 use mathlib.Core.Logic.{⊎-elim}
-use mathlib.Core.Bool.{true, _&&_, _||_, not}
+use mathlib.Core.Bool.{Bool, true, _&&_, _||_, not}
 use mathlib.Core.List.{List, [], _∷_}
 use mathlib.Core.Option.{Option, none, some, Option·some-ne-none}
-use lib.Dec.{T, leb}
+use lib.Dec.{T, leb, eqb}
 use lib.ListN.{getElem?}
 use mir.Facts.{and-yes, yes-and, or-no, and-no, T-not, not-T, T-not-not}
 use Rattle.meaning.specs.Lists.{firstOf}
 use Rattle.meaning.specs.Limits.{maxForms}
-use Rattle.meaning.specs.Schema.{ObjectType, Schema, knownType, typeFault, floorFault, relationshipFault}
+use Rattle.meaning.specs.Schema.{ObjectType, Schema, knownType, nearType, typeFault, floorFault, relationshipFault}
 use Rattle.meaning.specs.Register.{Register, isUnder, objectFault, linkFault}
 use Rattle.meaning.specs.Forms.{wellTyped, formCount, Rule, Book, faultyRule, ruleFault}
 use Rattle.meaning.specs.Meaning.{meaning, broken}
 use Rattle.meaning.specs.Events.{Event, Lent, after}
-use Rattle.meaning.specs.Reach.{Change, changeBy, down, moves, quiet, inserted, specialised, broughtIn, selected}
+use Rattle.meaning.specs.Reach.{Change, changeBy, down, moves, quietly, quiet, ownRole, quietFrom, quietInsert, quietSpecial, inserted, specialised, broughtIn, selected}
 use Rattle.meaning.specs.Answers.{refusalAt, bookRefusal, registerRefusal, refusal}
 use Rattle.meaning.proofs.Lists.{decide, first-of-none}
 use Rattle.meaning.proofs.Order.{fault-none}
@@ -24,7 +24,7 @@ use Rattle.meaning.proofs.Registers.{RegisterFits, register-fits}
 use Rattle.meaning.proofs.Steps.{Unrefused, at-start}
 use Rattle.meaning.proofs.Movement.{unmoved}
 use Rattle.meaning.proofs.Batches.{Kept, leaves, not-brought-in}
-use Rattle.meaning.proofs.Quiet.{quiet-value}
+use Rattle.meaning.proofs.Quiet.{NoneOlder, insert-new, special-new, quiet-value}
 
 -- ---- what is known of a book and a register that are not refused
 
@@ -96,9 +96,28 @@ module _ (S : Schema) (types-fit : TypesFit (S .types)) (lent : Lent) (g : Regis
           unmoved c g (Kept S types-fit lent g fits es ok) (leaves S types-fit lent g fits es ok) (r .body) (r .context ∷ []) (s ∷ []) typed
           (h, tt) down n
 
+  -- what came and did not select found the body quiet
+  kept-quiet : (came calm : Bool) → T (not (came && not calm)) → T came → T calm
+  kept-quiet came calm n h = ⊎-elim (λ no. absurd (T-not came h no)) (T-not-not calm) (and-no came (not calm) n)
+
+  -- after an insert some roles count, after a special those that start at the context type
+  insert-counts : T (quietInsert S r) → (counts : ℕ → Bool) × T (quietly counts (r .body) true)
+  unfolding quietInsert quiet quietFrom
+  insert-counts q = (_, q)
+
+  special-counts : T (quietSpecial S r) → T (quietly (ownRole (S .relationships) (r .context)) (r .body) true)
+  unfolding quietSpecial quietFrom
+  special-counts q = q
+
+  quiet-entry : T (not (broughtIn c r s)) → (T (inserted c s (r .context)) → T (quietInsert S r)) × (T (specialised c s (r .context)) → T (quietSpecial S r))
+  unfolding broughtIn
+  quiet-entry n =
+      let ns = or-no (inserted c s (r .context) && not (quietInsert S r)) (specialised c s (r .context) && not (quietSpecial S r)) n in
+      (kept-quiet (inserted c s (r .context)) (quietInsert S r) (ns .0), kept-quiet (specialised c s (r .context)) (quietSpecial S r) (ns .1))
+
   -- Theorem 1, pair by pair.
   pub passed-over : T (broken types (after S g es) r s) → T (not (selected c r s)) → T (broken types g r s)
-  unfolding broken selected broughtIn quiet
+  unfolding broken selected
   passed-over b n =
       ⊎-elim (λ h. absurd (T-not (isUnder types (after S g es) s (r .context)) (bs .0) h)) not-selected
       (and-no (isUnder types (after S g es) s (r .context)) _ n)
@@ -106,18 +125,27 @@ module _ (S : Schema) (types-fit : TypesFit (S .types)) (lent : Lent) (g : Regis
       bs : T (isUnder types (after S g es) s (r .context)) × T (not (meaning types (after S g es) (r .body) (s ∷ [])))
       bs = and-yes (isUnder types (after S g es) s (r .context)) (not (meaning types (after S g es) (r .body) (s ∷ []))) b
 
-      -- an inserted object's body is quiet, and so true
-      quiet-there : T (inserted c s (r .context)) → T (not (moves c (r .body) (s ∷ []) down)) → T (not (inserted c s (r .context) && not (quiet (r .body)))) → ⊥
-      quiet-there i m q =
-          T-not (meaning types (after S g es) (r .body) (s ∷ []))
-          (quiet-value S types-fit lent g fits es ok s (r .context) i (r .body) true
-          (⊎-elim (λ h. absurd (T-not (inserted c s (r .context)) i h)) (T-not-not (quiet (r .body))) (and-no (inserted c s (r .context)) (not (quiet (r .body))) q)) m)
-          (bs .1)
+      -- a body that is quiet by roles without older links is true
+      true-there : T (not (moves c (r .body) (s ∷ []) down)) → (counts : ℕ → Bool) → ((n : ℕ) → T (counts n) → NoneOlder S types-fit lent g fits es ok s n) → T (quietly counts (r .body) true) → ⊥
+      true-there m counts new q =
+          T-not (meaning types (after S g es) (r .body) (s ∷ [])) (quiet-value S types-fit lent g fits es ok s counts new (r .body) true q m) (bs .1)
 
-      not-selected : T (not (moves c (r .body) (s ∷ []) down || (inserted c s (r .context) && not (quiet (r .body)) || specialised c s (r .context)))) → T (broken types g r s)
+      -- those that count after a special start at the context type
+      none-older : T (specialised c s (r .context)) → (n : ℕ) → T (ownRole (S .relationships) (r .context) n) → NoneOlder S types-fit lent g fits es ok s n
+      none-older i n k =
+          let starts : T (eqb (nearType (S .relationships) n) (r .context)) = search in
+          special-new S types-fit lent g fits es ok s (r .context) i n starts
+
+      not-selected : T (not (moves c (r .body) (s ∷ []) down || broughtIn c r s)) → T (broken types g r s)
       not-selected h =
-          let ms = or-no (moves c (r .body) (s ∷ []) down) _ h in
-          let ns = or-no (inserted c s (r .context) && not (quiet (r .body))) (specialised c s (r .context)) (ms .1) in
-          ⊎-elim (λ i. absurd (quiet-there i (ms .0) (ns .0)))
-          (λ i. kept-broken (not-brought-in S types-fit lent g fits es ok s (r .context) i (ns .1) (bs .0)) (ms .0) b)
+          let (still, out) = or-no (moves c (r .body) (s ∷ []) down) (broughtIn c r s) h in
+          let (by-insert, by-special) = quiet-entry out in
+          ⊎-elim
+          (λ i.
+          let (counts, quiet) = insert-counts (by-insert i) in
+          absurd (true-there still counts (λ n k. insert-new S types-fit lent g fits es ok s (r .context) i n) quiet))
+          (λ i.
+          ⊎-elim (λ j. absurd (true-there still (ownRole (S .relationships) (r .context)) (none-older j) (special-counts (by-special j))))
+          (λ j. kept-broken (not-brought-in S types-fit lent g fits es ok s (r .context) i j (bs .0)) still b)
+          (decide (specialised c s (r .context))))
           (decide (inserted c s (r .context)))

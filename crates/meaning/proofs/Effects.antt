@@ -505,6 +505,18 @@ module _ (S : Schema) (types-fit : TypesFit (S .types)) (lent : Lent) (g : Regis
   insert-absent (special id s) ok x t i = absurd i
   insert-absent (general id s) ok x t i = absurd i
 
+  -- only an object outside of a type is brought into it by a special
+  pub special-outside : (e : Event) (x t : ℕ) → T (specialisesInto types t (eqb x) (stepAt g e)) → T (not (isUnder types g x t))
+  special-outside (insert id s) x t i = absurd i
+  special-outside (delete id) x t i = absurd i
+  special-outside (set id k v) x t i = absurd i
+  special-outside (join r a b) x t i = absurd i
+  special-outside (part r a b) x t i = absurd i
+  special-outside (special id s) x t i =
+      let h = and-yes (eqb x id) (under types s t && not (isUnder types g id t)) i in
+      rw (eqb-yes {a = x} {b = id} (h .0)) (and-yes (under types s t) (not (isUnder types g id t)) (h .1) .1)
+  special-outside (general id s) x t i = absurd i
+
   -- an object that is there after a delete of it is another's
   pub delete-absent : (e : Event) → eventRefusal S lent g e ≡ none → (x t : ℕ) → T (deletesFrom types t (eqb x) (stepAt g e)) → T (not (present (apply S e g) x))
   unfolding present

@@ -9,7 +9,7 @@ use lib.ListN.{length, getD, drop}
 use mir.Facts.{and-yes, yes-and, eqb-yes, yes-eqb}
 use Rattle.meaning.specs.Lists.{every, keep, before, _∈_, Ascending, Before}
 use Rattle.meaning.specs.Limits.{cellCount, validId, fitsWord}
-use Rattle.meaning.specs.Schema.{ObjectType, Schema, knownType, knownRelationship, cellsOf, relationshipOf, forward, sourceType, targetType, farType, under}
+use Rattle.meaning.specs.Schema.{ObjectType, Schema, knownType, knownRelationship, cellsOf, relationshipOf, forward, sourceType, targetType, nearType, farType, under}
 use Rattle.meaning.specs.Register.{Object, Link, Register, objectKey, linkKey, objectAt, present, isUnder, instances, sameLink, hasLink, nearEnd, farEnd, startsAt, farEnds, isZero, cellsFit, belowFloor, objectFits, faultyObject, linkFits, faultyLink, objectFault, linkFault}
 use Rattle.meaning.proofs.Lists.{first-only, ascending-one, holds-some, any-of, any-cases, keep-in, keep-from, first-some, ascending-keep, ascending-map}
 use Rattle.meaning.proofs.Order.{before-one, before-last, before-first, before-irreflexive, same-list-eq, same-list-refl, rows-fit, fits-rows}
@@ -189,9 +189,15 @@ far-under S g f r u l h s = rw (← starts r u l s .0) (step (forward r) (link-p
     step true e = e .1
     step false e = e .0
 
-pub near-present : (S : Schema) (g : Register) → RegisterFits S g → (r u : ℕ) (l : Link) → T (hasLink g l) → T (startsAt r u l) → T (present g u)
-near-present S g f r u l h s = subst (λ x. T (present g x)) (starts r u l s .1) (step (forward r) (link-parts S g l (f .links-fit l (link-in g l h)) .1))
+pub near-under : (S : Schema) (g : Register) → RegisterFits S g → (r u : ℕ) (l : Link) → T (hasLink g l) → T (startsAt r u l) → T (isUnder (S .types) g u (nearType (S .relationships) r))
+unfolding nearType
+near-under S g f r u l h s =
+    subst (λ x. T (isUnder (S .types) g x (nearType (S .relationships) r))) (starts r u l s .1)
+    (rw (← starts r u l s .0) (step (forward r) (link-parts S g l (f .links-fit l (link-in g l h)) .1)))
   where
-    step : (b : Bool) → EndsUnder S g l → T (present g (cond b (l .source) (l .target)))
-    step true e = under-present (S .types) g (l .source) (sourceType (S .relationships) (l .relationship)) (e .0)
-    step false e = under-present (S .types) g (l .target) (targetType (S .relationships) (l .relationship)) (e .1)
+    step : (b : Bool) → EndsUnder S g l → T (isUnder (S .types) g (cond b (l .source) (l .target)) (cond b (sourceType (S .relationships) (l .relationship)) (targetType (S .relationships) (l .relationship))))
+    step true e = e .0
+    step false e = e .1
+
+pub near-present : (S : Schema) (g : Register) → RegisterFits S g → (r u : ℕ) (l : Link) → T (hasLink g l) → T (startsAt r u l) → T (present g u)
+near-present S g f r u l h s = under-present (S .types) g u (nearType (S .relationships) r) (near-under S g f r u l h s)

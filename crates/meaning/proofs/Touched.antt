@@ -14,7 +14,8 @@ use Rattle.meaning.specs.Forms.{Sort, truth, collection, Form, compare, 
 use Rattle.meaning.specs.Meaning.{meaning}
 use Rattle.meaning.specs.Events.{Event, insert, delete, set, join, part, special, general, linkOf, strictlyAbove, strictlyUnder}
 use Rattle.meaning.specs.Reach.{Step, stepAt, Change, someStep, Kind, inserts, sets, joins, parts, specials, generals, among, partNamed, leadsTo, taken, setsCell, insertsInto, specialisesInto, deletesFrom, generalisesFrom, anyone, Direction, up, down, opposite, Passing, same}
-use Rattle.meaning.specs.Reach.{reversed, either, through, leftOf, rightOf, negated, firstTruth, secondTruth, sourceOf, chosenFrom, firstTerm, secondTerm, sumSource, flooredSum, roleMoves, allMoves, cellMoves, kindMoves, moves, quiet, inserted, specialised, broughtIn, selected}
+use Rattle.meaning.specs.Reach.{reversed, either, through, leftOf, rightOf, negated, firstTruth, secondTruth, sourceOf, chosenFrom, firstTerm, secondTerm, sumSource, flooredSum, roleMoves, allMoves, cellMoves, kindMoves, moves}
+use Rattle.meaning.specs.Reach.{quietInsert, quietSpecial, inserted, specialised, broughtIn, selected}
 use Rattle.meaning.specs.EventList.{EventType, insertOf, deleteOf, setOf, joinOf, partOf, specialOf, generalOf, eventTypeWords, whereParent, roleLists, allLists, kindLists, lists, contextLists, eventList, occurs, touched}
 use Rattle.meaning.proofs.Lists.{holds-some, or-left, or-right, decide, cond-yes, cond-no, any-of, any-cases, keep-from}
 use Rattle.meaning.proofs.Order.{put-other, put-has, put-ascending}
@@ -329,17 +330,21 @@ module _ (c : Change) where
     moves-listed (all u) vs ts v w = all-listed u
     moves-listed (select k b) vs ts v w = body-listed chosenFrom k b vs ts v (moves-listed k vs ts v) (moves-listed b) w
 
+    -- what selects by itself is listed: an event that brought the object in, where the body is not quiet
+    unless-quiet : (came calm : Bool) (l : List EventType) → (T came → T (occur l)) → T (came && not calm) → T (occur (cond calm [] l))
+    unless-quiet came calm l listed h =
+        let u = and-yes came (not calm) h in
+        rw (cond-no calm [] l (u .1)) (listed (u .0))
+
     context-listed : (r : Rule) (s : ℕ) → T (broughtIn c r s) → T (occur (contextLists S r))
     unfolding broughtIn contextLists inserted specialised occurs
     context-listed r s =
         let t = r .context in
-        let calm = quiet (r .body) in
-        occur-either (inserted c s t && not calm) (specialised c s t) (cond calm [] (insertOf t ∷ [])) (whereParent S t (specialOf t))
-        (λ h.
-        let u = and-yes (inserted c s t) (not calm) h in
-        rw (cond-no calm [] (insertOf t ∷ []) (u .1))
-        (one-listed (insertOf t) (some-anyone inserts _ (eqb s) (u .0))))
-        (λ h. special-listed t (some-anyone specials _ (eqb s) h))
+        let into = insertOf t ∷ [] in
+        let below = whereParent S t (specialOf t) in
+        occur-either (inserted c s t && not (quietInsert S r)) (specialised c s t && not (quietSpecial S r)) (cond (quietInsert S r) [] into) (cond (quietSpecial S r) [] below)
+        (unless-quiet (inserted c s t) (quietInsert S r) into (λ h. one-listed (insertOf t) (some-anyone inserts _ (eqb s) h)))
+        (unless-quiet (specialised c s t) (quietSpecial S r) below (λ h. special-listed t (some-anyone specials _ (eqb s) h)))
 
     selected-touched : (r : Rule) → T (wellTyped S (r .context ∷ []) (r .body)) → (s : ℕ) → T (selected c r s) → T (touched c r)
     unfolding touched eventList

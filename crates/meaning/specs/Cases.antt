@@ -164,7 +164,7 @@ abbrev quietOrCell : Rule
 quietOrCell =
     record { context = 0; body = connect or (quantify forall (role 0 0) (compare le (cell 1 0) (num (pos 0)))) (compare le (cell 0 0) (num (pos 5))) }
 
--- a rule on the type below: a special into it selects though the body is quiet
+-- a rule on the type below, by a role of the type above: a special into it selects though the body is quiet
 abbrev quietBelow : Rule
 quietBelow = record { context = 1; body = quantify forall (role 0 0) (compare le (cell 1 0) (num (pos 0))) }
 
@@ -231,6 +231,35 @@ faultyBook floors place =
       expected = listing (some (record { number = 3; place = place })) (insertOf 0 ∷ []);
     }
 
+-- ---- fewer looks after a special (Req 06)
+
+-- types: 0 drive, 1 servo drive, 2 a kind of servo drive, 3 cabinet; relationships to a cabinet: 0 of the drive, 1 of the servo drive
+abbrev drives : Schema
+drives = record { types = top 1 ∷ below 0 1 ∷ below 1 1 ∷ top 1 ∷ []; floors = []; relationships = from-to 0 3 ∷ from-to 1 3 ∷ [] }
+
+-- no cabinet at the role is over 5
+abbrev low : ℕ → Form truth
+low r = quantify forall (role 0 r) (compare le (cell 1 0) (num (pos 5)))
+
+-- the roles to the cabinets: of every drive, and of the servo drive
+abbrev ofDrive : ℕ
+ofDrive = 0
+
+abbrev ofServo : ℕ
+ofServo = 2
+
+-- drive 10 of a type, and two cabinets of which the second is over 5
+abbrev driveOf : ℕ → List Link → Register
+driveOf t links = record { objects = object 10 t [] ∷ object 20 3 (pos 5 ∷ []) ∷ object 21 3 (pos 9 ∷ []) ∷ []; links = links }
+
+-- a batch for the drive, with a rule of servo drives
+abbrev caseS : Form truth → Register → List Event → Answer → List Pair → Register → Case
+caseS body = caseBy drives (record { context = 1; body = body })
+
+-- the event list of such a rule
+abbrev listS : Form truth → List EventType → Case
+listS body es = record { given = ruleFor drives (record { context = 1; body = body }); expected = listing none es }
+
 unfoldable pub table : List Case
 table =
     -- (a) to (f)
@@ -285,4 +314,21 @@ table =
     ∷ faultyBook (floor 0 2 ∷ []) 0
     ∷ faultyBook (floor 1 0 ∷ floor 2 0 ∷ []) 1
     ∷ faultyBook (floor 0 0 ∷ floor 1 0 ∷ []) 1
+    -- a special: by a role of the servo drive no pair and not listed; by a role of the drive both; straight to a type below too
+    ∷ caseS (low ofServo) (driveOf 0 []) (special 10 1 ∷ []) accepted [] (driveOf 1 [])
+    ∷ caseS (low ofDrive) (driveOf 0 []) (special 10 1 ∷ []) accepted (pairOf 0 10 ∷ []) (driveOf 1 [])
+    ∷ caseS (low ofServo) (driveOf 0 []) (special 10 2 ∷ []) accepted [] (driveOf 2 [])
+    ∷ caseS (low ofDrive) (driveOf 0 (linkOf 0 10 21 ∷ [])) (special 10 2 ∷ []) (brokenAt 0 10) (pairOf 0 10 ∷ []) (driveOf 0 (linkOf 0 10 21 ∷ []))
+    ∷ listS (low ofServo) (setOf 3 0 ∷ joinOf 1 ∷ [])
+    ∷ listS (low ofDrive) (setOf 3 0 ∷ joinOf 0 ∷ specialOf 1 ∷ [])
+    -- `or` needs one part that counts, `and` two
+    ∷ caseS (connect or (low ofDrive) (low ofServo)) (driveOf 0 []) (special 10 1 ∷ []) accepted [] (driveOf 1 [])
+    ∷ caseS (connect and (low ofDrive) (low ofServo)) (driveOf 0 []) (special 10 1 ∷ []) accepted (pairOf 0 10 ∷ []) (driveOf 1 [])
+    -- an insert keeps the quietness that it has
+    ∷ caseS (low ofDrive) (driveOf 0 []) (delete 10 ∷ insert 10 1 ∷ []) accepted [] (driveOf 1 [])
+    -- general and special again: without its link; with links joined between and after, of which the last breaks the rule
+    ∷ caseS (low ofServo) (driveOf 1 (linkOf 1 10 20 ∷ [])) (part 1 10 20 ∷ general 10 0 ∷ special 10 1 ∷ []) accepted [] (driveOf 1 [])
+    ∷ caseS (low ofServo) (driveOf 1 []) (general 10 0 ∷ join 0 10 21 ∷ special 10 1 ∷ []) accepted [] (driveOf 1 (linkOf 0 10 21 ∷ []))
+    ∷ caseS (low ofDrive) (driveOf 1 []) (general 10 0 ∷ join 0 10 21 ∷ special 10 1 ∷ []) (brokenAt 0 10) (pairOf 0 10 ∷ []) (driveOf 1 [])
+    ∷ caseS (low ofServo) (driveOf 1 []) (general 10 0 ∷ join 0 10 20 ∷ special 10 1 ∷ join 1 10 21 ∷ []) (brokenAt 0 10) (pairOf 0 10 ∷ []) (driveOf 1 [])
     ∷ []

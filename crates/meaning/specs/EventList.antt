@@ -8,7 +8,7 @@ use Rattle.meaning.specs.Schema.{Schema, hasParent, relationshipOf, farT
 use Rattle.meaning.specs.Register.{isUnder}
 use Rattle.meaning.specs.Forms.{Sort, Form, compare, negate, connect, quantify, kind, num, cell, size, sum, combine, role, all, select, bind, variable, memberType, Rule}
 use Rattle.meaning.specs.Reach.{Change, someStep, inserts, deletes, sets, joins, parts, specials, generals, kindPlace, among, setsCell, insertsInto, specialisesInto, deletesFrom, generalisesFrom}
-use Rattle.meaning.specs.Reach.{anyone, Direction, up, down, through, leftOf, rightOf, negated, firstTruth, secondTruth, sourceOf, atMember, counted, chosenFrom, firstTerm, secondTerm, sumSource, flooredSum, quiet}
+use Rattle.meaning.specs.Reach.{anyone, Direction, up, down, through, leftOf, rightOf, negated, firstTruth, secondTruth, sourceOf, atMember, counted, chosenFrom, firstTerm, secondTerm, sumSource, flooredSum, quietInsert, quietSpecial}
 
 -- What a rule lists: a kind of event with the type, the type and cell, or the relationship that it names.
 pub data EventType : Type 0 where
@@ -61,9 +61,10 @@ lists S (role v r) ts d = roleLists S r d
 lists S (all t) ts d = allLists S t d
 lists S (select c b) ts d = through _++_ chosenFrom (lists S c ts) d ++ through _++_ atMember (lists S b (bind ts (memberType (S .relationships) c))) d
 
--- "kind and context as above": an insert into the context type unless the body is quiet, and a special into it
+-- "kind and context as above": an insert into the context type, and a special into it, each unless it is quiet
 unfoldable pub contextLists : Schema → Rule → List EventType
-contextLists S r = cond (quiet (r .body)) [] (insertOf (r .context) ∷ []) ++ whereParent S (r .context) (specialOf (r .context))
+contextLists S r =
+    cond (quietInsert S r) [] (insertOf (r .context) ∷ []) ++ cond (quietSpecial S r) [] (whereParent S (r .context) (specialOf (r .context)))
 
 -- "Order: the events' order above, then numbers, none twice"
 unfoldable pub eventList : Schema → Rule → List EventType

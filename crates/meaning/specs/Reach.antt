@@ -5,7 +5,7 @@ use mathlib.Core.List.{List, [], _∷_, _++_, map}
 use lib.Dec.{eqb}
 use lib.ListN.{getElem?}
 use Rattle.meaning.specs.Lists.{any, keep, holds}
-use Rattle.meaning.specs.Schema.{ObjectType, Schema, under, floored}
+use Rattle.meaning.specs.Schema.{ObjectType, Relationship, Schema, under, floored, nearType}
 use Rattle.meaning.specs.Register.{Link, Register, isUnder, instances, hasLink, farEnd, startsAt}
 use Rattle.meaning.specs.Forms.{Sort, truth, collection, Comparison, le, lt, eq, ne, ge, gt, Connective, and, or, xor, implies, Quantifier, forall, exists, Arithmetic, add, sub, Form}
 use Rattle.meaning.specs.Forms.{compare, negate, connect, quantify, kind, num, cell, size, sum, combine, role, all, select, bind, variable, memberType, Rule, Book}
@@ -267,11 +267,11 @@ moves c (select k b) vs d =
 
 -- ---- quiet bodies
 
--- "a role of self"
-unfoldable pub roleOfSelf : Form collection → Bool
-roleOfSelf (role v r) = eqb v 0
-roleOfSelf (all t) = false
-roleOfSelf (select c b) = false
+-- "a role of self", one that counts
+unfoldable pub roleOfSelf : (ℕ → Bool) → Form collection → Bool
+roleOfSelf counts (role v r) = eqb v 0 && counts r
+roleOfSelf counts (all t) = false
+roleOfSelf counts (select c b) = false
 
 -- "forall over a role of self", and its dual, "where exists over a role of self is quietly false"
 unfoldable pub quietQuantifier : Quantifier → Bool → Bool
@@ -288,23 +288,40 @@ quietConnective xor w a b = false
 quietConnective implies true a b = a false || b true
 quietConnective implies false a b = a true && b false
 
--- An object without links must give the truth w. "Nothing else is quiet."
-unfoldable pub quietly : Form truth → Bool → Bool
-quietly (compare o a b) w = false
-quietly (negate a) w = quietly a (not w)
-quietly (connect o a b) w = quietConnective o w (quietly a) (quietly b)
-quietly (quantify q c b) w = quietQuantifier q w && roleOfSelf c
-quietly (kind v t) w = false
+-- An object without links at the roles that count must give the truth w. "Nothing else is quiet."
+unfoldable pub quietly : (ℕ → Bool) → Form truth → Bool → Bool
+quietly counts (compare o a b) w = false
+quietly counts (negate a) w = quietly counts a (not w)
+quietly counts (connect o a b) w = quietConnective o w (quietly counts a) (quietly counts b)
+quietly counts (quantify q c b) w = quietQuantifier q w && roleOfSelf counts c
+quietly counts (kind v t) w = false
 
--- "A body is *quiet* when an object without links must satisfy it"
+-- "A body is *quiet* when an object without links must satisfy it": every role counts
 unfoldable pub quiet : Form truth → Bool
-quiet body = quietly body true
+quiet body = quietly (λ r. true) body true
+
+-- Req 06: "quiet counting only roles that start at the context type itself; no link at such a role can be older than the change" by which
+-- an object comes into that type
+abbrev pub ownRole : List Relationship → ℕ → ℕ → Bool
+ownRole relationships t r = eqb (nearType relationships r) t
+
+unfoldable pub quietFrom : List Relationship → ℕ → Form truth → Bool
+quietFrom relationships t body = quietly (ownRole relationships t) body true
 
 -- ---- selection
 
--- "an insert brought s into the context type and the body is not quiet; or a special did"
+-- An insert into the context type selects and lists nothing by itself where the body is quiet. Req 06: "A special into the context type by
+-- itself selects and lists nothing when the body is quiet counting only roles that start at the context type itself."
+unfoldable pub quietInsert : Schema → Rule → Bool
+quietInsert S r = quiet (r .body)
+
+unfoldable pub quietSpecial : Schema → Rule → Bool
+quietSpecial S r = quietFrom (S .relationships) (r .context) (r .body)
+
+-- "an insert brought s into the context type and the body is not quiet; or a special did", one that is not quiet
 unfoldable pub broughtIn : Change → Rule → ℕ → Bool
-broughtIn c r s = (inserted c s (r .context) && not (quiet (r .body))) || specialised c s (r .context)
+broughtIn c r s =
+    (inserted c s (r .context) && not (quietInsert (c .schema) r)) || (specialised c s (r .context) && not (quietSpecial (c .schema) r))
 
 -- "Pair (rule, s) is selected when s is under the context type at the end and: the body may turn false at s; or" it was brought in
 -- so.
