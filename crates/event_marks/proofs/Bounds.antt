@@ -13,7 +13,7 @@ use Rattle.meaning.specs.Lists.{every, firstOf, putInOrder, _∈_}
 use Rattle.meaning.specs.Limits.{maxTypes, maxRelationships, maxForms, cellCount}
 use Rattle.meaning.specs.Schema.{ObjectType, Relationship, Schema, knownType, knownRelationship, knownRole, typeAt, cellsOf, hasParent, under, relationshipOf, forward, relationshipAt, sourceType, targetType, nearType, farType, faultyRelationship, typeFault, floorFault, relationshipFault}
 use Rattle.meaning.specs.Forms.{Sort, Form, compare, negate, connect, quantify, kind, num, cell, size, sum, combine, role, all, select, bind, variable, memberType, wellTyped, formCount, Rule, Book, faultyRule, ruleFault}
-use Rattle.meaning.specs.Reach.{Direction, up, down, opposite, Passing, same, reversed, either, through, leftOf, rightOf, negated, firstTruth, secondTruth, sourceOf, chosenFrom, firstTerm, secondTerm, sumSource, flooredSum, quiet}
+use Rattle.meaning.specs.Reach.{Direction, up, down, opposite, Passing, same, reversed, either, through, leftOf, rightOf, negated, firstTruth, secondTruth, sourceOf, chosenFrom, firstTerm, secondTerm, sumSource, flooredSum, quietInsert, quietSpecial}
 use Rattle.meaning.specs.EventList.{EventType, insertOf, deleteOf, setOf, joinOf, partOf, specialOf, generalOf, eventTypeWords, whereParent, roleLists, allLists, kindLists, lists, contextLists, eventList}
 use Rattle.meaning.specs.Answers.{refusalAt, bookRefusal}
 use Rattle.meaning.proofs.Lists.{decide, first-of-none, every-at, every-append}
@@ -179,14 +179,19 @@ module _ (S : Schema) (few-types : length (S .types) ≤ maxTypes) (few-relation
 
   -- ---- a rule
 
+  unless-placed : (b : Bool) (l : List EventType) → Placed l → Placed (cond b [] l)
+  unless-placed true l h = tt
+  unless-placed false l h = h
+
   context-placed : (r : Rule) → T (knownType (S .types) (r .context)) → Placed (contextLists S r)
   unfolding contextLists eventTypeWords
   context-placed r h =
-      both-placed (cond (quiet (r .body)) [] (insertOf (r .context) ∷ [])) (whereParent S (r .context) (specialOf (r .context))) (step (quiet (r .body))) (parent-placed S (r .context) (specialOf (r .context)) (number (r .context) (few (r .context) h)))
-    where
-      step : (b : Bool) → Placed (cond b [] (insertOf (r .context) ∷ []))
-      step true = tt
-      step false = one-placed (insertOf (r .context)) (number (r .context) (few (r .context) h))
+      let t = r .context in
+      let known = number t (few t h) in
+      let into = insertOf t ∷ [] in
+      let below = whereParent S t (specialOf t) in
+      both-placed (cond (quietInsert S r) [] into) (cond (quietSpecial S r) [] below)
+      (unless-placed (quietInsert S r) into (one-placed (insertOf t) known)) (unless-placed (quietSpecial S r) below (parent-placed S t (specialOf t) known))
 
   -- what is put in order was there before
   sorted-from : (l : List EventType) {e : EventType} → e ∈ foldr (putInOrder eventTypeWords) [] l → e ∈ l

@@ -1,25 +1,27 @@
 -- What a rule lists: its body and its context, whatever the order in which the list is put.
 use Prim.Native.Nat.{ℕ}
 use mathlib.Core.Path.{_≡_, refl, sym, ap, ap₂, subst, _∙_}
-use mathlib.Core.Logic.{_⊎_, inl, inr, ⊎-elim}
-use mathlib.Core.Bool.{Bool, true, false, not, _&&_, _||_, cond, or-false, or-comm, or-assoc, or-self}
+use mathlib.Core.Logic.{⊎-elim}
+use mathlib.Core.Bool.{Bool, true, false, _||_, cond, or-comm, or-assoc, or-self}
 use mathlib.Core.List.{List, [], _∷_, _++_, foldr}
 use lib.Dec.{T}
 use lib.ListN.{length}
 use Rattle.meaning.specs.Lists.{any, before, sameList, putInOrder}
 use Rattle.meaning.specs.Schema.{Schema}
-use Rattle.meaning.specs.Forms.{Sort, truth, Form, Rule}
-use Rattle.meaning.specs.Reach.{Direction, up, down, quiet}
-use Rattle.meaning.specs.EventList.{insertOf, specialOf, eventTypeWords, whereParent, allLists, kindLists, lists, contextLists, eventList}
+use Rattle.meaning.specs.Forms.{Rule}
+use Rattle.meaning.specs.Reach.{down, quietInsert, quietSpecial}
+use Rattle.meaning.specs.EventList.{EventType, eventTypeWords, lists, contextLists, eventList}
 use Rattle.meaning.proofs.Order.{before-total}
 use Rattle.meaning.proofs.Touched.{three-words}
-use Rattle.tables.specs.Bodies.{Part, part, asTruth, sameSort, sortOf, readBody, wholeBody, ending, BodyRow}
+use Rattle.tables.specs.Bodies.{Part, asTruth, readBody, wholeBody, ending, BodyRow}
 use Rattle.tables.specs.Columns.{ruleRow}
 use Rattle.tables.proofs.Readings.{is-truth}
 use Rattle.tables.proofs.Forms.{whole-body, body-ending}
 use Rattle.body_rows.specs.Marks.{bodyOf}
 use Rattle.type_marks.specs.Marks.{wordsAt, marked}
-use Rattle.type_marks.specs.Lists.{partLists, markedBy, partMarks, typeLists}
+use Rattle.quietness.specs.declared.quiet.Still.{Still}
+use Rattle.quietness.specs.Quiet.{stillOf}
+use Rattle.type_marks.specs.Lists.{partLists, partMarks, entryLists}
 use Rattle.form_marks.proofs.Nodes.{marked-append}
 
 -- ---- an order changes no mark
@@ -51,24 +53,26 @@ module _ {A : Type 0} (key : A → List ℕ) (width : ℕ) (one-width : (x : A) 
 
 -- ---- the parts of the list
 
--- the context lists what `all` would, up; without the insert, what `kind` would
-context-lists : (S : Schema) (t : ℕ) (still : Bool) → (cond still [] (insertOf t ∷ []) ++ whereParent S t (specialOf t)) ≡ typeLists S (not still) t up
-unfolding allLists kindLists
-context-lists S t true = refl
-context-lists S t false = refl
+-- what brings an object into the rule's context type and is listed
+abbrev entries : Schema → Rule → List EventType
+entries S r = entryLists S (stillOf (S .relationships) (r .context) (r .body)) (r .context)
+
+context-lists : (S : Schema) (r : Rule) → contextLists S r ≡ entries S r
+unfolding contextLists quietInsert quietSpecial
+context-lists S r = refl
 
 module _ (S : Schema) (r : Rule) (place : ℕ) where
-  list-marked : marked (eventList S r) place ≡ (marked (lists S (r .body) (r .context ∷ []) down) place || marked (typeLists S (not (quiet (r .body))) (r .context) up) place)
-  unfolding eventList contextLists
+  list-marked : marked (eventList S r) place ≡ (marked (lists S (r .body) (r .context ∷ []) down) place || marked (entries S r) place)
+  unfolding eventList
   list-marked =
       let body = lists S (r .body) (r .context ∷ []) down in
       any-placed eventTypeWords 3 three-words (λ k. sameList k (wordsAt place)) (body ++ contextLists S r)
       ∙ marked-append place body (contextLists S r)
-      ∙ ap (λ l. marked body place || marked l place) (context-lists S (r .context) (quiet (r .body)))
+      ∙ ap (λ l. marked body place || marked l place) (context-lists S r)
 
 -- ---- a rule of lent tables
 
-module _ (S : Schema) (rules bodies : List ℕ) (rule : ℕ) (context end : ℕ) (still : Bool) where
+module _ (S : Schema) (rules bodies : List ℕ) (rule : ℕ) (context end : ℕ) (still : Still) where
   abbrev rows : ℕ → BodyRow
   rows = bodyOf bodies rule
 
@@ -76,14 +80,14 @@ module _ (S : Schema) (rules bodies : List ℕ) (rule : ℕ) (context end : ℕ)
   form = (ending rows end) .form
 
   -- what the code marks of the body, and of the context
-  pub rule-marked : T (wholeBody rows end) → ruleRow rules bodies rule ≡ record { context = context; body = readBody rows end } → still ≡ quiet (asTruth form) → (place : ℕ)
-      → (partMarks S form (context ∷ []) 2 place || markedBy 1 (typeLists S (not still) context) place) ≡ marked (eventList S (ruleRow rules bodies rule)) place
+  pub rule-marked : T (wholeBody rows end) → ruleRow rules bodies rule ≡ record { context = context; body = readBody rows end } → still ≡ stillOf (S .relationships) context (asTruth form) → (place : ℕ)
+      → (partMarks S form (context ∷ []) 2 place || marked (entryLists S still context) place) ≡ marked (eventList S (ruleRow rules bodies rule)) place
   unfolding partLists
   rule-marked whole is q place =
       let w = whole-body rows end whole in
       let body : readBody rows end ≡ asTruth form = body-ending rows end whole in
       let r : Rule = record { context = context; body = asTruth form } in
       ap₂ _||_ (ap (λ p. partMarks S p (context ∷ []) 2 place) (is-truth form (w .isTruth)))
-      (or-false (marked (typeLists S (not still) context up) place) ∙ ap (λ b. marked (typeLists S (not b) context up) place) q)
+      (ap (λ b. marked (entryLists S b context) place) q)
       ∙ sym (list-marked S r place)
       ∙ ap (λ (k : Rule). marked (eventList S k) place) (sym (is ∙ (λ j. record { context = context; body = body j })))

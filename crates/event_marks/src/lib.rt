@@ -1,10 +1,9 @@
 // The event list of a rule as marks: what its body and its context list, by document 01's reach rules without objects.
 use body_rows::body::scan;
 use directions::DOWN;
-use directions::UP;
 use form_marks::mark_form;
-use quietness::quiet::quiet;
-use type_marks::put_members;
+use quietness::quiet::stillness;
+use type_marks::put_context;
 use typing::Place;
 use typing::floored_rows;
 ghost use mathlib.Core.Path.{_≡_};
@@ -17,8 +16,8 @@ ghost use Rattle.tables.specs.Columns.{ruleRow, floorsOf, schemaOf};
 ghost use Rattle.body_rows.specs.Marks.{bodyOf};
 ghost use Rattle.type_marks.specs.Marks.{places, marked, Added};
 
-// Marks what a rule of lent tables lists: what may turn its body false, and what brings an object into its context type. An insert
-// into it does so unless the body is quiet.
+// Marks what a rule of lent tables lists: what may turn its body false, and what brings an object into its context type, an insert or a
+// special that is not still.
 pub fn rule_marks(
     type_count: u32,
     types: &[u32],
@@ -62,6 +61,6 @@ pub fn rule_marks(
         DOWN,
         marks,
     );
-    let still = quiet(bodies, &starts, rule, end);
-    put_members(type_count, types, !still, context, UP, marks);
+    let still = stillness(relationships, bodies, &starts, form, context);
+    put_context(type_count, types, still, context, marks);
 }

@@ -1,2 +1,2 @@
-// Whether a rule's body is quiet.
+// Whether a rule's body is quiet, by the roles that count.
 pub mod quiet;

@@ -1,12 +1,13 @@
-// Whether a rule's body is quiet: an object without links must satisfy it.
+// Whether a rule's body is quiet: an object without links, at the roles that count, must satisfy it.
 use body_rows::body::field;
+use typing::Place;
 ghost use mathlib.Core.Path.{_≡_};
-ghost use mathlib.Core.Bool.{_&&_, _||_};
+ghost use mathlib.Core.Bool.{true, _&&_, _||_};
 ghost use lib.Dec.{T};
-ghost use Rattle.meaning.specs.Reach.{quiet};
 ghost use Rattle.tables.specs.Bodies.{asTruth, ending};
+ghost use Rattle.tables.specs.Columns.{relationshipsOf};
 ghost use Rattle.body_rows.specs.Marks.{bodyOf, Starts};
-ghost use Rattle.quietness.specs.Quiet.{turn, connects, quantifies, joined, quietPart, selfPart};
+ghost use Rattle.quietness.specs.Quiet.{turn, connects, quantifies, joined, counted, quietPart, selfPart, stillOf};
 
 const NOT: u32 = 6;
 
@@ -21,6 +22,19 @@ const FORALL: u32 = 11;
 const EXISTS: u32 = 12;
 
 const ROLE: u32 = 20;
+
+// Which roles of self count: every one, or those that start at the context type. Besides, how many relationships are used.
+struct Roles {
+    every: bool,
+    context: u32,
+    relationships: u32,
+}
+
+// What brings an object into a rule's context type and selects and lists nothing by itself: an insert, and a special.
+pub struct Still {
+    pub insert: bool,
+    pub special: bool,
+}
 
 // Whether both hold.
 pub fn both(a: bool, b: bool) -> bool
@@ -60,44 +74,102 @@ fn quantifier(code: u32) -> bool
     either(code == FORALL, code == EXISTS)
 }
 
-// Whether a form is a role of self.
-fn of_self(bodies: &[u32], rule: u32, end: u32) -> bool
+// Whether a role counts.
+fn counts(roles: Roles, relationships: &[u32], role: u32) -> bool
+    ensures { λ r. ⌜ r ≡ counted (roles .every) (relationshipsOf (roles .relationships) (now (relationships .entry))) (roles .context) role ⌝ }
+{
+    if roles.every {
+        return true;
+    }
+    schema::near_type(roles.relationships, relationships, role) == roles.context
+}
+
+// Whether a form is a role of self that counts.
+fn of_self(roles: Roles, relationships: &[u32], bodies: &[u32], rule: u32, end: u32) -> bool
     requires { ⌜ T ((ending (bodyOf (now bodies) rule) end) .sound) ⌝ }
-    ensures { λ r. ⌜ r ≡ selfPart ((ending (bodyOf (now (bodies .entry)) rule) end) .form) ⌝ }
+    ensures { λ r. ⌜ r ≡ selfPart (counted (roles .every) (relationshipsOf (roles .relationships) (now (relationships .entry))) (roles .context))
+        ((ending (bodyOf (now (bodies .entry)) rule) end) .form) ⌝ }
 {
     let row = end - 1;
     let role = field(bodies, rule, row, 0) == ROLE;
     let own = field(bodies, rule, row, 1) == 0;
-    both(role, own)
+    if !both(role, own) {
+        return false;
+    }
+    counts(roles, relationships, field(bodies, rule, row, 2))
 }
 
-// Whether an object without links must give a form the wanted truth. No part is walked twice: a connective asks one truth of each.
-fn quietly(bodies: &[u32], starts: &[u32; 65], rule: u32, end: u32, want: bool) -> bool
+// Whether an object without links at the roles that count must give a form the wanted truth. No part is walked twice: a connective asks one truth of each.
+fn quietly(
+    roles: Roles,
+    relationships: &[u32],
+    bodies: &[u32],
+    starts: &[u32; 65],
+    rule: u32,
+    end: u32,
+    want: bool,
+) -> bool
     requires { ⌜ (Starts (bodyOf (now bodies) rule) (now starts) end) × T ((ending (bodyOf (now bodies) rule) end) .sound) ⌝ }
-    ensures { λ r. ⌜ r ≡ quietPart ((ending (bodyOf (now (bodies .entry)) rule) end) .form) want ⌝ }
+    ensures { λ r. ⌜ r ≡ quietPart (counted (roles .every) (relationshipsOf (roles .relationships) (now (relationships .entry))) (roles .context))
+        ((ending (bodyOf (now (bodies .entry)) rule) end) .form) want ⌝ }
 {
     let row = end - 1;
     let code = field(bodies, rule, row, 0);
     if code == NOT {
-        return quietly(bodies, starts, rule, row, !want);
+        return quietly(roles, relationships, bodies, starts, rule, row, !want);
     }
     let index = row as usize;
     let first = starts[index];
     if connective(code) {
-        let a = quietly(bodies, starts, rule, first, turned(code == IMPLIES, want));
-        let b = quietly(bodies, starts, rule, row, want);
+        let other = turned(code == IMPLIES, want);
+        let a = quietly(roles, relationships, bodies, starts, rule, first, other);
+        let b = quietly(roles, relationships, bodies, starts, rule, row, want);
         return of_two(turned(code != AND, want), a, b);
     }
     if quantifier(code) {
-        return both(turned(code == EXISTS, want), of_self(bodies, rule, first));
+        return both(
+            turned(code == EXISTS, want),
+            of_self(roles, relationships, bodies, rule, first),
+        );
     }
     false
 }
 
-// Whether the form that ends before a row is a quiet body.
-pub fn quiet(bodies: &[u32], starts: &[u32; 65], rule: u32, end: u32) -> bool
-    requires { ⌜ (Starts (bodyOf (now bodies) rule) (now starts) end) × T ((ending (bodyOf (now bodies) rule) end) .sound) ⌝ }
-    ensures { λ r. ⌜ r ≡ quiet (asTruth ((ending (bodyOf (now (bodies .entry)) rule) end) .form)) ⌝ }
+// Whether a form is quiet by the roles that count.
+fn quiet(
+    every: bool,
+    relationships: &[u32],
+    bodies: &[u32],
+    starts: &[u32; 65],
+    at: Place,
+    context: u32,
+) -> bool
+    requires { ⌜ (Starts (bodyOf (now bodies) (at .rule)) (now starts) (at .end)) × T ((ending (bodyOf (now bodies) (at .rule)) (at .end)) .sound) ⌝ }
+    ensures { λ r. ⌜ r ≡ quietPart (counted every (relationshipsOf (at .relationships) (now (relationships .entry))) context)
+        ((ending (bodyOf (now (bodies .entry)) (at .rule)) (at .end)) .form) true ⌝ }
 {
-    quietly(bodies, starts, rule, end, true)
+    let roles = Roles {
+        every,
+        context,
+        relationships: at.relationships,
+    };
+    quietly(roles, relationships, bodies, starts, at.rule, at.end, true)
+}
+
+// What selects and lists nothing by itself, with the form as a rule's body.
+pub fn stillness(
+    relationships: &[u32],
+    bodies: &[u32],
+    starts: &[u32; 65],
+    at: Place,
+    context: u32,
+) -> Still
+    requires { ⌜ (Starts (bodyOf (now bodies) (at .rule)) (now starts) (at .end)) × T ((ending (bodyOf (now bodies) (at .rule)) (at .end)) .sound) ⌝ }
+    ensures { λ r. ⌜ r ≡ stillOf (relationshipsOf (at .relationships) (now (relationships .entry))) context
+        (asTruth ((ending (bodyOf (now (bodies .entry)) (at .rule)) (at .end)) .form)) ⌝ }
+{
+    Still {
+        insert: quiet(true, relationships, bodies, starts, at, context),
+        special: quiet(false, relationships, bodies, starts, at, context),
+    }
 }

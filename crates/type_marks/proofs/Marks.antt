@@ -15,7 +15,8 @@ use Rattle.meaning.specs.Reach.{Direction, up, down}
 use Rattle.meaning.specs.EventList.{EventType, specialOf, generalOf, eventTypeWords, whereParent, allLists, kindLists}
 use Rattle.directions.specs.Sets.{has, someOf}
 use Rattle.type_marks.specs.Marks.{places, wordsAt, marked, Added}
-use Rattle.type_marks.specs.Lists.{markedBy, typeLists}
+use Rattle.quietness.specs.declared.quiet.Still.{Still}
+use Rattle.type_marks.specs.Lists.{markedBy, typeLists, entryLists}
 
 pub added-none : (before : List Bool) → Added before before (λ place. false)
 added-none before = record { long = refl; each = λ place h. sym (or-false (getD before place false)) }
@@ -100,6 +101,24 @@ module _ (S : Schema) (whole parent : Bool) (t : ℕ) (is : parent ≡ hasParent
       step : (b : Bool) → ((b && sameList (1 ∷ t ∷ 0 ∷ []) (wordsAt place)) || (hasParent (S .types) t && sameList (6 ∷ t ∷ 0 ∷ []) (wordsAt place))) ≡ marked (typeLists S b t down) place
       step true = ap (λ x. sameList (1 ∷ t ∷ 0 ∷ []) (wordsAt place) || x) (sym (parent-marked S t (generalOf t) place))
       step false = sym (parent-marked S t (generalOf t) place)
+
+-- what brings an object into a context type, each unless it is still
+pub entry-marked : (S : Schema) (still : Still) (t : ℕ) {changing : Bool} → changing ≡ (not (still .special) && hasParent (S .types) t) → (place : ℕ)
+    → ((not (still .insert) && sameList (0 ∷ t ∷ 0 ∷ []) (wordsAt place)) || (changing && sameList (5 ∷ t ∷ 0 ∷ []) (wordsAt place))) ≡ marked (entryLists S still t) place
+unfolding eventTypeWords
+entry-marked S still t is place = ap (λ b. (not (still .insert) && inserting) || (b && specialising)) is ∙ step (still .insert) (still .special)
+  where
+    inserting : Bool
+    inserting = sameList (0 ∷ t ∷ 0 ∷ []) (wordsAt place)
+
+    specialising : Bool
+    specialising = sameList (5 ∷ t ∷ 0 ∷ []) (wordsAt place)
+
+    step : (insert special : Bool) → ((not insert && inserting) || ((not special && hasParent (S .types) t) && specialising)) ≡ marked (entryLists S (record { insert = insert; special = special }) t) place
+    step true true = refl
+    step true false = sym (parent-marked S t (specialOf t) place)
+    step false true = refl
+    step false false = ap (λ x. inserting || x) (sym (parent-marked S t (specialOf t) place))
 
 -- ---- the place of words
 

@@ -1,15 +1,16 @@
 -- What a form lists by a set of directions, and the marks of it.
 use Prim.Native.Nat.{ℕ}
 use mathlib.Core.Bool.{Bool, true, false, cond}
-use mathlib.Core.List.{List, [], _∷_}
+use mathlib.Core.List.{List, [], _∷_, _++_}
 use lib.Dec.{eqb}
 use Rattle.meaning.specs.Schema.{Relationship, Schema}
 use Rattle.meaning.specs.Forms.{variable}
 use Rattle.meaning.specs.Reach.{Direction}
-use Rattle.meaning.specs.EventList.{EventType, setOf, roleLists, allLists, kindLists, lists}
+use Rattle.meaning.specs.EventList.{EventType, insertOf, setOf, specialOf, whereParent, roleLists, allLists, kindLists, lists}
 use Rattle.tables.specs.Bodies.{Part, part}
 use Rattle.directions.specs.Sets.{someOf}
 use Rattle.typing.specs.Types.{memberOf}
+use Rattle.quietness.specs.declared.quiet.Still.{Still}
 use Rattle.type_marks.specs.Marks.{marked}
 
 -- of a form of any sort
@@ -27,6 +28,10 @@ partMarks S p ts set place = markedBy set (partLists S p ts) place
 abbrev pub typeLists : Schema → Bool → ℕ → Direction → List EventType
 typeLists S true t d = allLists S t d
 typeLists S false t d = kindLists S t d
+
+-- what brings an object into a context type, each unless it is still
+abbrev pub entryLists : Schema → Still → ℕ → List EventType
+entryLists S still t = cond (still .insert) [] (insertOf t ∷ []) ++ cond (still .special) [] (whereParent S t (specialOf t))
 
 -- what a row without parts lists, by its code and its first two fields: kind, all, role and cell; a num lists nothing
 unfoldable pub leafLists : Schema → List ℕ → ℕ → ℕ → ℕ → Direction → List EventType

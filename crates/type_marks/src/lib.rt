@@ -1,6 +1,7 @@
 // Marks of event types, and those of forms without parts.
 use directions::DOWN;
 use directions::UP;
+use quietness::quiet::Still;
 use quietness::quiet::both;
 use typing::Place;
 ghost use mathlib.Core.Path.{_≡_};
@@ -13,8 +14,8 @@ ghost use Rattle.meaning.specs.Schema.{ObjectType, Floor, Relationship};
 ghost use Rattle.meaning.specs.Forms.{variable};
 ghost use Rattle.meaning.specs.EventList.{setOf, roleLists};
 ghost use Rattle.tables.specs.Columns.{typesOf, relationshipsOf, schemaOf};
-ghost use Rattle.type_marks.specs.Marks.{places, wordsAt, Added};
-ghost use Rattle.type_marks.specs.Lists.{markedBy, typeLists, leafLists};
+ghost use Rattle.type_marks.specs.Marks.{places, wordsAt, marked, Added};
+ghost use Rattle.type_marks.specs.Lists.{markedBy, typeLists, entryLists, leafLists};
 
 // The kinds of events, by their places in document 01's order.
 const INSERT: u32 = 0;
@@ -114,6 +115,17 @@ pub fn put_members(
         t,
         marks,
     );
+}
+
+// Marks what brings an object into a rule's context type and is not still: an insert, and a special where the type has a parent.
+pub fn put_context(type_count: u32, types: &[u32], still: Still, t: u32, marks: &mut [bool])
+    requires { ⌜ length (now marks) ≡ places ⌝ }
+    ensures { λ _. ⌜ ((fs : List Floor) (rs : List Relationship) → Added (now (marks .entry)) (now (marks .exit))
+        (marked (entryLists (record { types = typesOf «type_count» (now (types .entry)); floors = fs; relationships = rs }) still t))) ⌝ }
+{
+    let parent = schema::has_parent(type_count, types, t);
+    put(!still.insert, INSERT, t, 0, marks);
+    put(both(!still.special, parent), SPECIAL, t, 0, marks);
 }
 
 // Marks what moves a role. A link is lost by a part, or with the object to which it leads.

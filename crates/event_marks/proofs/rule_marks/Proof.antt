@@ -1,14 +1,17 @@
 -- `event_marks::rule_marks` meets its contract, by the laws of Rules.
 use Prim.Native.Nat.{ℕ}
 use mathlib.Core.Path.{_≡_, refl, sym, subst}
+use mathlib.Core.List.{[], _∷_}
 use native.Mathlib.Omega.{arith}
 use lib.Dec.{T}
 use borrow.Author.Needs.{needs}
 use Rattle.meaning.specs.Schema.{Schema}
-use Rattle.tables.specs.Bodies.{BodyRow, wholeBody, readBody}
+use Rattle.tables.specs.Bodies.{BodyRow, wholeBody, readBody, ending}
 use Rattle.tables.specs.Columns.{ruleRow, floorsOf, schemaOf}
 use Rattle.tables.proofs.Forms.{WholeBody, whole-body}
 use Rattle.body_rows.specs.Marks.{bodyOf}
+use Rattle.type_marks.specs.Marks.{marked, Added}
+use Rattle.type_marks.specs.Lists.{partMarks, entryLists}
 use Rattle.type_marks.proofs.Marks.{added-as, added-then}
 use Rattle.event_marks.proofs.Rules.{rule-marked}
 use Rattle.event_marks.proofs.rule_marks.Statement.{statement}
@@ -28,8 +31,8 @@ form-sums c = c .before .before .before .before .before
 abbrev form-scan : tie.After-mark-form → tie.After-scan
 form-scan c = sums-scan (form-sums c)
 
-abbrev quiet-form : tie.After-quiet → tie.After-mark-form
-quiet-form c = c .before .before .before .before
+abbrev still-form : tie.After-stillness → tie.After-mark-form
+still-form c = c .before .before .before .before
 
 -- ---- the rule
 
@@ -75,11 +78,11 @@ mark-form-requires c κs =
     let few = w .few in
     (scanned .scan .ensures .0, w .sound, refl, omega arith, size-start (scanned .before) .pre .1, omega arith)
 
-quiet-requires : tie.Need-quiet-requires
-quiet-requires c κs = let scanned = form-scan (c .before .before .before) in (scanned .scan .ensures .0, body-is (scanned .before) .sound)
+stillness-requires : tie.Need-stillness-requires
+stillness-requires c κs = let scanned = form-scan (c .before .before .before) in (scanned .scan .ensures .0, body-is (scanned .before) .sound)
 
-put-members-requires : tie.Need-put-members-requires
-put-members-requires c κs = quiet-form (c .before) .mark-form .ensures .0
+put-context-requires : tie.Need-put-context-requires
+put-context-requires c κs = still-form (c .before) .mark-form .ensures .0
 
 same-length : tie.Need-same-length
 same-length c = search needs
@@ -88,12 +91,15 @@ returns : tie.Need-returns
 returns c =
     let listed = c .before .before in
     let still = listed .before .before in
-    let form = quiet-form still in
+    let form = still-form still in
     let size = form-scan form .before in
     let s = size-start size in
-    added-as (added-then (form .mark-form .ensures .1 (schema s .floors) (form-sums form .floored-rows .ensures)) (listed .put-members .ensures (schema s .floors) (schema s .relationships)))
+    let context = size .before .word .result in
+    let body : Added _ _ (partMarks (schema s) ((ending (rows s) (size .word2 .result)) .form) (context ∷ []) 2) = form .mark-form .ensures .1 (schema s .floors) (form-sums form .floored-rows .ensures) in
+    let entries : Added _ _ (marked (entryLists (schema s) (still .stillness .result) context)) = listed .put-context .ensures (schema s .floors) (schema s .relationships) in
+    added-as (added-then body entries)
     (λ place h.
-    rule-marked (schema s) (s .args .rules .now) (s .args .bodies .now) (s .args .rule) (size .before .word .result) (size .word2 .result) (still .quiet .result) (whole size) (rule-is size) (still .quiet .ensures) place)
+    rule-marked (schema s) (s .args .rules .now) (s .args .bodies .now) (s .args .rule) context (size .word2 .result) (still .stillness .result) (whole size) (rule-is size) (still .stillness .ensures) place)
 
 pub rule-marks-spec : {M : Type 1} → statement M
 rule-marks-spec =
@@ -105,7 +111,7 @@ rule-marks-spec =
     array-write-env
     floored-rows-requires
     mark-form-requires
-    quiet-requires
-    put-members-requires
+    stillness-requires
+    put-context-requires
     same-length
     returns)

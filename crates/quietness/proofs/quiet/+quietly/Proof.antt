@@ -10,11 +10,12 @@ use borrow.Author.Tests.{eq-eqb}
 use borrow.Fn.Kinds.{In}
 use borrow.Fn.PlainCycle.{Measures, is, falls, and}
 use Rattle.tables.specs.Bodies.{BodyRow, ending}
+use Rattle.tables.specs.Columns.{relationshipsOf}
 use Rattle.tables.proofs.Readings.{ending-start, sound-pos}
 use Rattle.body_rows.specs.Marks.{bodyOf, Starts}
 use Rattle.body_rows.proofs.Kept.{starts-less}
 use Rattle.meaning.proofs.Lists.{or-left, or-right}
-use Rattle.quietness.specs.Quiet.{turn, connects, quantifies, joined, quietPart, selfPart}
+use Rattle.quietness.specs.Quiet.{turn, connects, quantifies, joined, counted, quietPart, selfPart}
 use Rattle.quietness.proofs.Unlinked.{first-sound, second-sound, not-here, connected-here, quantified-here, other-here}
 use Rattle.quietness.proofs.quiet.quietly.Reads as quietly
 use Rattle.quietness.proofs.quiet.quietly.Kinds as quietly-kinds
@@ -29,15 +30,15 @@ use Rattle.quietness.proofs.quiet.of_self.Reads as of-self-reads
 use Rattle.quietness.proofs.quiet.+quietly.{statement}
 use Rattle.quietness.proofs.quiet.+quietly.Tie.{close}
 
-abbrev μ-end : Measures 2 quietly-kinds.ps ℕ
-μ-end κs a = a .1 .1 .1 .0
+abbrev μ-end : Measures 3 quietly-kinds.ps ℕ
+μ-end κs a = a .1 .1 .1 .1 .1 .0
 
 -- what `quietly` is given at the measure t, and what a call of it asks below t
-abbrev at-end : ℕ → In 2 quietly-kinds.ps
-at-end t = and 2 quietly-kinds.ps (is 2 quietly-kinds.ps μ-end t) quietly.Pre
+abbrev at-end : ℕ → In 3 quietly-kinds.ps
+at-end t = and 3 quietly-kinds.ps (is 3 quietly-kinds.ps μ-end t) quietly.Pre
 
-abbrev below : ℕ → In 2 quietly-kinds.ps
-below t = and 2 quietly-kinds.ps (falls 2 quietly-kinds.ps _<_ μ-end t) quietly.Pre
+abbrev below : ℕ → In 3 quietly-kinds.ps
+below t = and 3 quietly-kinds.ps (falls 3 quietly-kinds.ps _<_ μ-end t) quietly.Pre
 
 abbrev calls : ℕ → lts.Claims
 calls t = (
@@ -81,7 +82,7 @@ module _ (t : ℕ) where
   Quantified = lts.Then3 (calls t) (at-end t) quietly.Post
 
   abbrev field-start : Field → Start
-  field-start c = c .before .before
+  field-start c = c .before .before .before
 
   abbrev first-field : First → Field
   first-field c = c .before .before
@@ -99,6 +100,10 @@ module _ (t : ℕ) where
 
   abbrev row : Start → ℕ
   row s = s .args .end - 1
+
+  -- the roles that count
+  abbrev counts : Start → ℕ → Bool
+  counts s = let roles = s .args .roles in counted (roles .every) (relationshipsOf (roles .relationships) (s .args .relationships .now)) (roles .context)
 
   abbrev middle : Start → ℕ
   middle s = getD (s .args .starts .now) (row s) 0
@@ -125,8 +130,8 @@ module _ (t : ℕ) where
   middle-low s = subst (λ n. n ≤ row s) (sym (middle-is s)) (ending-start (rows s) (row s))
 
   -- what the form that ends with the row gives is what the form at the place gives
-  at-place : (s : Start) (b : Bool) → b ≡ quietPart ((ending (rows s) (suc (row s))) .form) (s .args .want) → b ≡ quietPart ((ending (rows s) (s .args .end)) .form) (s .args .want)
-  at-place s b p = p ∙ ap (λ n. quietPart ((ending (rows s) n) .form) (s .args .want)) (whole s)
+  at-place : (s : Start) (b : Bool) → b ≡ quietPart (counts s) ((ending (rows s) (suc (row s))) .form) (s .args .want) → b ≡ quietPart (counts s) ((ending (rows s) (s .args .end)) .form) (s .args .want)
+  at-place s b p = p ∙ ap (λ n. quietPart (counts s) ((ending (rows s) n) .form) (s .args .want)) (whole s)
 
   -- what a call for a part asks
   part-asks : (s : Start) (e : ℕ) → e ≤ row s → T ((ending (rows s) e) .sound) → (e < t) × ((Starts (rows s) (s .args .starts .now) e) × T ((ending (rows s) e) .sound))
@@ -165,7 +170,7 @@ module _ (t : ℕ) where
   -- ---- the needs, in the order of the code
 
   sub-row : lts.Need-sub-row (calls t) (at-end t) quietly.Post
-  sub-row c = positive (c .before)
+  sub-row c = positive (c .before .before)
 
   field-requires : lts.Need-field-requires (calls t) (at-end t) quietly.Post
   field-requires c κs = tt
@@ -179,7 +184,7 @@ module _ (t : ℕ) where
   returns c =
       let field = c .before .before in
       let s = field-start field in
-      at-place s _ (c .quietly .ensures ∙ not-here (rows s) (row s) (sound s) (s .args .want) (negates field (c .before .if1 .taken)))
+      at-place s _ (c .quietly .ensures ∙ not-here (rows s) (row s) (sound s) (counts s) (s .args .want) (negates field (c .before .if1 .taken)))
 
   cast-index : lts.Need-cast-index (calls t) (at-end t) quietly.Post
   cast-index c = let h = inside (field-start (c .before)) in omega arith
@@ -220,12 +225,12 @@ module _ (t : ℕ) where
       let f = connected-first connected in
       let w = s f .args .want in
       let code-is = first-field f .field .ensures in
-      let a = first .quietly2 .ensures ∙ ap₂ (λ n v. quietPart ((ending (rows (s f)) n) .form) v) (middle-is (s f)) (first .before .turned .ensures ∙ ap (λ k. turn (eqb k 10) w) code-is) in
+      let a = first .quietly2 .ensures ∙ ap₂ (λ n v. quietPart (counts (s f)) ((ending (rows (s f)) n) .form) v) (middle-is (s f)) (first .before .turned .ensures ∙ ap (λ k. turn (eqb k 10) w) code-is) in
       let all = c .before .turned2 .ensures ∙ ap (λ k. turn (not (eqb k 7)) w) code-is in
       at-place (s f) _
       (c .of-two .ensures
       ∙ (λ j. joined (all j) (a j) (second .quietly3 .ensures j))
-      ∙ connected-here (rows (s f)) (row (s f)) (sound (s f)) w (not-negated f) (connects-here connected))
+      ∙ connected-here (rows (s f)) (row (s f)) (sound (s f)) (counts (s f)) w (not-negated f) (connects-here connected))
 
   quantifier-requires : lts.Need-quantifier-requires (calls t) (at-end t) quietly.Post
   quantifier-requires c κs = tt
@@ -248,18 +253,18 @@ module _ (t : ℕ) where
       let f = others-first others in
       let w = s f .args .want in
       let wanted = c .before .before .turned3 .ensures ∙ ap (λ k. turn (eqb k 12) w) (first-field f .field .ensures) in
-      let own = c .before .of-self .ensures ∙ ap (λ n. selfPart ((ending (rows (s f)) n) .form)) (middle-is (s f)) in
+      let own = c .before .of-self .ensures ∙ ap (λ n. selfPart (counts (s f)) ((ending (rows (s f)) n) .form)) (middle-is (s f)) in
       at-place (s f) _
       (c .both .ensures
       ∙ ap₂ _&&_ wanted own
-      ∙ quantified-here (rows (s f)) (row (s f)) (sound (s f)) w (not-negated f) (connects-not others) (quantifies-here quantified))
+      ∙ quantified-here (rows (s f)) (row (s f)) (sound (s f)) (counts (s f)) w (not-negated f) (connects-not others) (quantifies-here quantified))
 
   returns-4 : lts.Need-returns-4 (calls t) (at-end t) quietly.Post
   returns-4 c =
       let others = c .before .before in
       let f = others-first others in
       let quantifies-not = ap quantifies (sym (first-field f .field .ensures)) ∙ sym (c .before .quantifier .ensures) ∙ c .if3 .left in
-      at-place (s f) false (other-here (rows (s f)) (row (s f)) (sound (s f)) (s f .args .want) (not-negated f) (connects-not others) quantifies-not)
+      at-place (s f) false (other-here (rows (s f)) (row (s f)) (sound (s f)) (counts (s f)) (s f .args .want) (not-negated f) (connects-not others) quantifies-not)
 
 pub +quietly-spec : {M : Type 1} → statement M
 +quietly-spec =

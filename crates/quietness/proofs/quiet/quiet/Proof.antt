@@ -1,6 +1,5 @@
 -- `quietness::quiet::quiet` meets its contract.
 use borrow.Author.Needs.{needs}
-use Rattle.meaning.specs.Reach.{quiet}
 use Rattle.quietness.proofs.quiet.quiet.Statement.{statement}
 use Rattle.quietness.proofs.quiet.quiet.Tie as tie
 
@@ -8,7 +7,6 @@ quietly-requires : tie.Need-quietly-requires
 quietly-requires c κs = search needs
 
 returns : tie.Need-returns
-unfolding quiet
 returns c = c .quietly .ensures
 
 pub quiet-spec : {M : Type 1} → statement M
