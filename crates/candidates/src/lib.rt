@@ -2,8 +2,9 @@
 use directions::DOWN;
 use going_back::back;
 use ocl::Place;
+use quietness::quiet::Still;
 use row_sets::clear;
-use row_sets::put_answers;
+use row_sets::put_if;
 use tables::Counts;
 ghost use mathlib.Core.Path.{_≡_};
 ghost use mathlib.Core.Bool.{true, false, _||_};
@@ -11,18 +12,19 @@ ghost use Prim.Native.Nat.{ℕ, _+_, _≤_, _<_};
 ghost use lib.Dec.{T};
 ghost use lib.ListN.{length, getD};
 ghost use Rattle.meaning.specs.Schema.{Schema};
-ghost use Rattle.meaning.specs.Reach.{Change, inserted, specialised};
+ghost use Rattle.meaning.specs.Reach.{Change};
 ghost use Rattle.rows.specs.Rows.{wordAt};
 ghost use Rattle.tables.specs.Bodies.{wholeBody};
 ghost use Rattle.tables.specs.Columns.{ruleRow};
 ghost use Rattle.typing.specs.Types.{FlooredRows};
+ghost use Rattle.quietness.specs.Quiet.{StillBy, cameInto};
 ghost use Rattle.body_rows.specs.Marks.{bodyOf};
 ghost use Rattle.walks.specs.Site.{siteOf, idIn};
 ghost use Rattle.trace_places.specs.Traces.{Traced, Traces};
 ghost use Rattle.going_back.specs.Back.{candidate};
 ghost use Rattle.going_back.specs.Walkable.{BodyAble};
 
-// The first set becomes that of the objects that were brought into a type. Of an insert it does not matter here whether a body is quiet.
+// The first set becomes that of the objects that an insert or a special that is not still brought into a type.
 fn put_brought(
     n: Counts,
     types: &[u32],
@@ -31,17 +33,17 @@ fn put_brought(
     events: &[u32],
     trace: &[u16; 16675],
     context: u32,
+    still: Still,
     sets: &mut [bool],
 )
     requires { ⌜ (Traces n (now types) (now objects) (now links) (now events) (now trace)) × (length (now sets) ≡ 65536) ⌝ }
     ensures { λ _. ⌜ (length (now (sets .exit)) ≡ length (now (sets .entry)))
         × ((c : Change) → Traced c n (now (types .entry)) (now (objects .entry)) (now (links .entry)) (now (events .entry)) (now (trace .entry))
-        → (row : ℕ) → row < n .objects
-        → (inserted c (idIn (now (objects .entry)) row) context || specialised c (idIn (now (objects .entry)) row) context) ≡ true
-        → getD (now (sets .exit)) (0 + row) false ≡ true) ⌝ }
+        → (row : ℕ) → row < n .objects → cameInto c still context (idIn (now (objects .entry)) row) ≡ true → getD (now (sets .exit)) (0 + row) false ≡ true) ⌝ }
 {
     clear(n, 0, sets);
-    put_answers(
+    put_if(
+        !still.insert,
         n,
         types,
         objects,
@@ -53,7 +55,8 @@ fn put_brought(
         0,
         sets,
     );
-    put_answers(
+    put_if(
+        !still.special,
         n,
         types,
         objects,
@@ -67,8 +70,8 @@ fn put_brought(
     );
 }
 
-// Puts the rows of a rule's candidates into the first set: of the objects that were brought into its context type, and of those from which a fall of its body
-// is reached. It answers whether everything is.
+// Puts the rows of a rule's candidates into the first set: of the objects that something not still brought into its context type, and of those from which a
+// fall of its body is reached. It answers whether everything is.
 fn put_candidates(
     n: Counts,
     types: &[u32],
@@ -82,6 +85,7 @@ fn put_candidates(
     events: &[u32],
     trace: &[u16; 16675],
     rule: u32,
+    still: Still,
     sets: &mut [bool],
 ) -> bool
     requires { ⌜ T (wholeBody (bodyOf (now bodies) rule) (wordAt (now rules) 2 rule 1))
@@ -90,6 +94,7 @@ fn put_candidates(
     ensures { λ r. ⌜ (length (now (sets .exit)) ≡ length (now (sets .entry)))
         × ((c : Change) → Traced c n (now (types .entry)) (now (objects .entry)) (now (links .entry)) (now (events .entry)) (now (trace .entry))
         → FlooredRows (c .schema) (bodyOf (now (bodies .entry)) rule) (wordAt (now (rules .entry)) 2 rule 1) (now (floored .entry))
+        → StillBy (c .schema) (ruleRow (now (rules .entry)) (now (bodies .entry)) rule) still
         → r ≡ false → (row : ℕ) → row < n .objects
         → candidate c (ruleRow (now (rules .entry)) (now (bodies .entry)) rule) (idIn (now (objects .entry)) row) ≡ true
         → getD (now (sets .exit)) (0 + row) false ≡ true) ⌝ }
@@ -98,7 +103,17 @@ fn put_candidates(
         return false;
     }
     let context = rows::word(rules, tables::RULE_WIDTH, rule, 0);
-    put_brought(n, types, objects, links, events, trace, context, sets);
+    put_brought(
+        n,
+        types,
+        objects,
+        links,
+        events,
+        trace,
+        context,
+        still,
+        sets,
+    );
     let body = Place(rule, rows::word(rules, tables::RULE_WIDTH, rule, 1), 1);
     back(
         n,
@@ -146,6 +161,7 @@ pub fn candidates(
     events: &[u32],
     trace: &[u16; 16675],
     rule: u32,
+    still: Still,
     sets: &mut [bool],
 ) -> [bool; 1024]
     requires { ⌜ T (wholeBody (bodyOf (now bodies) rule) (wordAt (now rules) 2 rule 1))
@@ -154,6 +170,7 @@ pub fn candidates(
     ensures { λ r. ⌜ (length (now (sets .exit)) ≡ length (now (sets .entry)))
         × ((c : Change) → Traced c n (now (types .entry)) (now (objects .entry)) (now (links .entry)) (now (events .entry)) (now (trace .entry))
         → FlooredRows (c .schema) (bodyOf (now (bodies .entry)) rule) (wordAt (now (rules .entry)) 2 rule 1) (now (floored .entry))
+        → StillBy (c .schema) (ruleRow (now (rules .entry)) (now (bodies .entry)) rule) still
         → (row : ℕ) → row < n .objects
         → candidate c (ruleRow (now (rules .entry)) (now (bodies .entry)) rule) (idIn (now (objects .entry)) row) ≡ true
         → getD r row false ≡ true) ⌝ }
@@ -171,6 +188,7 @@ pub fn candidates(
         events,
         trace,
         rule,
+        still,
         sets,
     );
     marks_of(n, everything, sets)

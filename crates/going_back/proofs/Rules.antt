@@ -2,7 +2,7 @@
 use Prim.Native.Nat.{ℕ, _+_, _^_, _≤_, _<_}
 use mathlib.Core.Path.{_≡_, refl, sym, ap, subst, _∙_}
 use mathlib.Core.Logic.{⊎-elim}
-use mathlib.Core.Bool.{Bool, true, false, _&&_, _||_, not}
+use mathlib.Core.Bool.{Bool, true, false}
 use mathlib.Core.List.{List, [], _∷_}
 use native.Mathlib.Omega.{arith}
 use lib.Dec.{T}
@@ -11,7 +11,7 @@ use mir.Facts.{and-yes}
 use Rattle.meaning.specs.Limits.{maxTypes, maxRelationships}
 use Rattle.meaning.specs.Schema.{Floor, Schema}
 use Rattle.meaning.specs.Forms.{truth, wellTyped, Rule}
-use Rattle.meaning.specs.Reach.{Change, down, quiet, inserted, specialised, broughtIn}
+use Rattle.meaning.specs.Reach.{Change, down, broughtIn}
 use Rattle.meaning.proofs.Registers.{RegisterFits}
 use Rattle.rows.specs.Rows.{wordAt}
 use Rattle.tables.specs.Bodies.{sortOf, sameSort, wholeBody, readBody, ending, part}
@@ -27,7 +27,7 @@ use Rattle.walks.specs.Site.{Site, siteOf, rowsAt, formAt, idIn}
 use Rattle.ocl.proofs.Bodies.{body-ready}
 use Rattle.going_back.specs.Back.{reached, partReached, reachedBy, candidate, Covered}
 use Rattle.going_back.specs.Walkable.{BodyAble}
-use Rattle.row_sets.proofs.Tests.{one-true, both-true, or-more}
+use Rattle.row_sets.proofs.Tests.{one-true}
 
 module _ (n : Counts) (types rules bodies objects links index : List ℕ) (rule : ℕ) (whole : T (wholeBody (bodyOf bodies rule) (wordAt rules 2 rule 1))) where
   abbrev w : Site
@@ -79,16 +79,9 @@ module _ (n : Counts) (types rules bodies objects links index : List ℕ) (rule 
   abbrev Put : (ℕ → Bool) → List Bool → Type 0
   Put put sets = (row : ℕ) → row < n .objects → put (idIn objects row) ≡ true → getD sets (0 + row) false ≡ true
 
-  pub candidates-covered : (c : Change) {everything : Bool} {sets : List Bool} → let context = wordAt rules 2 rule 0 in
-      Put (λ u. inserted c u context || specialised c u context) sets
-      → Covered (reachedBy c (formAt w size) 1 2) objects (n .objects) 1 everything sets
-      → everything ≡ false
-      → Put (candidate c r) sets
-  unfolding candidate broughtIn ruleRow partReached
+  pub candidates-covered : (c : Change) {everything : Bool} {sets : List Bool} → Put (broughtIn c r) sets → Covered (reachedBy c (formAt w size) 1 2) objects (n .objects) 1 everything sets → everything ≡ false → Put (candidate c r) sets
+  unfolding candidate ruleRow partReached
   candidates-covered c brought body still row h t =
       let u = idIn objects row in
-      let context = wordAt rules 2 rule 0 in
-      ⊎-elim
-      (λ e. body .each still 0 (omega arith) row h (ap (λ p. partReached c p 1 0 u down) (sym body-form) ∙ e))
-      (λ e. brought row h (or-more (inserted c u context && not (quiet (readBody (rowsAt w) size))) (specialised c u context) (λ i. both-true (inserted c u context) _ i .0) (λ i. i) e))
+      ⊎-elim (λ e. body .each still 0 (omega arith) row h (ap (λ p. partReached c p 1 0 u down) (sym body-form) ∙ e)) (λ e. brought row h e)
       (one-true (reached c (readBody (rowsAt w) size) 1 0 u down) (broughtIn c r u) t)

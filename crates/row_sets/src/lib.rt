@@ -242,8 +242,8 @@ pub fn put_back(
     }
 }
 
-// The same, if it is wanted.
-fn put_if(
+// Puts the rows of the objects for which some event answers a question into a variable's set, if it is wanted.
+pub fn put_if(
     wanted: bool,
     n: Counts,
     types: &[u32],

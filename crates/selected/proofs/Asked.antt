@@ -8,23 +8,23 @@ use lib.Dec.{T}
 use lib.ListN.{getD, take}
 use Rattle.meaning.specs.Schema.{under}
 use Rattle.meaning.specs.Register.{isUnder}
-use Rattle.meaning.specs.Forms.{truth, Rule}
-use Rattle.meaning.specs.Reach.{Change, down, moves, quiet, inserted, specialised, broughtIn, selected}
+use Rattle.meaning.specs.Forms.{Rule}
+use Rattle.meaning.specs.Reach.{Change, down, moves, broughtIn, selected}
 use Rattle.rows.specs.Rows.{wordAt}
-use Rattle.tables.specs.Bodies.{wholeBody, readBody, part}
+use Rattle.tables.specs.Bodies.{wholeBody}
 use Rattle.tables.specs.Columns.{typesOf, objectRow, ruleRow}
 use Rattle.tables.specs.declared.Counts.{Counts}
 use Rattle.body_rows.specs.Marks.{bodyOf}
-use Rattle.walks.specs.Site.{Site, siteOf, rowsAt, formAt, idIn}
-use Rattle.trace_places.specs.Questions.{asked, insertedInto}
+use Rattle.walks.specs.Site.{Site, siteOf, idIn}
 use Rattle.trace_places.specs.Traces.{Traced}
 use Rattle.reach.specs.Moves.{partMoves, movesAt}
-use Rattle.reach.proofs.Leaves.{asked-inserted, under-end}
+use Rattle.reach.proofs.Leaves.{under-end}
 use Rattle.meaning.proofs.Lists.{decide}
 use Rattle.going_back.specs.Back.{candidate}
 use Rattle.row_sets.proofs.Tests.{so-true}
 use Rattle.going_back.proofs.Coverage.{selected-candidate}
 use Rattle.going_back.proofs.Rules.{body-form}
+use Rattle.quietness.specs.declared.quiet.Still.{Still}
 use Rattle.selected.specs.Ready.{KnownBy, Marked}
 
 -- ---- two parts, of which the first decides or not
@@ -47,15 +47,15 @@ off-true : (b : Bool) → T (not b) → b ≡ false
 off-true true h = absurd h
 off-true false h = refl
 
-swapped : (s i : Bool) → (not s && (true && i)) ≡ (i && not s)
-swapped true true = refl
-swapped true false = refl
-swapped false true = refl
-swapped false false = refl
-
--- an insert is asked for only where the body is not quiet
-pub asked-insert : (c : Change) (u t : ℕ) (still : Bool) → (not still && (true && asked c (insertedInto t) u)) ≡ (inserted c u t && not still)
-asked-insert c u t still = swapped still (asked c (insertedInto t) u) ∙ ap (λ i. i && not still) (asked-inserted c u t)
+-- what is asked only where it is not still
+pub unless-still : (still : Bool) {a b : Bool} → a ≡ b → (not still && (true && a)) ≡ (b && not still)
+unless-still still {a} e = swapped still a ∙ ap (λ i. i && not still) e
+  where
+    swapped : (s i : Bool) → (not s && (true && i)) ≡ (i && not s)
+    swapped true true = refl
+    swapped true false = refl
+    swapped false true = refl
+    swapped false false = refl
 
 -- ---- a rule at a row
 
@@ -96,13 +96,13 @@ module _ {c : Change} {n : Counts} {types objects links events trace : List ℕ}
 
 -- ---- a row that is not marked
 
-pub unmarked : {c : Change} {n : Counts} {types objects links events trace : List ℕ} (traced : Traced c n types objects links events trace) (rules bodies : List ℕ) (rule : ℕ) (floored marks : List Bool)
-    → Marked n types objects links events trace rules bodies rule floored marks → KnownBy c rules bodies rule floored
+pub unmarked : {c : Change} {n : Counts} {types objects links events trace : List ℕ} (traced : Traced c n types objects links events trace) (rules bodies : List ℕ) (rule : ℕ) (floored marks : List Bool) {still : Still}
+    → Marked n types objects links events trace rules bodies rule floored still marks → KnownBy c rules bodies rule floored still
     → (row : ℕ) → row < n .objects → getD marks row false ≡ false → false ≡ selected c (ruleRow rules bodies rule) (idIn objects row)
 unmarked {c} {objects = objects} traced rules bodies rule floored marks marked known row h off =
     let r = ruleRow rules bodies rule in
     let u = idIn objects row in
     ⊎-elim
-    (λ (yes : T (selected c r u)). absurd (false≢true (sym off ∙ marked c traced (known .floors) row h (so-true (candidate c r u) (selected-candidate c r u (known .typed) yes)))))
+    (λ (yes : T (selected c r u)). absurd (false≢true (sym off ∙ marked c traced (known .floors) (known .stills) row h (so-true (candidate c r u) (selected-candidate c r u (known .typed) yes)))))
     (λ no. sym (off-true (selected c r u) no))
     (decide (selected c r u))

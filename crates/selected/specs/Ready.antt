@@ -14,6 +14,8 @@ use Rattle.tables.specs.Columns.{ruleRow}
 use Rattle.tables.specs.declared.Counts.{Counts}
 use Rattle.body_rows.specs.Marks.{bodyOf}
 use Rattle.typing.specs.Types.{FlooredRows}
+use Rattle.quietness.specs.declared.quiet.Still.{Still}
+use Rattle.quietness.specs.Quiet.{StillBy}
 use Rattle.walks.specs.Site.{siteOf, idIn}
 use Rattle.trace_places.specs.Traces.{Traced}
 use Rattle.going_back.specs.Back.{candidate}
@@ -29,13 +31,15 @@ pub record RuleReady (n : Counts) (types objects links index rules bodies starts
 abbrev pub FlooredBy : Change → List ℕ → List ℕ → ℕ → List Bool → Type 0
 FlooredBy c rules bodies rule floored = FlooredRows (c .schema) (bodyOf bodies rule) (wordAt rules 2 rule 1) floored
 
--- and it is well typed
-pub record KnownBy (c : Change) (rules bodies : List ℕ) (rule : ℕ) (floored : List Bool) : Type 0 where
+-- it is well typed, and what is still of it is known
+pub record KnownBy (c : Change) (rules bodies : List ℕ) (rule : ℕ) (floored : List Bool) (still : Still) : Type 0 where
   pub typed : T (wellTyped (c .schema) ((ruleRow rules bodies rule) .context ∷ []) ((ruleRow rules bodies rule) .body))
   pub floors : FlooredBy c rules bodies rule floored
+  pub stills : StillBy (c .schema) (ruleRow rules bodies rule) still
 
 -- the marks of rows have every candidate of the rule
-abbrev pub Marked : Counts → List ℕ → List ℕ → List ℕ → List ℕ → List ℕ → List ℕ → List ℕ → ℕ → List Bool → List Bool → Type 0
-Marked n types objects links events trace rules bodies rule floored marks =
-    (c : Change) → Traced c n types objects links events trace → FlooredBy c rules bodies rule floored → (row : ℕ) → row < n .objects
+abbrev pub Marked : Counts → List ℕ → List ℕ → List ℕ → List ℕ → List ℕ → List ℕ → List ℕ → ℕ → List Bool → Still → List Bool → Type 0
+Marked n types objects links events trace rules bodies rule floored still marks =
+    (c : Change) → Traced c n types objects links events trace → FlooredBy c rules bodies rule floored → StillBy (c .schema) (ruleRow rules bodies rule) still
+    → (row : ℕ) → row < n .objects
     → candidate c (ruleRow rules bodies rule) (idIn objects row) ≡ true → getD marks row false ≡ true

@@ -1,19 +1,19 @@
 // Whether a rule is selected at an object. The forward rule is asked at marked objects only.
 use directions::DOWN;
 use ocl::Place;
-use quietness::quiet::quiet;
+use quietness::quiet::Still;
 use reach::moved;
 use tables::Counts;
 ghost use mathlib.Core.Path.{_≡_};
-ghost use mathlib.Core.Bool.{_&&_, _||_, not};
 ghost use Prim.Native.Nat.{_<_};
-ghost use Rattle.meaning.specs.Reach.{Change, quiet, inserted, specialised, selected};
+ghost use Rattle.meaning.specs.Reach.{Change, selected};
 ghost use Rattle.tables.specs.Columns.{ruleRow};
+ghost use Rattle.quietness.specs.Quiet.{StillBy, cameInto};
 ghost use Rattle.walks.specs.Site.{idIn};
 ghost use Rattle.trace_places.specs.Traces.{Traced, Traces};
 ghost use Rattle.selected.specs.Ready.{RuleReady, FlooredBy, KnownBy, Marked};
 
-// Whether an insert or a special brought the object in a row into a type; an insert does not count where the body is quiet.
+// Whether an insert or a special that is not still brought the object in a row into a type.
 fn brought_in(
     n: Counts,
     types: &[u32],
@@ -22,15 +22,15 @@ fn brought_in(
     events: &[u32],
     trace: &[u16; 16675],
     context: u32,
-    still: bool,
+    still: Still,
     row: u32,
 ) -> bool
     requires { ⌜ (Traces n (now types) (now objects) (now links) (now events) (now trace)) × (row < n .objects) ⌝ }
     ensures { λ r. ⌜ ((c : Change) → Traced c n (now (types .entry)) (now (objects .entry)) (now (links .entry)) (now (events .entry)) (now (trace .entry))
-        → r ≡ ((inserted c (idIn (now (objects .entry)) row) context && not still) || specialised c (idIn (now (objects .entry)) row) context)) ⌝ }
+        → r ≡ cameInto c still context (idIn (now (objects .entry)) row)) ⌝ }
 {
     if questions::ask_if(
-        !still,
+        !still.insert,
         true,
         n,
         types,
@@ -44,7 +44,9 @@ fn brought_in(
     ) {
         return true;
     }
-    questions::ask(
+    questions::ask_if(
+        !still.special,
+        true,
         n,
         types,
         objects,
@@ -71,14 +73,14 @@ fn selected_at(
     events: &[u32],
     trace: &[u16; 16675],
     rule: u32,
-    still: bool,
+    still: Still,
     row: u32,
 ) -> bool
     requires { ⌜ (RuleReady n (now types) (now objects) (now links) (now index) (now rules) (now bodies) (now spans) rule)
-        × (Traces n (now types) (now objects) (now links) (now events) (now trace))
-        × (still ≡ quiet ((ruleRow (now rules) (now bodies) rule) .body)) × (row < n .objects) ⌝ }
+        × (Traces n (now types) (now objects) (now links) (now events) (now trace)) × (row < n .objects) ⌝ }
     ensures { λ r. ⌜ ((c : Change) → Traced c n (now (types .entry)) (now (objects .entry)) (now (links .entry)) (now (events .entry)) (now (trace .entry))
         → FlooredBy c (now (rules .entry)) (now (bodies .entry)) rule (now (floored .entry))
+        → StillBy (c .schema) (ruleRow (now (rules .entry)) (now (bodies .entry)) rule) still
         → r ≡ selected c (ruleRow (now (rules .entry)) (now (bodies .entry)) rule) (idIn (now (objects .entry)) row)) ⌝ }
 {
     let context = rows::word(rules, tables::RULE_WIDTH, rule, 0);
@@ -122,16 +124,15 @@ pub fn chosen_at(
     events: &[u32],
     trace: &[u16; 16675],
     rule: u32,
-    still: bool,
+    still: Still,
     marks: &[bool; 1024],
     row: u32,
 ) -> bool
     requires { ⌜ (RuleReady n (now types) (now objects) (now links) (now index) (now rules) (now bodies) (now spans) rule)
         × (Traces n (now types) (now objects) (now links) (now events) (now trace))
-        × (still ≡ quiet ((ruleRow (now rules) (now bodies) rule) .body))
-        × (Marked n (now types) (now objects) (now links) (now events) (now trace) (now rules) (now bodies) rule (now floored) (now marks)) × (row < n .objects) ⌝ }
+        × (Marked n (now types) (now objects) (now links) (now events) (now trace) (now rules) (now bodies) rule (now floored) still (now marks)) × (row < n .objects) ⌝ }
     ensures { λ r. ⌜ ((c : Change) → Traced c n (now (types .entry)) (now (objects .entry)) (now (links .entry)) (now (events .entry)) (now (trace .entry))
-        → KnownBy c (now (rules .entry)) (now (bodies .entry)) rule (now (floored .entry))
+        → KnownBy c (now (rules .entry)) (now (bodies .entry)) rule (now (floored .entry)) still
         → r ≡ selected c (ruleRow (now (rules .entry)) (now (bodies .entry)) rule) (idIn (now (objects .entry)) row)) ⌝ }
 {
     let at = row as usize;

@@ -1,7 +1,8 @@
 // The objects at which a rule is selected.
 use body_rows::body::scan;
 use candidates::candidates;
-use quietness::quiet::quiet;
+use quietness::quiet::Still;
+use quietness::quiet::stillness;
 use selected::chosen_at;
 use tables::Counts;
 use typing::Place;
@@ -10,8 +11,8 @@ ghost use mathlib.Core.Path.{_≡_};
 ghost use mathlib.Core.List.{[], _++_};
 ghost use Prim.Native.Nat.{_+_, _*_, _≤_, _<_};
 ghost use lib.ListN.{length, take, set};
-ghost use Rattle.meaning.specs.Reach.{Change, quiet};
-ghost use Rattle.tables.specs.Columns.{ruleRow, floorsOf, schemaOf};
+ghost use Rattle.meaning.specs.Reach.{Change};
+ghost use Rattle.tables.specs.Columns.{floorsOf, schemaOf};
 ghost use Rattle.tables.specs.Layouts.{sheetOf};
 ghost use Rattle.trace_places.specs.Traces.{Traced, Traces};
 ghost use Rattle.full_search.specs.Search.{Clear};
@@ -41,19 +42,18 @@ fn choose(
     events: &[u32],
     trace: &[u16; 16675],
     rule: u32,
-    still: bool,
+    still: Still,
     marks: &[bool; 1024],
     at: u32,
     chosen: &mut [u16],
 ) -> u32
     requires { ⌜ (RuleReady n (now types) (now objects) (now links) (now index) (now rules) (now bodies) (now spans) rule)
         × (Traces n (now types) (now objects) (now links) (now events) (now trace))
-        × (still ≡ quiet ((ruleRow (now rules) (now bodies) rule) .body))
-        × (Marked n (now types) (now objects) (now links) (now events) (now trace) (now rules) (now bodies) rule (now floored) (now marks))
+        × (Marked n (now types) (now objects) (now links) (now events) (now trace) (now rules) (now bodies) rule (now floored) still (now marks))
         × (rule < 32) × (at ≤ rule * 1024) × (length (now chosen) ≡ 32768) ⌝ }
     ensures { λ r. ⌜ (length (now (chosen .exit)) ≡ length (now (chosen .entry))) × (r ≤ at + n .objects)
         × ((c : Change) → Traced c n (now (types .entry)) (now (objects .entry)) (now (links .entry)) (now (events .entry)) (now (trace .entry))
-        → KnownBy c (now (rules .entry)) (now (bodies .entry)) rule (now (floored .entry))
+        → KnownBy c (now (rules .entry)) (now (bodies .entry)) rule (now (floored .entry)) still
         → take r (now (chosen .exit)) ≡ take at (now (chosen .entry)) ++ ruleCodes c (now (rules .entry)) (now (bodies .entry)) (now (objects .entry)) (n .objects) rule) ⌝ }
 {
     let mut count = at;
@@ -111,6 +111,7 @@ pub fn select_rule(
         → c .schema ≡ schemaOf (n .types) (now (types .entry)) (floorsOf (n .floors) (now (floors .entry))) (n .relationships) (now (relationships .entry))
         → take r (now (chosen .exit)) ≡ take at (now (chosen .entry)) ++ ruleCodes c (now (rules .entry)) (now (bodies .entry)) (now (objects .entry)) (n .objects) rule) ⌝ }
 {
+    let context = rows::word(rules, tables::RULE_WIDTH, rule, 0);
     let size = rows::word(rules, tables::RULE_WIDTH, rule, 1);
     let spans = scan(bodies, rule, size);
     let starts = spans.starts;
@@ -123,7 +124,7 @@ pub fn select_rule(
         depth: 1,
     };
     let floored = floored_rows(types, floors, relationships, bodies, &starts, body);
-    let still = quiet(bodies, &starts, rule, size);
+    let still = stillness(relationships, bodies, &starts, body, context);
     let marks = candidates(
         n,
         types,
@@ -137,6 +138,7 @@ pub fn select_rule(
         events,
         trace,
         rule,
+        still,
         sets,
     );
     choose(

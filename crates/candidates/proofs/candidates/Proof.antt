@@ -19,9 +19,9 @@ returns : tie.Need-returns
 returns c =
     let put = c .before .before .before .before in (
       put .put-candidates .ensures .0,
-      λ k traced floors row h t.
+      λ k traced floors stills row h t.
           c .marks-of .ensures row h
-          ∙ or-else (put .put-candidates .result) (λ still. rw (zero-add row) at (put .put-candidates .ensures .1 k traced floors still row h t)),
+          ∙ or-else (put .put-candidates .result) (λ still. rw (zero-add row) at (put .put-candidates .ensures .1 k traced floors stills still row h t)),
     )
 
 pub candidates-spec : {M : Type 1} → statement M

@@ -1,11 +1,12 @@
 -- `candidates::put_brought` meets its contract.
-use mathlib.Core.Path.{_∙_}
+use mathlib.Core.Path.{ap₂, _∙_}
 use mathlib.Core.Logic.{⊎-elim}
+use mathlib.Core.Bool.{_&&_, not}
 use denote.Ref.{now}
 use Rattle.meaning.specs.Reach.{inserted, specialised}
 use Rattle.walks.specs.Site.{idIn}
 use Rattle.reach.proofs.Leaves.{asked-inserted, asked-specialised}
-use Rattle.row_sets.proofs.Tests.{one-true}
+use Rattle.row_sets.proofs.Tests.{one-true, both-true}
 use borrow.Author.Needs.{needs}
 use Rattle.candidates.proofs.put_brought.Statement.{statement}
 use Rattle.candidates.proofs.put_brought.Tie as tie
@@ -13,32 +14,35 @@ use Rattle.candidates.proofs.put_brought.Tie as tie
 clear-requires : tie.Need-clear-requires
 clear-requires c κs = search needs
 
-put-answers-requires : tie.Need-put-answers-requires
-put-answers-requires c κs = search needs
+put-if-requires : tie.Need-put-if-requires
+put-if-requires c κs = search needs
 
-put-answers-requires-2 : tie.Need-put-answers-requires-2
-put-answers-requires-2 c κs = search needs
+put-if-requires-2 : tie.Need-put-if-requires-2
+put-if-requires-2 c κs = search needs
 
 same-length : tie.Need-same-length
 same-length c = search needs
 
 returns : tie.Need-returns
 returns c =
-    let put2 = c .before .before in
-    let put = put2 .before .before .before .before in
-    let at = put .before .before .before .before in
+    let special = c .before .before in
+    let insert = special .before .before .before .before .before in
+    let at = insert .before .before .before .before .before in
     let s = at .before .before .before .before .before .before .before in
-    let t = s .args .context in (
-      put2 .put-answers2 .ensures .0 .long ∙ put .put-answers .ensures .0 .long ∙ at .clear .ensures .long,
+    let t = s .args .context in
+    let still = s .args .still in (
+      special .put-if2 .ensures .0 .long ∙ insert .put-if .ensures .0 .long ∙ at .clear .ensures .long,
       λ k traced row h e.
           let u = idIn (now (s .args .objects)) row in
           ⊎-elim
-          (λ i. put2 .put-answers2 .ensures .0 .kept _ (put .put-answers .ensures .1 k traced row h (asked-inserted k u t ∙ i)))
-          (λ i. put2 .put-answers2 .ensures .1 k traced row h (asked-specialised k u t ∙ i))
-          (one-true (inserted k u t) (specialised k u t) e),
+          (λ i.
+          let (came, asks) = both-true (inserted k u t) (not (still .insert)) i in
+          special .put-if2 .ensures .0 .kept _ (insert .put-if .ensures .1 k traced row h (ap₂ _&&_ asks (asked-inserted k u t ∙ came))))
+          (λ i.
+          let (came, asks) = both-true (specialised k u t) (not (still .special)) i in
+          special .put-if2 .ensures .1 k traced row h (ap₂ _&&_ asks (asked-specialised k u t ∙ came)))
+          (one-true (inserted k u t && not (still .insert)) (specialised k u t && not (still .special)) e),
     )
 
 pub put-brought-spec : {M : Type 1} → statement M
-put-brought-spec =
-    tie.close
-    (tie.spec clear-requires put-answers-requires put-answers-requires-2 same-length returns)
+put-brought-spec = tie.close (tie.spec clear-requires put-if-requires put-if-requires-2 same-length returns)

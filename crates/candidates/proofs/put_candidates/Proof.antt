@@ -1,12 +1,14 @@
 -- `candidates::put_candidates` meets its contract, by the laws of Rules.
 use Prim.Native.Nat.{ℕ}
-use mathlib.Core.Path.{refl, sym, ap, subst, _∙_}
-use mathlib.Core.Bool.{_||_}
+use mathlib.Core.Path.{_≡_, refl, sym, ap, subst, _∙_}
 use mathlib.Core.List.{List}
 use native.Mathlib.Omega.{arith}
 use lib.ListN.{replicate}
 use denote.Ref.{now}
-use Rattle.meaning.specs.Reach.{inserted, specialised}
+use Rattle.meaning.specs.Reach.{Change, broughtIn}
+use Rattle.tables.specs.Columns.{ruleRow}
+use Rattle.quietness.specs.Quiet.{StillBy, cameInto}
+use Rattle.quietness.proofs.Entries.{came-in}
 use Rattle.walks.specs.Site.{Site, siteOf, formAt, idIn}
 use Rattle.reach.specs.Able.{Able}
 use Rattle.going_back.specs.Back.{reachedBy}
@@ -29,8 +31,19 @@ brought c = c .before .before .before
 abbrev site : tie.Start → Site
 site s = let a = s .args in siteOf (a .n) (now (a .types)) (now (a .objects)) (now (a .links)) (now (a .index)) (now (a .bodies)) (a .rule)
 
+-- what was brought in, as it is asked, was so by the rule
+brought-as : (c : tie.After-put-brought) (k : Change) → let a = begin (some c) .args in
+    let r = ruleRow (now (a .rules)) (now (a .bodies)) (a .rule) in
+    StillBy (k .schema) r (a .still)
+    → (row : ℕ)
+    → cameInto k (a .still) (c .before .before .word .result) (idIn (now (a .objects)) row) ≡ broughtIn k r (idIn (now (a .objects)) row)
+unfolding ruleRow
+brought-as c k stills row =
+    let a = begin (some c) .args in
+    came-in k (ruleRow (now (a .rules)) (now (a .bodies)) (a .rule)) (idIn (now (a .objects)) row) stills (c .before .before .word .ensures)
+
 returns : tie.Need-returns
-returns c = (refl, λ k traced floors still row h. let none = c .if1 .taken in absurd (omega arith))
+returns c = (refl, λ k traced floors stills still row h. let none = c .if1 .taken in absurd (omega arith))
 
 word-requires : tie.Need-word-requires
 word-requires c κs = search needs
@@ -64,11 +77,9 @@ returns-2 c =
     let a = s .args in
     let few = s .pre .2 .1 .objects-few in (
       call .back .ensures .0 .long ∙ put .put-brought .ensures .0,
-      λ k traced floors still.
+      λ k traced floors stills still.
           candidates-covered (a .n) (now (a .types)) (now (a .rules)) (now (a .bodies)) (now (a .objects)) (now (a .links)) (now (a .index)) (a .rule) (s .pre .0) k
-          (λ row h e.
-          let u = idIn (now (a .objects)) row in
-          call .back .ensures .0 .kept _ (omega arith) (put .put-brought .ensures .1 k traced row h (ap (λ t. inserted k u t || specialised k u t) (put .before .before .word .ensures) ∙ e)))
+          (λ row h e. call .back .ensures .0 .kept _ (omega arith) (put .put-brought .ensures .1 k traced row h (brought-as put k stills row ∙ e)))
           (covered-as (λ v u. ap (λ e. reachedBy k (formAt (site s) e) 1 2 v u) (size .word2 .ensures)) (call .back .ensures .1 k traced (rw (size .word2 .ensures) floors)))
           still,
     )

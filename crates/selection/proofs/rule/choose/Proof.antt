@@ -19,7 +19,7 @@ use Rattle.selection.proofs.rule.choose.Tie as tie
 abbrev Inv-loop : tie.InvT-loop
 Inv-loop n types objects links index rules bodies spans floored events trace rule still marks at chosen₀ count₀ row₀ chosen count row =
     (row ≤ n .objects) × (count ≤ at + row) × (length chosen ≡ length chosen₀)
-    × ((c : Change) → Traced c n types objects links events trace → KnownBy c rules bodies rule floored
+    × ((c : Change) → Traced c n types objects links events trace → KnownBy c rules bodies rule floored still
     → Choosing (λ x. selected c (ruleRow rules bodies rule) (idIn objects x)) rule (take at chosen₀) chosen count row)
 
 abbrev μ-loop : tie.MeasureT-loop
@@ -39,36 +39,36 @@ loop-holds c = (omega arith, omega arith, refl, λ k traced known. record { held
 chosen-at-requires : tie.Need-chosen-at-requires Inv-loop μ-loop
 chosen-at-requires c κs =
     let s = entry (c .before .before) in
-    (s .pre .0, s .pre .1, s .pre .2, s .pre .3, c .if1 .taken)
+    (s .pre .0, s .pre .1, s .pre .2, c .if1 .taken)
 
 -- there is room for one more
 room : (c : tie.Then1 Inv-loop μ-loop) → let head = c .before .before in head .loop .count < length (head .loop .chosen)
 room c =
     let head = c .before .before in
     let s = entry head in
-    omega (arith, c .if1 .taken, head .loop .inv .1, head .loop .inv .2, s .pre .4, s .pre .5, s .pre .6, s .pre .1 .1 .objects-few)
+    omega (arith, c .if1 .taken, head .loop .inv .1, head .loop .inv .2, s .pre .3, s .pre .4, s .pre .5, s .pre .1 .1 .objects-few)
 
 mul-put : tie.Need-mul-put Inv-loop μ-loop
-mul-put c = let s = entry (c .before .before .before .before .before) in omega (arith, s .pre .4)
+mul-put c = let s = entry (c .before .before .before .before .before) in omega (arith, s .pre .3)
 
 add-put : tie.Need-add-put Inv-loop μ-loop
 add-put c =
     let test = c .before .before .before in
     let s = entry (test .before .before) in
-    omega (arith, s .pre .4, test .if1 .taken, s .pre .1 .1 .objects-few)
+    omega (arith, s .pre .3, test .if1 .taken, s .pre .1 .1 .objects-few)
 
 put-requires : tie.Need-put-requires Inv-loop μ-loop
 put-requires c κs =
     let test = c .before .before .before in
     let s = entry (test .before .before) in
-    (room test, omega (arith, s .pre .4, test .if1 .taken, s .pre .1 .1 .objects-few))
+    (room test, omega (arith, s .pre .3, test .if1 .taken, s .pre .1 .1 .objects-few))
 
 add-count : tie.Need-add-count Inv-loop μ-loop
 add-count c =
     let test = c .before .before .before .before .before .before in
     let head = test .before .before in
     let s = entry head in
-    omega (arith, test .if1 .taken, head .loop .inv .1, s .pre .4, s .pre .5, s .pre .1 .1 .objects-few)
+    omega (arith, test .if1 .taken, head .loop .inv .1, s .pre .3, s .pre .4, s .pre .1 .1 .objects-few)
 
 add-row : tie.Need-add-row Inv-loop μ-loop
 add-row c = omega arith
