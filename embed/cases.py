@@ -379,6 +379,7 @@ def all_cases():
     for number in range(120):
         yield from of_book(number, False)
         yield from (case.file_words() for case in from_blocks(draw.drawn(number, 2, near=False)))
+        yield from (case.file_words() for case in from_blocks(draw.drawn(number, 5, specials=True)))
         yield from of_book(number, True)
     for cells in (2, 8):
         yield largest(('set', 1, 0, 5), cells).file_words()

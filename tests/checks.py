@@ -438,6 +438,51 @@ def below_floors():
     case('the same without the floor: a part and a delete', 'accepted; 0:10', BOXES + FLOORS[:1] + FLOORS[2:] + STOCK + ['(part 0 10 20)', '(delete 21)'])
 
 
+# ---------------------------------------------------------------- request 06
+
+# Drives, servo drives below them, and brakes; role 0 goes from a drive, role 2 from a servo drive. Drive 10 is bare, 11 has a brake that is too heavy for it,
+# servo drive 12 has it by both roles.
+def brakes(*bodies):
+    rules = [f'(rule {n} 1 {text})' for n, text in enumerate(bodies)]
+    return ['(type 0 - 1)', '(type 1 0 1)', '(type 2 - 1)', '(rel 0 0 2)', '(rel 1 1 2)'] + rules + [
+        '(ent 10 0 5)', '(ent 11 0 5)', '(ent 12 1 9)', '(ent 20 2 9)', '(link 0 11 20)', '(link 0 12 20)', '(link 1 12 20)']
+
+
+OWN, HIGHER = '(forall (role 0 2) (le (cell 1 0) (cell 0 0)))', '(forall (role 0 0) (le (cell 1 0) (cell 0 0)))'
+NONE_OWN, NONE_HIGHER = '(not (exists (role 0 2) (gt (cell 1 0) (cell 0 0))))', '(not (exists (role 0 0) (gt (cell 1 0) (cell 0 0))))'
+OUT_AND_BACK = ['(part 1 12 20)', '(general 12 0)', '(special 12 1)']
+
+
+def specials():
+    """A special into a context looks at nothing where a role of the context type itself makes the body quiet."""
+    own, higher, both = brakes(OWN), brakes(HIGHER), brakes(OWN, HIGHER)
+    case('a bare drive made a servo drive', 'accepted;', own + ['(special 10 1)'])
+    case('one with an older link of another role', 'accepted;', own + ['(special 11 1)'])
+    case('a bare drive, the role starts higher', 'accepted; 0:10', higher + ['(special 10 1)'])
+    case('one with an older link, the role starts higher', 'broken 0 11; 0:11', higher + ['(special 11 1)'])
+    case('a join after the special', 'broken 0 10; 0:10', own + ['(special 10 1)', '(join 1 10 20)'])
+    case('a join between an insert and its special', 'broken 1 13; 1:13', both + ['(insert 13 0)', '(join 0 13 20)', '(special 13 1)'])
+    case('an insert, its special and a join', 'broken 0 13; 0:13 1:13', both + ['(insert 13 0)', '(special 13 1)', '(join 1 13 20)'])
+    case('an insert keeps the quietness that it has', 'accepted;', both + ['(insert 13 1)'])
+    case('general and special again, the own link parted', 'accepted; 1:12', both + OUT_AND_BACK)
+    case('general and special again, the own link joined again', 'accepted; 0:12 1:12', both + OUT_AND_BACK + ['(join 1 12 20)'])
+    case('the same with a heavier brake', 'broken 0 12; 0:12 1:12', both + OUT_AND_BACK + ['(set 20 0 10)', '(join 1 12 20)'])
+    case('general and special again, the brake heavier', 'broken 1 12; 1:12', both + OUT_AND_BACK + ['(set 20 0 10)'])
+    case('general and special again, the brake deleted', 'accepted; 1:12', both + ['(delete 20)'] + OUT_AND_BACK[1:])
+    case('12: general, the own link still there', 'refused 12 0', both + OUT_AND_BACK[1:])
+    case('or of a counted and an uncounted part', 'accepted;', brakes(f'(or {OWN} {HIGHER})', f'(or {HIGHER} {OWN})') + ['(special 11 1)'])
+    case('and of a counted and an uncounted part', 'broken 0 11; 0:11 1:11', brakes(f'(and {OWN} {HIGHER})', f'(and {HIGHER} {OWN})') + ['(special 11 1)'])
+    case('not, counted and uncounted', 'broken 1 11; 1:11', brakes(NONE_OWN, NONE_HIGHER) + ['(special 11 1)'])
+    case('implies, counted and uncounted', 'broken 2 11; 2:11 3:11', brakes(
+        f'(implies (kind 0 0) {OWN})', f'(implies {NONE_OWN[5:-1]} (kind 0 2))', f'(implies (kind 0 0) {HIGHER})', f'(implies {NONE_HIGHER[5:-1]} (kind 0 2))') + ['(special 11 1)'])
+    case('a select of an own role, and xor', 'accepted; 0:10 1:10', brakes(OWN.replace('(role 0 2)', '(select (role 0 2) (kind 1 2))'), f'(xor (kind 0 2) {OWN})') + ['(special 10 1)'])
+    case('a set may turn a quiet body false', 'accepted; 0:10', brakes(f'(or {OWN} (le (cell 0 0) (num 5)))') + ['(special 10 1)', '(set 10 0 6)'])
+    below = changed(own, 2, '(type 2 - 1)', '(type 3 1 1)')
+    case('straight to a type below the context', 'accepted;', below + ['(special 10 3)'])
+    case('straight to a type below the context, the role starts higher', 'broken 0 11; 0:11', changed(higher, 2, '(type 2 - 1)', '(type 3 1 1)') + ['(special 11 3)'])
+    case('from the context to a type below', 'accepted;', below + ['(special 12 3)'])
+
+
 def short_texts():
     """The texts of refusals.py."""
     for name, answer, lines in refusals.CASES:
@@ -464,7 +509,7 @@ def blocks():
     """Of each case its line, the lines of its block, and its text."""
     CASES.clear()
     for make in (marked_cases, guesses, malformed_lines, limits, faulty_schemas, faulty_rules, faulty_registers, faulty_events, linked_objects, events_on_the_way, short_texts, constraints, floor_lines,
-                 below_floors):
+                 below_floors, specials):
         make()
     return CASES
 

@@ -14,7 +14,7 @@ import texts
 import whole
 from draw import Draw
 
-ROOM = 200000  # bytes of input at a time; the program has room for 262,144
+ROOM = 200000  # bytes of input at a time; the program has room for 524,288
 PIECES = ['(', ')', ' ', '\n', '-', '0', '1', '9', '-1', '32', '65536', '2147483647', '2147483648', 'num', 'cell', 'role', 'all', 'not', 'floor', '(floor 0 0)\n', '(num 1)', '(kind 0 0)', '(role 0 0)']
 VALUES = [-1, 0, 1, 2, 3, 7, 8, 10, 20, 31, 32, 65535, 65536, 2**31 - 1]
 

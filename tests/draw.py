@@ -4,6 +4,8 @@
     draw.py BOOKS BATCHES        so many books with their registers, and so many batches for each
     draw.py BOOKS BATCHES far    the same with ids spread over 31 bits, in the same order
     draw.py BOOKS BATCHES floors    others, whose books have floors; most rules are such that the floors make their event list shorter
+    draw.py BOOKS BATCHES specials    others, whose rules are mostly quiet by roles of self, of which some start at the context type and some above it;
+                                      most batches have specials, and objects made general and special again
 
 Parks are small, so that coincidences happen: the same link parted and joined, an id deleted with its links and inserted again. Most rules are
 drawn until they hold, since a batch check promises most from a good register.
@@ -65,12 +67,20 @@ def schema(draw):
     return book
 
 
+def schema_with_specials(draw):
+    """A schema in which some type has a role that starts at it, and another that starts above it."""
+    book = schema(draw)
+    while not any(book.roles_from(t) and set(roles(book, t)) - book.roles_from(t) for t in range(len(book.types))):
+        book = schema(draw)
+    return book
+
+
 def floors(draw, book):
     return [(t, k) for t in range(len(book.types)) for k in range(book.cells(t)) if draw.random() < 0.35]
 
 
 def roles(book, t):
-    """The roles that start at a type."""
+    """The roles that start at a type or above it."""
     return [2 * r + d for r, ends in enumerate(book.relationships) for d in (0, 1) if book.under(t, ends[d])]
 
 
@@ -146,6 +156,19 @@ class Bodies:
         c = 'role', 0, self.draw.choice(own)
         return 'or', ('forall', c, self.truth([context, member_type(self.book, c)], 1)), body
 
+    def quiet(self, context, depth, wanted=True):
+        """A body that is quiet, or quietly false, by roles of self, whichever of them are counted for a special. The context has a role."""
+        op = pick(self.draw, [(3, 'quantifier')] + [(1, op) for op in ('not', 'and', 'or', 'implies') if depth > 0])
+        if op == 'quantifier':
+            c = 'role', 0, self.draw.choice(roles(self.book, context))
+            return 'forall' if wanted else 'exists', c, self.truth([context, member_type(self.book, c)], 1)
+        if op == 'not':
+            return op, self.quiet(context, depth - 1, not wanted)
+        sides = [not wanted if op == 'implies' else wanted, wanted]
+        if wanted != (op == 'and'):  # one part is enough
+            sides[self.draw.randrange(2)] = None
+        return (op, *(self.truth([context], 1) if side is None else self.quiet(context, depth - 1, side) for side in sides))
+
 
 def forms(f):
     return 1 + sum(forms(part) for part in f if isinstance(part, tuple))
@@ -162,7 +185,13 @@ def shortened(book, rule):
     return plain.EventList(book, rule).types != plain.EventList(without_floors(book), rule).types
 
 
-def add_rules(draw, book, register):
+def dull(book, rule):
+    """Whether a rule lists little more than its context, whose special counts here also where request 06 leaves it out."""
+    listed = plain.EventList(book, rule)
+    return len(set(listed.types) | listed.parented(5, book.rules[rule][0])) <= 2
+
+
+def add_rules(draw, book, register, specials=False):
     """Rules, of which most hold, and most list more than their context."""
     bodies = Bodies(draw, book)
     count, all_hold = draw.randint(1, 5), draw.random() < 0.75
@@ -172,12 +201,15 @@ def add_rules(draw, book, register):
         body = bodies.truth([context], draw.randint(1, 5))
         if draw.random() < 0.1:
             body = bodies.made_quiet(body, context)
+        if specials and roles(book, context) and draw.random() < 0.9:
+            body = bodies.quiet(context, draw.randint(0, 3))
         book.rules.append((context, body))
         rule = len(book.rules) - 1
         holds = not any(plain.broken(book, register, rule, s) for s in register.objects)
-        dull = len(plain.EventList(book, rule).types) <= 2 and draw.random() < 0.8
-        dull = dull or (book.floors != [] and not shortened(book, rule) and draw.random() < 0.97)
-        if forms(body) > 30 or dull or (not holds and (all_hold or draw.random() < 0.5)):
+        unwanted = dull(book, rule) and draw.random() < 0.8
+        unwanted = unwanted or (book.floors != [] and not shortened(book, rule) and draw.random() < 0.97)
+        unwanted = unwanted or (specials and book.types[context][0] is None and draw.random() < 0.9)
+        if forms(body) > 30 or unwanted or (not holds and (all_hold or draw.random() < 0.5)):
             book.rules.pop()
 
 
@@ -221,8 +253,8 @@ def park(draw, book):
 class Batches:
     """Draws events that the register takes as it stands, with a memory of what they undid; and some that are refused."""
 
-    def __init__(self, draw, book, register):
-        self.draw, self.book, self.now = draw, book, register.copy()
+    def __init__(self, draw, book, register, specials=False):
+        self.draw, self.book, self.now, self.specials = draw, book, register.copy(), specials
         self.events, self.freed, self.parted, self.old_cells = [], [], [], []
 
     def do(self, *event):
@@ -323,6 +355,23 @@ class Batches:
             return self.do('special', i, types[i]) or self.do('general', i, types[i])
         return False
 
+    def out_and_back(self):
+        """An object whose links are parted made general and special again; a link joined between perhaps, and some of its links after."""
+        moves = [(i, own, t) for i, own in self.typed() for t in sorted(self.book.above(own)) if t != own]
+        if not moves:
+            return False
+        i, own, t = self.draw.choice(moves)
+        links = [link for link in sorted(plain.links_of(self.now, i)) if self.draw.random() < 0.9 and self.do('part', *link)]
+        if not self.do('general', i, t):
+            return links != []
+        if self.draw.random() < 0.3:
+            self.join()
+        self.do('special', i, own)
+        for link in links:
+            if self.draw.random() < 0.4:
+                self.do('join', *link)
+        return True
+
     def again(self):
         """An object deleted and inserted again, mostly of its type and joined to some of those that it was linked to, after a set perhaps."""
         alone = {a for _, a, b in self.now.links if a == b}
@@ -384,6 +433,8 @@ class Batches:
                  (2, self.link_and_back), (2, self.type_and_back), (3, self.again), (1, self.join_and_delete)]
         if self.book.floors:
             steps.append((3, self.floor_and_back))
+        if self.specials:
+            steps += [(15, self.special), (5, self.general), (5, self.type_and_back), (15, self.out_and_back)]
         for _ in range(length * 2):
             if len(self.events) < length:
                 pick(self.draw, steps)()
@@ -425,22 +476,22 @@ def lines(book, register):
     yield from (('link', *link) for link in sorted(register.links))
 
 
-def drawn(number, batches, near=True, floored=False):
+def drawn(number, batches, near=True, floored=False, specials=False):
     """A book and its register with a first batch, and further batches for them."""
-    name, show = (f'floors {number}' if floored else number, lambda line: line) if near else (f'far {number}', far)
-    draw = Draw(10000 + number if floored else number)
-    book = schema(draw)
+    name, show = (f'floors {number}' if floored else f'specials {number}' if specials else number, lambda line: line) if near else (f'far {number}', far)
+    draw = Draw(number + 10000 * floored + 20000 * specials)
+    book = schema_with_specials(draw) if specials else schema(draw)
     book.floors = floors(draw, book) if floored else []
     register = park(draw, book)
-    add_rules(draw, book, register)
+    add_rules(draw, book, register, specials)
     base = [str(name)] + [spelled(line if line[0] in ('type', 'floor', 'rel', 'rule') else show(line)) for line in lines(book, register)]
     for k in range(batches):
-        events = [spelled(show(event)) for event in Batches(draw, book, register).batch()]
+        events = [spelled(show(event)) for event in Batches(draw, book, register, specials).batch()]
         yield ([f'+{name}.{k}'] if k else base) + events
 
 
 if __name__ == '__main__':
     books, batches = int(sys.argv[1]), int(sys.argv[2])
     for number in range(books):
-        for block in drawn(number, batches, near='far' not in sys.argv, floored='floors' in sys.argv):
+        for block in drawn(number, batches, near='far' not in sys.argv, floored='floors' in sys.argv, specials='specials' in sys.argv):
             print('\n'.join(block) + '\n')

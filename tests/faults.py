@@ -13,6 +13,22 @@ import checks
 
 HERE = os.path.dirname(os.path.abspath(__file__))
 
+# The pieces of plain.py that request 06 put there: which roles start at a type, and where a special is selected and listed by them.
+OWN_ROLES = 'return {role for role in self.roles() if self.relationships[role // 2][role % 2] == t}'
+START = '[role % 2] == t'
+SELECTED = 'not quiet(body, self.book.roles_from(context))'
+LISTED = 'quiet(body, book.roles_from(context))'
+# Whether a body names a role of self that starts at the context type, or one that starts higher.
+NAMED_OWN = "any(str(('role', 0, r)) in str(body) for r in self.book.roles_from(context))"
+NAMED_OTHER = "any(str(('role', 0, r)) in str(body) for r in self.book.roles() - self.book.roles_from(context))"
+
+
+def within(variable):
+    """Whether a body is a forall right within another, over a role of a variable that starts at the context type."""
+    inner = f"body[2][0] == 'forall' and body[2][1][:2] == ('role', {variable}) and body[2][1][2] in self.book.roles_from(context)"
+    return f"(body[0] == 'forall' and {inner})"
+
+
 # What is wrong; a piece of plain.py that stands there once; what stands there instead.
 FAULTS = [
     ('ids end at 65,535', 'MOST_ID = 2**31 - 1', 'MOST_ID = 2**16 - 1'),
@@ -99,21 +115,63 @@ FAULTS = [
      '            self.sets |= {(x[0], x[1])} if self.old.objects[x[0]] != self.end.objects[x[0]] else set()'),
     ('a set undone does not count', 'return ((env[v], k) in self.sets,) * 2',
      'return ((env[v], k) in self.sets and (env[v] not in self.start.objects or self.start.objects[env[v]][1][k] != self.end.objects[env[v]][1][k]),) * 2'),
-    ('an insert into the context selects though the body is quiet', "context) and not quiet(body)\n", 'context)\n'),
+    ('an insert into the context selects though the body is quiet', "context) and not quiet(body, self.book.roles())\n", 'context)\n'),
     ('an insert into the context selects nothing', "inserted = self.brought", "inserted = False and self.brought"),
-    ('a special into the context is not selected where the body is quiet', "return false or inserted or self.brought('special', s, context)",
-     "return false or inserted or (self.brought('special', s, context) and not quiet(body))"),
-    ('a special into the context selects nothing', "or self.brought('special', s, context)", 'or False'),
-    ('forall over a select of a role is quiet', "return b[1][0] == 'role' and b[1][1] == 0",
-     "return b[1][:2] == ('role', 0) or (b[1][0] == 'select' and b[1][1][:2] == ('role', 0))"),
+    ('a special into the context selects nothing', "special = self.brought", "special = False and self.brought"),
+    ('forall over a select of a role is quiet', "return b[1][:2] == ('role', 0) and b[1][2] in counted",
+     "c = b[1][1] if b[1][0] == 'select' else b[1]\n    return c[:2] == ('role', 0) and c[2] in counted"),
     ('exists over a role is quiet', "if b[0] == 'forall':\n        return over", "if b[0] in ('forall', 'exists'):\n        return over"),
-    ('or is quiet only with two', 'quiet(b[1]) or quiet(b[2])\n    if b[0] == \'implies\':\n        return quietly_false(b[1]) or quiet', 'quiet(b[1]) and quiet(b[2])\n    if b[0] == \'implies\':\n        return quietly_false(b[1]) or quiet'),
-    ('implies is quiet by its right only', 'return quietly_false(b[1]) or quiet(b[2])', 'return quiet(b[2])'),
-    ('not is never quiet', "return b[0] == 'not' and quietly_false(b[1])", 'return False'),
+    ('or is quiet only with two', 'return quiet(b[1], counted) or quiet(', 'return quiet(b[1], counted) and quiet('),
+    ('and is quiet with one', 'return quiet(b[1], counted) and quiet(', 'return quiet(b[1], counted) or quiet('),
+    ('implies is quiet by its right only', 'return quietly_false(b[1], counted) or quiet(b[2], counted)', 'return quiet(b[2], counted)'),
+    ('implies is quiet by its left only', 'return quietly_false(b[1], counted) or quiet(b[2], counted)', 'return quietly_false(b[1], counted)'),
+    ('implies is quiet only with two', 'return quietly_false(b[1], counted) or quiet(b[2], counted)', 'return quietly_false(b[1], counted) and quiet(b[2], counted)'),
+    ('not is never quiet', "return b[0] == 'not' and quietly_false(b[1], counted)", 'return False'),
+    ('not is never quietly false', "return b[0] == 'not' and quiet(b[1], counted)", 'return False'),
+    ('or is quietly false with one', 'return quietly_false(b[1], counted) and quietly_false(', 'return quietly_false(b[1], counted) or quietly_false('),
+    ('and is quietly false only with two', 'return quietly_false(b[1], counted) or quietly_false(', 'return quietly_false(b[1], counted) and quietly_false('),
+    ('implies is quietly false with one', 'return quiet(b[1], counted) and quietly_false(', 'return quiet(b[1], counted) or quietly_false('),
     ('all t lists no special', '{(0, t, 0)} | self.parented(5, t)', '{(0, t, 0)}'),
     ('general t is listed where t has no parent', "return set() if self.book.types[t][0] is None", 'return set() if kind == 5 and self.book.types[t][0] is None'),
     ("a cell lists the context's type", '{(2, env[v], k)}', '{(2, env[0], k)}'),
-    ('the context lists no special where the body is quiet', 'inserts | self.parented(5, context))', 'inserts | (self.parented(5, context) if inserts else set()))'),
+    ('a special counts every role', OWN_ROLES, 'return self.roles()'),
+    ('a special counts every role, and is listed as it should be', SELECTED, 'not quiet(body, self.book.roles())'),
+    ('a special counts every role where it is listed alone', LISTED, 'quiet(body, book.roles())'),
+    ('a special counts no role: it always selects and is always listed', OWN_ROLES, 'return set()'),
+    ('a special always selects, listed or not', SELECTED, 'True'),
+    ('a special is always listed, selected or not', LISTED, 'False'),
+    ('an insert counts the roles of the context type alone', "context) and not quiet(body, self.book.roles())", "context) and not quiet(body, self.book.roles_from(context))"),
+    ('an insert counts the roles of the context type alone where it is listed', 'quiet(body, book.roles()) else', 'quiet(body, book.roles_from(context)) else'),
+    ('a role starts at its far end', START, '[1 - role % 2] == t'),
+    ('a role and its way back start at the source', START, '[0] == t'),
+    ('a role and its way back start at the target', START, '[1] == t'),
+    ('a role starts at both its ends', START, '[role % 2] == t or self.relationships[role // 2][1 - role % 2] == t'),
+    ('a role that starts higher counts', START, '[role % 2] in self.above(t)'),
+    ('a role that starts at the type right above counts', START, '[role % 2] in (t, self.types[t][0])'),
+    ('a role that starts at a type without parent counts', START, '[role % 2] == t or self.types[self.relationships[role // 2][role % 2]][0] is None'),
+    ('a role that starts at the type right above counts alone', START, '[role % 2] == self.types[t][0]'),
+    ('a role of a type to itself does not count', START, '[role % 2] == t and self.relationships[role // 2] != (t, t)'),
+    ('a role of a type to one above does not count', START, '[role % 2] == t and not self.under(t, self.relationships[role // 2][1 - role % 2]) or self.relationships[role // 2] == (t, t)'),
+    ('a special counts the roles of the type that its object has at the end', SELECTED, 'not quiet(body, self.book.roles_from(self.end.type_of(s)))'),
+    ('a special to a type below the context always selects', SELECTED, '(not quiet(body, self.book.roles_from(context)) or self.end.type_of(s) != context)'),
+    ('a special to a type below the context selects nothing', SELECTED, 'not quiet(body, self.book.roles_from(context)) and self.end.type_of(s) == context'),
+    ('one counted role anywhere in a quiet body is enough', SELECTED, f'not (quiet(body, self.book.roles()) and {NAMED_OWN})'),
+    ('one counted role anywhere in a quiet body is enough for the list', LISTED, f'quiet(body, book.roles()) and {NAMED_OWN.replace("self.", "")}'),
+    ('one uncounted role anywhere in a body is too many', SELECTED, f'not (quiet(body, self.book.roles_from(context)) and not {NAMED_OTHER})'),
+    ('one uncounted role anywhere in a body is too many for the list', LISTED, f'quiet(body, book.roles_from(context)) and not {NAMED_OTHER.replace("self.", "")}'),
+    ('a special counts roles of the members', SELECTED, f'not (quiet(body, self.book.roles_from(context)) or {within(1)})'),
+    ('a special that is listed counts roles of the members', LISTED, f'(quiet(body, book.roles_from(context)) or {within(1).replace("self.", "")})'),
+    ('a special counts a role of self within a forall over another', SELECTED, f'not (quiet(body, self.book.roles_from(context)) or {within(0)})'),
+    ('a special that is listed counts a role of self within a forall over another', LISTED, f'(quiet(body, book.roles_from(context)) or {within(0).replace("self.", "")})'),
+    ('a special after a general out of the context always selects', SELECTED, "(not quiet(body, self.book.roles_from(context)) or self.took('general', s, context))"),
+    ('a special after a general out of the context selects nothing', SELECTED, "not quiet(body, self.book.roles_from(context)) and not self.took('general', s, context)"),
+    ('a special after an insert into the context selects nothing', SELECTED, "not quiet(body, self.book.roles_from(context)) and not self.brought('insert', s, context)"),
+    ('a special selects nothing at an object that has no links at the end', SELECTED, 'not quiet(body, self.book.roles_from(context)) and links_of(self.end, s) != set()'),
+    ('a special selects nothing at an object that had no links before the batch', SELECTED, 'not quiet(body, self.book.roles_from(context)) and links_of(self.start, s) != set()'),
+    ('a special where the body is quiet spares what may turn false too', 'return false or inserted or special',
+     "return inserted or special or (false and not (self.brought('special', s, context) and quiet(body, self.book.roles_from(context))))"),
+    ('a join of a link that was there before the batch is no gain', 'such(link) and link in self.end.links', 'such(link) and link in self.end.links and link not in self.start.links'),
+    ('special t is listed where the context has no parent', 'else self.parented(5, context)', 'else {(5, context, 0)}'),
     ('the full check in place of the listed pairs', 'first = next((pair for pair in pairs if broken(book, self.batch.end, *pair)), None)',
      'first = full_check(book, self.batch.end)'),
     ('the list ends at the first broken pair', "        self.answer = ('accepted',)", "        self.pairs = [p for p in pairs if first is None or p <= first]\n        self.answer = ('accepted',)"),

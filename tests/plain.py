@@ -1,5 +1,5 @@
 #!/usr/bin/env python3
-"""A plain reading of document 01, with requests 01, 02 and 07 of document 02: what each block of a file of cases has to print.
+"""A plain reading of document 01, with requests 01, 02, 06 and 07 of document 02: what each block of a file of cases has to print.
 
     plain.py FILE        the expected output of crates/test_batch for the blocks of FILE
 
@@ -48,6 +48,13 @@ class Book:
     def floored(self, t):
         # Request 02: "cell k of t and of types under it is at least 0": the cells of a type that have to be, by its own floors and those above
         return {k for u, k in self.floors if self.under(t, u)}
+
+    def roles(self):
+        return set(range(2 * len(self.relationships)))
+
+    def roles_from(self, t):
+        # "Role 2r goes from source to target of relationship r, role 2r + 1 back": those that start at a type itself, not at one above it
+        return {role for role in self.roles() if self.relationships[role // 2][role % 2] == t}
 
 
 class Register:
@@ -406,13 +413,16 @@ class Batch(Reach):
         return any((m, k) in self.sets for m in members(self.book, self.end, c, env))
 
     def selected(self, rule, s):
-        # "s is under the context type at the end and: the body may turn false at s; or an insert ..; or a special did"
+        # "s is under the context type at the end and: the body may turn false at s; or an insert brought s into the context type and the body is
+        # not quiet; or a special did", where by request 06 it "selects and lists nothing when the body is quiet counting only roles that start
+        # at the context type itself; no link at such a role can be older than the change"
         context, body = self.book.rules[rule]
         if not self.there(s, context):
             return False
         false = self.moves(body, [s])[1]
-        inserted = self.brought('insert', s, context) and not quiet(body)
-        return false or inserted or self.brought('special', s, context)
+        inserted = self.brought('insert', s, context) and not quiet(body, self.book.roles())
+        special = self.brought('special', s, context) and not quiet(body, self.book.roles_from(context))
+        return false or inserted or special
 
     def pairs(self):
         # "rule then id, ascending, no repeat"
@@ -427,34 +437,35 @@ class Batch(Reach):
 
 # ---------------------------------------------------------------- quiet
 
-def over_own_role(b):
-    return b[1][0] == 'role' and b[1][1] == 0
+def over_own_role(b, counted):
+    return b[1][:2] == ('role', 0) and b[1][2] in counted
 
 
-def quiet(b):
-    # "forall over a role of self; `and` of two quiet, `or` with one; `not` and `implies` likewise through the dual". Reading 17
+def quiet(b, counted):
+    # "forall over a role of self; `and` of two quiet, `or` with one; `not` and `implies` likewise through the dual", by the roles that are
+    # counted: request 06 counts fewer for a special than an insert has. Reading 17
     if b[0] == 'forall':
-        return over_own_role(b)
+        return over_own_role(b, counted)
     if b[0] == 'and':
-        return quiet(b[1]) and quiet(b[2])
+        return quiet(b[1], counted) and quiet(b[2], counted)
     if b[0] == 'or':
-        return quiet(b[1]) or quiet(b[2])
+        return quiet(b[1], counted) or quiet(b[2], counted)
     if b[0] == 'implies':
-        return quietly_false(b[1]) or quiet(b[2])
-    return b[0] == 'not' and quietly_false(b[1])
+        return quietly_false(b[1], counted) or quiet(b[2], counted)
+    return b[0] == 'not' and quietly_false(b[1], counted)
 
 
-def quietly_false(b):
+def quietly_false(b, counted):
     # "the dual, where exists over a role of self is quietly false"
     if b[0] == 'exists':
-        return over_own_role(b)
+        return over_own_role(b, counted)
     if b[0] == 'and':
-        return quietly_false(b[1]) or quietly_false(b[2])
+        return quietly_false(b[1], counted) or quietly_false(b[2], counted)
     if b[0] == 'or':
-        return quietly_false(b[1]) and quietly_false(b[2])
+        return quietly_false(b[1], counted) and quietly_false(b[2], counted)
     if b[0] == 'implies':
-        return quiet(b[1]) and quietly_false(b[2])
-    return b[0] == 'not' and quiet(b[1])
+        return quiet(b[1], counted) and quietly_false(b[2], counted)
+    return b[0] == 'not' and quiet(b[1], counted)
 
 
 # ---------------------------------------------------------------- event lists
@@ -465,8 +476,9 @@ class EventList(Reach):
     def __init__(self, book, rule):
         self.book = book
         context, body = book.rules[rule]
-        inserts = set() if quiet(body) else {(0, context, 0)}  # Reading 21
-        self.types = sorted(self.moves(body, [context])[1] | inserts | self.parented(5, context))
+        inserts = set() if quiet(body, book.roles()) else {(0, context, 0)}
+        specials = set() if quiet(body, book.roles_from(context)) else self.parented(5, context)  # request 06, "lists nothing"
+        self.types = sorted(self.moves(body, [context])[1] | inserts | specials)
 
     def parented(self, kind, t):
         # "`special t` and `general t` are left out where t has no parent"

@@ -52,10 +52,11 @@ def by_hand(name, book, checked):
 def count_book(count, book):
     count['books with floors'] += bool(book.floors)
     count['floors'] += len(book.floors)
-    for rule, (_, body) in enumerate(book.rules):
+    for rule, (context, body) in enumerate(book.rules):
         count['rules'] += 1
         count['rules whose list is shorter by floors'] += draw.shortened(book, rule)
-        count['rules quiet'] += plain.quiet(body)
+        count['rules quiet'] += plain.quiet(body, book.roles())
+        count['rules quiet by roles of the context type alone'] += plain.quiet(body, book.roles_from(context))
         count.update('form ' + name for name in form_names(body))
         count['depth %d' % depth(body)] += 1
 
@@ -91,6 +92,20 @@ def count_floors(count, book, register, events, checked):
     count['pairs spared by floors'] += len(spared)
 
 
+def count_specials(count, book, checked):
+    """Objects that a special brought into the context of a quiet rule: looked at, or spared by request 06."""
+    batch = checked.batch
+    brought = {(r, s) for r, (context, body) in enumerate(book.rules) if plain.quiet(body, book.roles())
+               for s in batch.end.objects if batch.brought('special', s, context) and batch.there(s, context)}
+    spared = {(r, s) for r, s in brought if plain.quiet(book.rules[r][1], book.roles_from(book.rules[r][0]))}
+    listed = set(checked.pairs)
+    count['pairs by a special into the context of a quiet rule'] += len(brought - spared)
+    count['pairs by a special into the context of a quiet rule, broken'] += sum(plain.broken(book, batch.end, *pair) for pair in brought - spared)
+    count['pairs spared by request 06'] += len(spared - listed)
+    count['pairs not spared by request 06, since the body may turn false'] += len(spared & listed)
+    count['pairs not spared by request 06, since the body may turn false, broken'] += sum(plain.broken(book, batch.end, *pair) for pair in spared & listed)
+
+
 def count_case(count, book, register, events, checked):
     kind = checked.answer[0]
     count['answer ' + (kind if kind != 'refused' else 'refused %d' % checked.answer[1])] += 1
@@ -104,6 +119,7 @@ def count_case(count, book, register, events, checked):
     count['batch: empty'] += not events
     count_undone(count, events)
     count_taken(count, checked.batch, events)
+    count_specials(count, book, checked)
     held = plain.full_check(book, register) is None
     count['all held before, ' + kind] += held
     count['some rule broken before, ' + kind] += not held

@@ -337,10 +337,10 @@ fn try_all(text: &[u8]) -> u64 {
 }
 
 // Room for the input. The promise gives its length only, which is all that lending it needs.
-fn room() -> [u8; 1048576]
-    ensures { λ r. ⌜ 1048576 ≡ length r ⌝ }
+fn room() -> [u8; 2097152]
+    ensures { λ r. ⌜ 2097152 ≡ length r ⌝ }
 {
-    [0; 1048576]
+    [0; 2097152]
 }
 
 fn main() {

@@ -54,10 +54,10 @@ fn try_all(input: &[u8]) -> u64 {
 }
 
 // Room for the input. The promise gives its length only, which is all that lending it needs.
-fn room() -> [u8; 262144]
-    ensures { λ r. ⌜ 262144 ≡ length r ⌝ }
+fn room() -> [u8; 524288]
+    ensures { λ r. ⌜ 524288 ≡ length r ⌝ }
 {
-    [0; 262144]
+    [0; 524288]
 }
 
 fn main() {
