@@ -379,15 +379,20 @@ fn by_ids(near: &[Timed], far: &[Timed]) {
     }
 }
 
-// The same visits to the same park, whose battery cells have floors or none: the bodies that are evaluated, and the time.
-fn by_floors(without: &[Timed], with: &[Timed]) {
-    let mut groups: Vec<Vec<Call>> = without.iter().zip(with).map(|(x, y)| vec![x.restore(), x.proved(), y.restore(), y.proved()]).collect();
+// The same visits to parks of two schemas, one of which spares looks: the bodies that are evaluated, and the time.
+fn by_schema(names: [&str; 2], first: &[Timed], second: &[Timed]) {
+    let mut groups: Vec<Vec<Call>> = first.iter().zip(second).map(|(x, y)| vec![x.restore(), x.proved(), y.restore(), y.proved()]).collect();
     let figures = rounds(&mut groups);
-    println!("\n{HEAD}  bodies, no floors  bodies, floors  no floors (us)  floors (us)  floors / none");
-    for ((x, y), f) in without.iter().zip(with).zip(&figures) {
-        let [none, floors] = [0, 2].map(|i| median(f, |r| r[i + 1] - r[i]));
-        print!("{}  {:17}  {:14}  {none:14.1}  {floors:11.1}", x.name(), x.pairs, y.pairs);
-        println!("  {:13.2}", median(f, |r| (r[3] - r[2]) / (r[1] - r[0])));
+    let [a, b] = names;
+    let heads = [format!("bodies, {a}"), format!("bodies, {b}"), format!("{a} (us)"), format!("{b} (us)"), format!("{b} / {a}")];
+    let widths = heads.each_ref().map(String::len);
+    println!("\n{HEAD}  {}", heads.join("  "));
+    for ((x, y), f) in first.iter().zip(second).zip(&figures) {
+        let times = [0, 2].map(|i| format!("{:.1}", median(f, |r| r[i + 1] - r[i])));
+        let ratio = format!("{:.2}", median(f, |r| (r[3] - r[2]) / (r[1] - r[0])));
+        let cells = [x.pairs.to_string(), y.pairs.to_string(), times[0].clone(), times[1].clone(), ratio];
+        let row: Vec<String> = cells.iter().zip(widths).map(|(cell, width)| format!("{cell:>width$}")).collect();
+        println!("{}  {}", x.name(), row.join("  "));
     }
 }
 
@@ -395,7 +400,9 @@ fn main() {
     let parks: Vec<Park> = SIZES.iter().map(|(sections, _)| visits::wind_park(sections)).collect();
     let battery_parks = |floors| SIZES.iter().map(|(sections, _)| visits::battery_park(sections, floors)).collect();
     let batteries: [Vec<Park>; 2] = [&[][..], &visits::BATTERY_FLOORS].map(battery_parks);
-    for p in parks.iter().chain(batteries.iter().flatten()) {
+    let servo_parks = |from| SIZES.iter().map(|(sections, _)| visits::servo_park(sections, from)).collect();
+    let servos: [Vec<Park>; 2] = [fitters::DRIVE, fitters::SERVO].map(servo_parks);
+    for p in parks.iter().chain(batteries.iter().flatten()).chain(servos.iter().flatten()) {
         assert_eq!(full_check(&park::tables(p)), [0; 3]);
         assert_eq!(Plain::new(p).full_check(p), None);
     }
@@ -412,6 +419,10 @@ fn main() {
     for parks in &batteries {
         agree_on_visits(parks, &removals);
     }
+    let specials = visits::specials();
+    for parks in &servos {
+        agree_on_visits(parks, &specials);
+    }
     let [accepted, broken, refused] = kinds.each_ref().map(|visits| timed(&parks, visits));
     beside_plain(&accepted);
     beside_plain(&broken);
@@ -421,5 +432,6 @@ fn main() {
     beside_sqlite(&accepted, &broken);
     by_parts(&accepted);
     by_parts(&timed(&parks.iter().map(without_all).collect::<Vec<_>>(), &kinds[0]));
-    by_floors(&timed(&batteries[0], &removals), &timed(&batteries[1], &removals));
+    by_schema(["no floors", "floors"], &timed(&batteries[0], &removals), &timed(&batteries[1], &removals));
+    by_schema(["drive", "servo drive"], &timed(&servos[0], &specials), &timed(&servos[1], &specials));
 }

@@ -44,6 +44,8 @@ pub const NEAR: u32 = 9;
 pub const FITS: u32 = 10;
 pub const SUITS: u32 = 11;
 pub const MATCHES: u32 = 12;
+// Only in the park of `servo_rules`.
+pub const GUIDES: u32 = 13;
 
 // Source and target of each relationship. The last three say which spares would serve where.
 pub const RELATIONSHIPS: [(u32, u32); 13] = [
@@ -204,6 +206,14 @@ pub fn charge_rules() -> Vec<(u32, Form)> {
     out.push((CABINET, le(sum(to(0, HOUSES), 0), Num(400))));
     out.push((BLADE, le(sum(back(0, KEEPS), 0), Num(400))));
     out.push((STORE, le(sum(All(BOX), 0), Num(100_000))));
+    out
+}
+
+// Two rules of servo drives over the encoders that guide them.
+pub fn servo_rules() -> Vec<(u32, Form)> {
+    let mut out = rules();
+    out.push((SERVO, forall(to(0, GUIDES), ge(Cell(1, 1), Num(1024)))));
+    out.push((SERVO, forall(to(0, GUIDES), eq(Cell(1, 0), Cell(0, 1)))));
     out
 }
 

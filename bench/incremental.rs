@@ -39,7 +39,9 @@ impl Kinds {
 struct Rule {
     context: usize,
     body: Form,
-    quiet: bool,
+    // whether an insert, or a special, into the context needs no look: a special brings along the links of roles that start higher
+    quiet_insert: bool,
+    quiet_special: bool,
     kinds: Kinds,
 }
 
@@ -61,17 +63,24 @@ impl Book {
         let floored = above.iter().map(floors).collect();
         let mut book = Book { above, cells: p.types.iter().map(|t| t.1).collect(), floored, ends: p.relationships.clone(), rules: vec![] };
         for (context, body) in &p.rules {
-            let mut kinds = Kinds { special: 1 << context, ..Kinds::default() };
-            let calm = quiet(body, true);
-            kinds.insert = if calm { 0 } else { 1 << context };
+            let quiet_insert = quiet(body, true, &|_| true);
+            let quiet_special = quiet(body, true, &|r| book.start(r) == *context);
+            let unless = |calm: bool| if calm { 0 } else { 1 << context };
+            let mut kinds = Kinds { insert: unless(quiet_insert), special: unless(quiet_special), ..Kinds::default() };
             book.list(body, DOWN, &mut vec![*context], &mut kinds);
-            book.rules.push(Rule { context: *context as usize, body: body.clone(), quiet: calm, kinds });
+            book.rules.push(Rule { context: *context as usize, body: body.clone(), quiet_insert, quiet_special, kinds });
         }
         book
     }
 
     fn under(&self, t: u32, u: u32) -> bool {
         self.above[t as usize] >> u & 1 == 1
+    }
+
+    // the type that a role starts at
+    fn start(&self, r: u32) -> u32 {
+        let (source, target) = self.ends[r as usize / 2];
+        if r % 2 == 0 { source } else { target }
     }
 
     // the type of a collection's members
@@ -148,17 +157,18 @@ impl Book {
     }
 }
 
-// Whether an object without links must satisfy a body, or must not, by its shape.
-fn quiet(f: &Form, wanted: bool) -> bool {
+// Whether an object without links at the roles that count must satisfy a body, or must not, by its shape.
+fn quiet(f: &Form, wanted: bool, counts: &dyn Fn(u32) -> bool) -> bool {
+    let part = |x: &Form, wanted: bool| quiet(x, wanted, counts);
     match f {
-        Form::Quantify(q, c, _) => (*q == 0) == wanted && matches!(**c, Form::Role(0, _)),
-        Form::Not(x) => quiet(x, !wanted),
-        Form::Connect(0, x, y) if wanted => quiet(x, true) && quiet(y, true),
-        Form::Connect(0, x, y) => quiet(x, false) || quiet(y, false),
-        Form::Connect(1, x, y) if wanted => quiet(x, true) || quiet(y, true),
-        Form::Connect(1, x, y) => quiet(x, false) && quiet(y, false),
-        Form::Connect(3, x, y) if wanted => quiet(x, false) || quiet(y, true),
-        Form::Connect(3, x, y) => quiet(x, true) && quiet(y, false),
+        Form::Quantify(q, c, _) => (*q == 0) == wanted && matches!(**c, Form::Role(0, r) if counts(r)),
+        Form::Not(x) => part(x, !wanted),
+        Form::Connect(0, x, y) if wanted => part(x, true) && part(y, true),
+        Form::Connect(0, x, y) => part(x, false) || part(y, false),
+        Form::Connect(1, x, y) if wanted => part(x, true) || part(y, true),
+        Form::Connect(1, x, y) => part(x, false) && part(y, false),
+        Form::Connect(3, x, y) if wanted => part(x, false) || part(y, true),
+        Form::Connect(3, x, y) => part(x, true) && part(y, false),
         _ => false,
     }
 }
@@ -886,7 +896,9 @@ impl Lists {
     // whether the batch brought an object into a rule's context, so that the rule has to be looked at there
     fn brought(&self, rule: &Rule, x: Slot) -> bool {
         let touch = self.touch_at(x);
-        (if rule.quiet { touch.specialised } else { touch.specialised | touch.inserted }) >> rule.context & 1 == 1
+        let inserted = if rule.quiet_insert { 0 } else { touch.inserted };
+        let specialised = if rule.quiet_special { 0 } else { touch.specialised };
+        (inserted | specialised) >> rule.context & 1 == 1
     }
 
     fn select_all(&mut self, book: &Book) {

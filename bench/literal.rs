@@ -237,29 +237,48 @@ impl Story<'_> {
 
     fn selected(&self, context: u32, body: &Form, row: usize) -> bool {
         let id = self.end.ids[row];
-        let inserted = || self.brought(&[0], id, context) && !quiet(body);
-        in_type(self.last(), id, context) && (self.moves(body, false, &mut vec![row]) || inserted() || self.brought(&[5], id, context))
+        let inserted = || self.brought(&[0], id, context) && !quiet(body, &every_role(self.book));
+        let special = || self.brought(&[5], id, context) && !quiet(body, &roles_from(self.book, context));
+        in_type(self.last(), id, context) && (self.moves(body, false, &mut vec![row]) || inserted() || special())
     }
 }
 
-fn quiet(f: &Form) -> bool {
+fn every_role(p: &Park) -> Vec<u32> {
+    (0..2 * p.relationships.len() as u32).collect()
+}
+
+// Those that start at a type itself: an object that a special brings into it has no older link there.
+fn roles_from(p: &Park, t: u32) -> Vec<u32> {
+    let start = |r: &u32| {
+        let (source, target) = p.relationships[*r as usize / 2];
+        [source, target][*r as usize % 2]
+    };
+    every_role(p).into_iter().filter(|r| start(r) == t).collect()
+}
+
+fn over_one_of(c: &Form, roles: &[u32]) -> bool {
+    matches!(c, Form::Role(0, r) if roles.contains(r))
+}
+
+// Quietness by some roles of self alone; a quantifier over another role is not counted.
+fn quiet(f: &Form, roles: &[u32]) -> bool {
     match f {
-        Form::Quantify(0, c, _) => matches!(**c, Form::Role(0, _)),
-        Form::Connect(0, x, y) => quiet(x) && quiet(y),
-        Form::Connect(1, x, y) => quiet(x) || quiet(y),
-        Form::Connect(3, x, y) => quietly_false(x) || quiet(y),
-        Form::Not(x) => quietly_false(x),
+        Form::Quantify(0, c, _) => over_one_of(c, roles),
+        Form::Connect(0, x, y) => quiet(x, roles) && quiet(y, roles),
+        Form::Connect(1, x, y) => quiet(x, roles) || quiet(y, roles),
+        Form::Connect(3, x, y) => quietly_false(x, roles) || quiet(y, roles),
+        Form::Not(x) => quietly_false(x, roles),
         _ => false,
     }
 }
 
-fn quietly_false(f: &Form) -> bool {
+fn quietly_false(f: &Form, roles: &[u32]) -> bool {
     match f {
-        Form::Quantify(1, c, _) => matches!(**c, Form::Role(0, _)),
-        Form::Connect(0, x, y) => quietly_false(x) || quietly_false(y),
-        Form::Connect(1, x, y) => quietly_false(x) && quietly_false(y),
-        Form::Connect(3, x, y) => quiet(x) && quietly_false(y),
-        Form::Not(x) => quiet(x),
+        Form::Quantify(1, c, _) => over_one_of(c, roles),
+        Form::Connect(0, x, y) => quietly_false(x, roles) || quietly_false(y, roles),
+        Form::Connect(1, x, y) => quietly_false(x, roles) && quietly_false(y, roles),
+        Form::Connect(3, x, y) => quiet(x, roles) && quietly_false(y, roles),
+        Form::Not(x) => quiet(x, roles),
         _ => false,
     }
 }

@@ -140,6 +140,13 @@ pub fn battery_park(sections: &[usize], floors: &[(u32, u32)]) -> Park {
     Park { rules: charge_rules(), floors: floors.to_vec(), ..p }
 }
 
+// The park for visits that make drives servo drives. The relationship of the two rules of servo drives starts at a type: at the servo drive, or at every drive.
+pub fn servo_park(sections: &[usize], from: u32) -> Park {
+    let mut p = wind_park(sections);
+    p.relationships.push((from, ENCODER));
+    Park { rules: servo_rules(), ..p }
+}
+
 // Charge, capacity and age of a battery box are never below 0.
 pub const BATTERY_FLOORS: [(u32, u32); 3] = [(BOX, 0), (BOX, 1), (BOX, 2)];
 
@@ -354,6 +361,31 @@ pub fn removals() -> Vec<Visit> {
         Visit { name: "a box out of each of 16 cabinets", events: boxes_out(0, 16, true) },
         Visit { name: "a box parted from each of 16", events: boxes_out(0, 16, false) },
         Visit { name: "24 readings, and a box out of each", events: boxes_out(24, 16, true) },
+    ]
+}
+
+// Readings, and then a drive of so many of the smaller park's turbines becomes a servo drive, with a brake and an absolute encoder.
+fn drives_to_servo(readings: usize, turbines: usize) -> Vec<Event> {
+    let mut c = Crew::new(6);
+    while c.events.len() < readings {
+        c.reading();
+    }
+    for n in 0..turbines {
+        let at = |part| c.numbers.part(SMALL[n % 2], n / 2, part);
+        let (drive, encoder) = (at(AT_DRIVE), at(AT_ENCODER));
+        c.special(encoder, ABSOLUTE);
+        c.special(drive, SERVO);
+        c.set(drive, 4, 150);
+    }
+    c.events
+}
+
+// The visits that make drives servo drives, of 3, 48 and 72 events.
+pub fn specials() -> Vec<Visit> {
+    vec![
+        Visit { name: "a drive made a servo drive", events: drives_to_servo(0, 1) },
+        Visit { name: "a drive of each of 16 turbines", events: drives_to_servo(0, 16) },
+        Visit { name: "24 readings, and a drive of each", events: drives_to_servo(24, 16) },
     ]
 }
 
