@@ -1,6 +1,6 @@
 -- A pair that is broken at the end and not selected was broken before the batch already.
 use Prim.Native.Nat.{ℕ}
-use mathlib.Core.Path.{_≡_, refl}
+use mathlib.Core.Path.{_≡_, refl, subst}
 use mathlib.Core.Logic.{⊎-elim}
 use mathlib.Core.Bool.{Bool, true, _&&_, _||_, not}
 use mathlib.Core.List.{List, [], _∷_}
@@ -15,13 +15,14 @@ use Rattle.meaning.specs.Register.{Register, isUnder, objectFault, linkF
 use Rattle.meaning.specs.Forms.{wellTyped, formCount, Rule, Book, faultyRule, ruleFault}
 use Rattle.meaning.specs.Meaning.{meaning, broken}
 use Rattle.meaning.specs.Events.{Event, Lent, after}
-use Rattle.meaning.specs.Reach.{Change, changeBy, down, moves, quietly, quiet, ownRole, quietFrom, quietInsert, quietSpecial, inserted, specialised, broughtIn, selected}
+use Rattle.meaning.specs.Reach.{Change, changeBy, down, moves, quietly, quiet, ownRole, quietFrom, quietInsert, quietSpecial, inserted, specialised, broughtIn, eventsSelect, inspection, selected}
 use Rattle.meaning.specs.Answers.{refusalAt, bookRefusal, registerRefusal, refusal}
 use Rattle.meaning.proofs.Lists.{decide, first-of-none}
 use Rattle.meaning.proofs.Order.{fault-none}
 use Rattle.meaning.proofs.Schemas.{TypesFit, types-fit}
 use Rattle.meaning.proofs.Registers.{RegisterFits, register-fits}
 use Rattle.meaning.proofs.Steps.{Unrefused, at-start}
+use Rattle.meaning.proofs.Touched.{inspection-selects, others-select}
 use Rattle.meaning.proofs.Movement.{unmoved}
 use Rattle.meaning.proofs.Batches.{Kept, leaves, not-brought-in}
 use Rattle.meaning.proofs.Quiet.{NoneOlder, insert-new, special-new, quiet-value}
@@ -115,10 +116,10 @@ module _ (S : Schema) (types-fit : TypesFit (S .types)) (lent : Lent) (g : Regis
       let ns = or-no (inserted c s (r .context) && not (quietInsert S r)) (specialised c s (r .context) && not (quietSpecial S r)) n in
       (kept-quiet (inserted c s (r .context)) (quietInsert S r) (ns .0), kept-quiet (specialised c s (r .context)) (quietSpecial S r) (ns .1))
 
-  -- Theorem 1, pair by pair.
-  pub passed-over : T (broken types (after S g es) r s) → T (not (selected c r s)) → T (broken types g r s)
-  unfolding broken selected
-  passed-over b n =
+  -- Pair by pair, of what the events select.
+  pub events-pass-over : T (broken types (after S g es) r s) → T (not (eventsSelect c r s)) → T (broken types g r s)
+  unfolding broken eventsSelect
+  events-pass-over b n =
       ⊎-elim (λ h. absurd (T-not (isUnder types (after S g es) s (r .context)) (bs .0) h)) not-selected
       (and-no (isUnder types (after S g es) s (r .context)) _ n)
     where
@@ -149,3 +150,13 @@ module _ (S : Schema) (types-fit : TypesFit (S .types)) (lent : Lent) (g : Regis
           (λ j. kept-broken (not-brought-in S types-fit lent g fits es ok s (r .context) i j (bs .0)) still b)
           (decide (specialised c s (r .context))))
           (decide (inserted c s (r .context)))
+
+  -- Theorem 1, pair by pair: an inspection passes over no object of the context type.
+  pub passed-over : T (broken types (after S g es) r s) → T (not (selected c r s)) → T (broken types g r s)
+  passed-over b n =
+      ⊎-elim
+      (λ empty.
+      let not-under = subst (λ x. T (not x)) (inspection-selects c empty r s) n in
+      absurd (T-not (isUnder types (after S g es) s (r .context)) (broken-under types (after S g es) r s b) not-under))
+      (λ events. events-pass-over b (subst (λ x. T (not x)) (others-select c events r s) n))
+      (decide (inspection c))

@@ -7,19 +7,19 @@ use Rattle.meaning.specs.Forms.{formCount, memberType, wellTyped, faulty
 use Rattle.meaning.specs.Meaning.{compared, connected, quantified, combined, total, meaning, broken}
 use Rattle.meaning.specs.Events.{apply, after, firstMet, needsType, typeNeeded, strictlyAbove, strictlyUnder, hasCell, setBelow, broughtBelow, checks, eventRefusal, refusalFrom, batchRefusal, knownEvent}
 use Rattle.meaning.specs.Reach.{stepsOf, someStep, leftOf, rightOf, firstTruth, secondTruth, sourceOf, secondTerm, sumSource, roleMoves, allMoves, cellMoves, kindMoves, moves, roleOfSelf, quietQuantifier}
-use Rattle.meaning.specs.Reach.{quietConnective, quietly, quiet, quietFrom, quietInsert, quietSpecial, inserted, specialised, broughtIn, selected, pairsFrom, contextPairs, ofRule, selectedPairs}
+use Rattle.meaning.specs.Reach.{quietConnective, quietly, quiet, quietFrom, quietInsert, quietSpecial, inserted, specialised, broughtIn, eventsSelect, inspection, selected, pairsFrom, contextPairs, ofRule, selectedPairs}
 use Rattle.meaning.specs.EventList.{eventTypeWords, whereParent, roleLists, allLists, kindLists, lists, contextLists, eventList}
 use Rattle.meaning.specs.Answers.{refusalAt, bookRefusal, registerRefusal, refusal, foundAnswer, firstBroken, unlessRefused, listRefusal, checkRefusal, registerLeft, outcomeOf, outcomeUnless, batchCheck}
-use Rattle.meaning.specs.Cases.{everything, resultOf, table}
+use Rattle.meaning.specs.Cases.{resultOf, table}
 use Rattle.meaning.specs.Claims.{CasesHold}
 
 pub cases-hold : CasesHold
-unfolding table resultOf everything validId fitsWord knownType knownRelationship typeAt parentOf cellsOf hasParent climbs under knownRole relationshipAt
+unfolding table resultOf validId fitsWord knownType knownRelationship typeAt parentOf cellsOf hasParent climbs under knownRole relationshipAt
     sourceType targetType nearType farType parentFits faultyType faultyFloor faultyRelationship floored typeFault floorFault relationshipFault objectAt present isUnder cellAt
     instances hasLink farEnds cellsFit belowFloor objectFits faultyObject linkFits faultyLink objectFault linkFault formCount memberType wellTyped faultyRule
     ruleFault compared connected quantified combined total meaning broken apply after firstMet needsType typeNeeded strictlyAbove strictlyUnder setBelow broughtBelow
     hasCell knownEvent checks eventRefusal refusalFrom batchRefusal stepsOf someStep leftOf rightOf firstTruth secondTruth sourceOf secondTerm sumSource roleMoves
-    allMoves cellMoves kindMoves moves roleOfSelf quietQuantifier quietConnective quietly quiet quietFrom quietInsert quietSpecial inserted specialised broughtIn selected pairsFrom
+    allMoves cellMoves kindMoves moves roleOfSelf quietQuantifier quietConnective quietly quiet quietFrom quietInsert quietSpecial inserted specialised broughtIn eventsSelect inspection selected pairsFrom
     contextPairs ofRule selectedPairs eventTypeWords whereParent roleLists allLists kindLists lists contextLists eventList refusalAt bookRefusal
     registerRefusal refusal foundAnswer firstBroken unlessRefused listRefusal checkRefusal registerLeft outcomeOf outcomeUnless batchCheck
 cases-hold = refl

@@ -119,6 +119,10 @@ module _ {A : Type 0} where
       step true h = suc-le-suc h
       step false h = le-trans h (le-suc (length ys))
 
+  pub keep-all : (p : A → Bool) (l : List A) → ((x : A) → x ∈ l → T (p x)) → keep p l ≡ l
+  keep-all p [] h = refl
+  keep-all p (y ∷ ys) h = cond-yes (p y) (y ∷ keep p ys) (keep p ys) (h y (List·Memᴰ·head refl)) ∙ ap (λ k. y ∷ k) (keep-all p ys (λ x m. h x (List·Memᴰ·tail m)))
+
   -- ---- first
 
   pub first-some : (p : A → Bool) (l : List A) {x : A} → first p l ≡ some x → x ∈ l × T (p x)

@@ -1,28 +1,31 @@
 -- A proof of each claim of `specs/Claims`, in the order of the claims.
-use mathlib.Core.Path.{_≡_, refl, ap, subst}
+use Prim.Native.Nat.{ℕ, _*_}
+use mathlib.Core.Path.{_≡_, refl, sym, ap, subst}
 use mathlib.Core.Logic.{⊎-elim}
-use mathlib.Core.Bool.{not}
-use mathlib.Core.List.{List}
-use mathlib.Core.Option.{none}
-use lib.Dec.{T}
-use lib.ListN.{getElem?}
-use mir.Facts.{T-not}
+use mathlib.Core.Bool.{Bool, true, false, not, cond}
+use mathlib.Core.List.{List, [], _∷_}
+use mathlib.Core.Option.{none, some, Option·none-ne-some}
+use lib.Dec.{T, ltb}
+use lib.ListN.{length, getElem?}
+use mir.Facts.{T-not, ltb-yes, yes-ltb}
 use Rattle.meaning.specs.Lists.{holds}
 use Rattle.meaning.specs.Register.{Register}
-use Rattle.meaning.specs.Forms.{Book}
+use Rattle.meaning.specs.Forms.{Rule, Book}
 use Rattle.meaning.specs.Meaning.{broken}
-use Rattle.meaning.specs.Events.{Event, Lent, batchRefusal}
-use Rattle.meaning.specs.Reach.{selected, Pair, contextPairs, ofRule, pairSelected, selectedPairs}
-use Rattle.meaning.specs.Answers.{Answer, refusalAt, registerRefusal, refusal, pairBroken, foundAnswer, firstBroken, unlessRefused, fullCheck, checkRefusal, registerLeft, outcomeOf, outcomeUnless, batchCheck}
-use Rattle.meaning.specs.Claims.{endOf, changeOf, NotRefused, NothingPassedOver, Agreement, BatchAgreement, Untouched, EventListAscends, ListSelects, ListAscends, AfterNotRefused, NumbersBounded}
-use Rattle.meaning.specs.Claims.{ComparisonsUnmoved, CasesHold, FullCheckRefused, FullCheckBroken, FullCheckAccepted, BatchRefused, BatchLists, BatchBroken, BatchAccepted, BatchLeaves}
-use Rattle.meaning.proofs.Lists.{decide, keep-from, first-keep, first-of-none, holds-some, some-holds}
+use Rattle.meaning.specs.Events.{Event, Lent, Refusal, after, batchRefusal}
+use Rattle.meaning.specs.Reach.{stepsOf, eventsSelect, inspection, selected, Pair, contextPairs, ofRule, pairSelected, selectedPairs}
+use Rattle.meaning.specs.EventList.{touched}
+use Rattle.meaning.specs.Answers.{Answer, refusalAt, registerRefusal, refusal, pairBroken, foundAnswer, firstBroken, unlessRefused, fullCheck, listRefusal, checkRefusal, registerLeft, outcomeOf, outcomeUnless, batchCheck}
+use Rattle.meaning.specs.Claims.{endOf, changeOf, NotRefused, NothingPassedOver, Agreement, BatchAgreement, InspectionAgreement, InspectionLists, Untouched, EventListAscends, ListSelects, ListAscends, AfterNotRefused, NumbersBounded}
+use Rattle.meaning.specs.Claims.{ComparisonsUnmoved, CasesHold, FullCheckRefused, FullCheckBroken, FullCheckAccepted, BatchRefused, RoomForPairs, BatchLists, BatchBroken, BatchAccepted, BatchLeaves}
+use Rattle.meaning.proofs.Lists.{decide, cond-yes, keep-from, first-keep, first-of-none, holds-some, some-holds}
 use Rattle.meaning.proofs.Registers.{RegisterFits, fits-register}
 use Rattle.meaning.proofs.Steps.{Unrefused, unrefused, end-fits, limit-kept, steps-fit}
 use Rattle.meaning.proofs.Comparisons.{comparison-unmoved}
 use Rattle.meaning.proofs.Agreement.{Checked, checked, passed-over}
 use Rattle.meaning.proofs.Touched
-use Rattle.meaning.proofs.Touched.{event-list-ascends}
+use Rattle.meaning.proofs.Touched.{others-select, event-list-ascends}
+use Rattle.meaning.proofs.Pairs
 use Rattle.meaning.proofs.Pairs.{pairs-ascend, selected-listed}
 use Rattle.meaning.proofs.Bounds.{number-bound}
 use Rattle.meaning.proofs.Answers
@@ -81,12 +84,30 @@ pub batch-agreement : BatchAgreement
 unfolding outcomeOf
 batch-agreement k lent g es e h = let o = outcome-is k lent g es e in rw (o .1) (agreement k lent g es (o .0) h)
 
+-- whatever held before, the pairs of an inspection are those of the full check
+pub inspection-lists : InspectionLists
+unfolding inspection stepsOf after
+inspection-lists k lent g [] ok empty = Pairs.inspection-lists k (changeOf k g []) (end-register k lent g [] ok) refl empty
+inspection-lists k lent g (e ∷ es) ok empty = absurd empty
+
+pub inspection-agreement : InspectionAgreement
+unfolding outcomeOf fullCheck unlessRefused inspection stepsOf after
+inspection-agreement k lent g [] e empty =
+    let o = outcome-is k lent g [] e in
+    rw (o .1, o .0 .0) (ap (firstBroken k g) (inspection-lists k lent g [] (o .0) empty))
+inspection-agreement k lent g (e ∷ es) unrefused empty = absurd empty
+
 -- ---- 2
 
-pub untouched : Untouched
-untouched k lent g es ok n r e =
+-- the events of a batch select no pair of a rule that they do not touch
+pub untouched-by-events : (k : Book) (lent : Lent) (g : Register) (es : List Event) → NotRefused k lent g es → (n : ℕ) (r : Rule) → getElem? (k .rules) n ≡ some r → T (not (touched (changeOf k g es) r)) → (s : ℕ) → T (not (eventsSelect (changeOf k g es) r s))
+untouched-by-events k lent g es ok n r e =
     let kn = known k lent g es ok in
     Touched.untouched (changeOf k g es) (kn .types) (end-register k lent g es ok) (steps-fit (k .schema) (kn .types) lent g es (kn .register) (events-fit k lent g es ok)) r (kn .typed n r e)
+
+pub untouched : Untouched
+untouched k lent g es ok events n r e still s =
+    subst (λ b. T (not b)) (sym (others-select (changeOf k g es) events r s)) (untouched-by-events k lent g es ok n r e still s)
 
 pub event-list-ascending : EventListAscends
 event-list-ascending k r = event-list-ascends (k .schema) r
@@ -137,6 +158,17 @@ full-check-accepted = Answers.full-check-accepted
 pub batch-refused : BatchRefused
 unfolding batchCheck outcomeUnless
 batch-refused k lent g es r e = rw e
+
+pub room-for-pairs : RoomForPairs
+unfolding checkRefusal listRefusal
+room-for-pairs k lent g es ok =
+    let need = 2 * length (selectedPairs k (changeOf k g es)) in
+    rw (ok .0, ok .1) (λ e. ltb-yes (met-of (ltb (lent .words) need) e), λ h. cond-yes (ltb (lent .words) need) _ none (yes-ltb h))
+  where
+    -- a refusal is met where the test holds
+    met-of : (b : Bool) {r : Refusal} → cond b (some r) none ≡ some r → T b
+    met-of true e = tt
+    met-of false {r} e = absurd (Option·none-ne-some r e)
 
 pub batch-lists : BatchLists
 unfolding outcomeOf

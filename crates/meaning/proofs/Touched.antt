@@ -1,4 +1,4 @@
--- Theorem 2: a rule none of whose listed event types occurs has no selected pair. A rule's event list ascends.
+-- Theorem 2: the events of a batch select no pair of a rule none of whose listed event types occurs. A rule's event list ascends.
 use Prim.Native.Nat.{ℕ}
 use mathlib.Core.Path.{_≡_, refl, sym, ap, subst, _∙_}
 use mathlib.Core.Logic.{_⊎_, inl, inr, ⊎-elim}
@@ -15,7 +15,7 @@ use Rattle.meaning.specs.Meaning.{meaning}
 use Rattle.meaning.specs.Events.{Event, insert, delete, set, join, part, special, general, linkOf, strictlyAbove, strictlyUnder}
 use Rattle.meaning.specs.Reach.{Step, stepAt, Change, someStep, Kind, inserts, sets, joins, parts, specials, generals, among, partNamed, leadsTo, taken, setsCell, insertsInto, specialisesInto, deletesFrom, generalisesFrom, anyone, Direction, up, down, opposite, Passing, same}
 use Rattle.meaning.specs.Reach.{reversed, either, through, leftOf, rightOf, negated, firstTruth, secondTruth, sourceOf, chosenFrom, firstTerm, secondTerm, sumSource, flooredSum, roleMoves, allMoves, cellMoves, kindMoves, moves}
-use Rattle.meaning.specs.Reach.{quietInsert, quietSpecial, inserted, specialised, broughtIn, selected}
+use Rattle.meaning.specs.Reach.{quietInsert, quietSpecial, inserted, specialised, broughtIn, eventsSelect, inspection, selected}
 use Rattle.meaning.specs.EventList.{EventType, insertOf, deleteOf, setOf, joinOf, partOf, specialOf, generalOf, eventTypeWords, whereParent, roleLists, allLists, kindLists, lists, contextLists, eventList, occurs, touched}
 use Rattle.meaning.proofs.Lists.{holds-some, or-left, or-right, decide, cond-yes, cond-no, any-of, any-cases, keep-from}
 use Rattle.meaning.proofs.Order.{put-other, put-has, put-ascending}
@@ -214,9 +214,18 @@ module _ (c : Change) where
 
   -- ---- selection
 
-  pub selected-cases : (r : Rule) (s : ℕ) → T (selected c r s) → T (isUnder types (c .end) s (r .context)) × T (moves c (r .body) (s ∷ []) down || broughtIn c r s)
+  -- an inspection, and a batch with events
+  pub inspection-selects : T (inspection c) → (r : Rule) (s : ℕ) → selected c r s ≡ isUnder types (c .end) s (r .context)
   unfolding selected
-  selected-cases r s = and-yes (isUnder types (c .end) s (r .context)) (moves c (r .body) (s ∷ []) down || broughtIn c r s)
+  inspection-selects empty r s = cond-yes (inspection c) (isUnder types (c .end) s (r .context)) (eventsSelect c r s) empty
+
+  pub others-select : T (not (inspection c)) → (r : Rule) (s : ℕ) → selected c r s ≡ eventsSelect c r s
+  unfolding selected
+  others-select events r s = cond-no (inspection c) (isUnder types (c .end) s (r .context)) (eventsSelect c r s) events
+
+  pub selecting-cases : (r : Rule) (s : ℕ) → T (eventsSelect c r s) → T (isUnder types (c .end) s (r .context)) × T (moves c (r .body) (s ∷ []) down || broughtIn c r s)
+  unfolding eventsSelect
+  selecting-cases r s = and-yes (isUnder types (c .end) s (r .context)) (moves c (r .body) (s ∷ []) down || broughtIn c r s)
 
   module _ (types-fit : TypesFit types) (end-fits : RegisterFits S (c .end)) (steps-fit : StepsFit c) where
     special-listed : (t : ℕ) → T (occurs c (specialOf t)) → T (occur (whereParent S t (specialOf t)))
@@ -346,10 +355,10 @@ module _ (c : Change) where
         (unless-quiet (inserted c s t) (quietInsert S r) into (λ h. one-listed (insertOf t) (some-anyone inserts _ (eqb s) h)))
         (unless-quiet (specialised c s t) (quietSpecial S r) below (λ h. special-listed t (some-anyone specials _ (eqb s) h)))
 
-    selected-touched : (r : Rule) → T (wellTyped S (r .context ∷ []) (r .body)) → (s : ℕ) → T (selected c r s) → T (touched c r)
+    selecting-touched : (r : Rule) → T (wellTyped S (r .context ∷ []) (r .body)) → (s : ℕ) → T (eventsSelect c r s) → T (touched c r)
     unfolding touched eventList
-    selected-touched r w s t =
-        let sel = selected-cases r s t in
+    selecting-touched r w s t =
+        let sel = selecting-cases r s t in
         let listed = lists S (r .body) (r .context ∷ []) down in
         let e =
         any-cases (occurs c) (listed ++ contextLists S r)
@@ -357,5 +366,5 @@ module _ (c : Change) where
         (moves-listed (r .body) (s ∷ []) (r .context ∷ []) (sel .0, tt) w down) (context-listed r s) (sel .1)) in
         any-of (occurs c) (placed (e .1)) (e .2)
 
-    pub untouched : (r : Rule) → T (wellTyped S (r .context ∷ []) (r .body)) → T (not (touched c r)) → (s : ℕ) → T (not (selected c r s))
-    untouched r w n s = not-T (selected c r s) (λ t. T-not (touched c r) (selected-touched r w s t) n)
+    pub untouched : (r : Rule) → T (wellTyped S (r .context ∷ []) (r .body)) → T (not (touched c r)) → (s : ℕ) → T (not (eventsSelect c r s))
+    untouched r w n s = not-T (eventsSelect c r s) (λ t. T-not (touched c r) (selecting-touched r w s t) n)

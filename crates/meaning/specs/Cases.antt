@@ -19,7 +19,7 @@ use Rattle.meaning.specs.Answers.{Answer, accepted, brokenAt, refused, b
 
 -- a batch for a book and a register, or a rule by itself
 pub data Given : Type 0 where
-  batchFor : Book → Register → List Event → Given
+  batchFor : Lent → Book → Register → List Event → Given
   ruleFor : Schema → Rule → Given
 
 -- the answer, the pairs and the register that a batch check leaves; or whether a rule is refused, and its event list
@@ -31,16 +31,19 @@ pub record Case : Type 0 where
   pub given : Given
   pub expected : Result
 
--- tables to document 01's limits, and words for the list without end
-unfoldable pub everything : Lent
-everything = record { objects = 1024; links = 4096; words = 100000 }
+-- tables to document 01's limits, with so many words for the list; and words without end
+abbrev listOf : ℕ → Lent
+listOf words = record { objects = 1024; links = 4096; words = words }
+
+abbrev everything : Lent
+everything = listOf 100000
 
 -- a book of one rule
 abbrev pub oneRule : Schema → Rule → Book
 oneRule S r = record { schema = S; rules = r ∷ [] }
 
 unfoldable pub resultOf : Given → Result
-resultOf (batchFor k g es) = outcome (batchCheck k everything g es)
+resultOf (batchFor lent k g es) = outcome (batchCheck k lent g es)
 resultOf (ruleFor S r) = listing (bookRefusal (oneRule S r)) (eventList S r)
 
 -- ---- Book A
@@ -93,7 +96,7 @@ withoutTwenty = record { objects = object 10 0 (pos 30 ∷ []) ∷ object 11 0 (
 -- a batch for a book of one rule, and its answer, its pairs and the register that it leaves
 abbrev caseBy : Schema → Rule → Register → List Event → Answer → List Pair → Register → Case
 caseBy S r g es answer pairs left =
-    record { given = batchFor (oneRule S r) g es; expected = outcome (record { answer = answer; pairs = pairs; register = left }) }
+    record { given = batchFor everything (oneRule S r) g es; expected = outcome (record { answer = answer; pairs = pairs; register = left }) }
 
 abbrev caseA : List Event → Answer → List Pair → Register → Case
 caseA es answer pairs left = caseBy schemaA sumRule registerA es answer pairs left
@@ -260,12 +263,34 @@ caseS body = caseBy drives (record { context = 1; body = body })
 abbrev listS : Form truth → List EventType → Case
 listS body es = record { given = ruleFor drives (record { context = 1; body = body }); expected = listing none es }
 
+-- ---- inspections (Req 08)
+
+-- two servo drives, the second of a kind of its own, and the cabinets
+abbrev fleet : List Link → Register
+fleet links = record { objects = object 10 1 [] ∷ object 11 2 [] ∷ object 20 3 (pos 5 ∷ []) ∷ object 21 3 (pos 9 ∷ []) ∷ []; links = links }
+
+-- a rule of every drive, a quiet one of servo drives, and one of cabinets that no event touches but an insert
+abbrev threeRules : Book
+threeRules =
+    record {
+      schema = drives;
+      rules = record { context = 0; body = compare ge (cell 0 0) (num (pos 0)) } ∷ record { context = 1; body = low ofServo } ∷ record { context = 3; body = compare le (num (pos 0)) (num (pos 1)) } ∷ [];
+    }
+
+-- a batch for them, with so many words for the list
+abbrev caseI : ℕ → Register → List Event → Answer → List Pair → Register → Case
+caseI words g es answer pairs left =
+    record { given = batchFor (listOf words) threeRules g es; expected = outcome (record { answer = answer; pairs = pairs; register = left }) }
+
+abbrev everyPair : List Pair
+everyPair = pairOf 0 10 ∷ pairOf 0 11 ∷ pairOf 1 10 ∷ pairOf 1 11 ∷ pairOf 2 20 ∷ pairOf 2 21 ∷ []
+
 unfoldable pub table : List Case
 table =
     -- (a) to (f)
     caseA (set 20 0 (pos 31) ∷ []) (brokenAt 0 10) (pairOf 0 10 ∷ []) registerA
     ∷ caseA (set 20 0 (pos 30) ∷ []) accepted (pairOf 0 10 ∷ []) (parkA [] (pos 30) linkA)
-    ∷ caseA [] accepted [] registerA
+    ∷ caseA [] accepted (pairOf 0 10 ∷ pairOf 0 11 ∷ []) registerA
     ∷ caseA (part 0 10 20 ∷ []) accepted (pairOf 0 10 ∷ []) (parkA [] (pos 25) [])
     ∷ caseA (part 0 10 20 ∷ join 0 10 20 ∷ []) accepted (pairOf 0 10 ∷ []) registerA
     ∷ caseA (insert 12 0 ∷ []) accepted (pairOf 0 12 ∷ []) withTwelve
@@ -331,4 +356,10 @@ table =
     ∷ caseS (low ofServo) (driveOf 1 []) (general 10 0 ∷ join 0 10 21 ∷ special 10 1 ∷ []) accepted [] (driveOf 1 (linkOf 0 10 21 ∷ []))
     ∷ caseS (low ofDrive) (driveOf 1 []) (general 10 0 ∷ join 0 10 21 ∷ special 10 1 ∷ []) (brokenAt 0 10) (pairOf 0 10 ∷ []) (driveOf 1 [])
     ∷ caseS (low ofServo) (driveOf 1 []) (general 10 0 ∷ join 0 10 20 ∷ special 10 1 ∷ join 1 10 21 ∷ []) (brokenAt 0 10) (pairOf 0 10 ∷ []) (driveOf 1 [])
+    -- an inspection lists every pair, and tells what is broken
+    ∷ caseI 12 (fleet []) [] accepted everyPair (fleet [])
+    ∷ caseI 12 (fleet (linkOf 1 11 21 ∷ [])) [] (brokenAt 1 11) everyPair (fleet (linkOf 1 11 21 ∷ []))
+    -- 14 meets it; a batch of one event that changes nothing is none, though a rule is broken
+    ∷ caseI 11 (fleet []) [] (refused 14 0) [] (fleet [])
+    ∷ caseI 12 (fleet (linkOf 1 11 21 ∷ [])) (set 20 0 (pos 5) ∷ []) accepted [] (fleet (linkOf 1 11 21 ∷ []))
     ∷ []

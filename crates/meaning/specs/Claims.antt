@@ -1,6 +1,6 @@
 -- What is proved of the definitions: each claim by its name, as a proposition that can be read alone, with the demand or the clause of
 -- document 01 that it answers to. `proofs/Theorems` has one proof for each. The numbers are those of `docs/PROOFS.md`.
-use Prim.Native.Nat.{ℕ, _≤_, _^_}
+use Prim.Native.Nat.{ℕ, _*_, _^_, _≤_, _<_}
 use mathlib.Core.Path.{_≡_}
 use mathlib.Core.Logic.{_↔_}
 use mathlib.Core.Bool.{not}
@@ -15,7 +15,7 @@ use Rattle.meaning.specs.Register.{Register}
 use Rattle.meaning.specs.Forms.{truth, number, Comparison, Form, formCount, wellTyped, Rule, Book}
 use Rattle.meaning.specs.Meaning.{compared, meaning, bookHolds}
 use Rattle.meaning.specs.Events.{Event, Lent, Refusal, after, batchRefusal}
-use Rattle.meaning.specs.Reach.{Change, changeBy, Direction, leftOf, rightOf, selected, Pair, pairKey, pairSelected, selectedPairs}
+use Rattle.meaning.specs.Reach.{Change, changeBy, Direction, leftOf, rightOf, inspection, selected, Pair, pairKey, contextPairs, pairSelected, selectedPairs}
 use Rattle.meaning.specs.EventList.{eventTypeWords, eventList, touched}
 use Rattle.meaning.specs.Answers.{accepted, brokenAt, refused, refusal, pairBroken, firstBroken, fullCheck, checkRefusal, Outcome, batchCheck}
 use Rattle.meaning.specs.Unmoved.{Unmoved, Through}
@@ -65,14 +65,20 @@ Agreement =
 abbrev pub BatchAgreement : Type 0
 BatchAgreement = ForEachOutcome (λ k g es outcome. T (bookHolds k g) → outcome .answer ≡ fullCheck k (endOf k g es))
 
+-- Req 08: "For this batch the agreement with the full check needs no earlier good state": an inspection answers what a full check of the
+-- register answers, whatever held.
+abbrev pub InspectionAgreement : Type 0
+InspectionAgreement = ForEachOutcome (λ k g es outcome. T (inspection (changeOf k g es)) → outcome .answer ≡ fullCheck k g)
+
 -- ---- 2: rules that a batch does not touch
 
--- Demand 3: "a rule none of whose listed event types occurs has no pair"
+-- Demand 3: "a rule none of whose listed event types occurs has no pair"; Req 08: "only for other batches" than an inspection
 abbrev pub Untouched : Type 0
 Untouched =
     ForEach
     (λ k g es.
-    (n : ℕ) (r : Rule) → getElem? (k .rules) n ≡ some r → T (not (touched (changeOf k g es) r)) → (s : ℕ) → T (not (selected (changeOf k g es) r s)))
+    T (not (inspection (changeOf k g es)))
+    → (n : ℕ) (r : Rule) → getElem? (k .rules) n ≡ some r → T (not (touched (changeOf k g es) r)) → (s : ℕ) → T (not (selected (changeOf k g es) r s)))
 
 -- "Order: the events' order above, then numbers, none twice"
 abbrev pub EventListAscends : Type 0
@@ -87,6 +93,10 @@ ListSelects = ForEach (λ k g es. (p : Pair) → (p ∈ selectedPairs k (changeO
 -- "each once, ascending", by rule and then id
 abbrev pub ListAscends : Type 0
 ListAscends = ForEach (λ k g es. Ascending (Before pairKey) (selectedPairs k (changeOf k g es)))
+
+-- Req 08: "A batch without events selects every pair of rule and object of its context type."
+abbrev pub InspectionLists : Type 0
+InspectionLists = ForEach (λ k g es. T (inspection (changeOf k g es)) → selectedPairs k (changeOf k g es) ≡ contextPairs k g)
 
 -- ---- 4: the register after a batch
 
@@ -153,6 +163,13 @@ BatchRefused =
     (k : Book) (lent : Lent) (g : Register) (es : List Event) (r : Refusal)
     → checkRefusal k lent g es ≡ some r
     → batchCheck k lent g es ≡ record { answer = refused (r .number) (r .place); pairs = []; register = g }
+
+-- 14: "the pairs .. need more than is lent", two words each; Req 08: it "can now meet an empty batch"
+abbrev pub RoomForPairs : Type 0
+RoomForPairs =
+    (k : Book) (lent : Lent) (g : Register) (es : List Event)
+    → NotRefused k lent g es
+    → (checkRefusal k lent g es ≡ some (record { number = 14; place = 0 })) ↔ (lent .words < 2 * length (selectedPairs k (changeOf k g es)))
 
 -- The batch check lists the pairs that claims 1 to 3 speak of.
 abbrev pub BatchLists : Type 0

@@ -11,6 +11,10 @@ abbrev pub _∈_ : {A : Type 0} → A → List A → Type 0
 x ∈ l = List·Memᴰ x l
 
 module _ {A : Type 0} where
+  abbrev pub isEmpty : List A → Bool
+  isEmpty [] = true
+  isEmpty (x ∷ xs) = false
+
   -- some element passes the test
   abbrev pub any : (A → Bool) → List A → Bool
   any p [] = false

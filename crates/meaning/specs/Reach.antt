@@ -1,10 +1,10 @@
 -- Document 01, "Reach rules": which forms a batch may move and which way; quiet bodies; the selected pairs.
 use Prim.Native.Nat.{ℕ, suc}
-use mathlib.Core.Bool.{Bool, true, false, _&&_, _||_, not}
+use mathlib.Core.Bool.{Bool, true, false, _&&_, _||_, not, cond}
 use mathlib.Core.List.{List, [], _∷_, _++_, map}
 use lib.Dec.{eqb}
 use lib.ListN.{getElem?}
-use Rattle.meaning.specs.Lists.{any, keep, holds}
+use Rattle.meaning.specs.Lists.{isEmpty, any, keep, holds}
 use Rattle.meaning.specs.Schema.{ObjectType, Relationship, Schema, under, floored, nearType}
 use Rattle.meaning.specs.Register.{Link, Register, isUnder, instances, hasLink, farEnd, startsAt}
 use Rattle.meaning.specs.Forms.{Sort, truth, collection, Comparison, le, lt, eq, ne, ge, gt, Connective, and, or, xor, implies, Quantifier, forall, exists, Arithmetic, add, sub, Form}
@@ -324,9 +324,17 @@ broughtIn c r s =
     (inserted c s (r .context) && not (quietInsert (c .schema) r)) || (specialised c s (r .context) && not (quietSpecial (c .schema) r))
 
 -- "Pair (rule, s) is selected when s is under the context type at the end and: the body may turn false at s; or" it was brought in
--- so.
+-- so: a pair that the events of the batch select.
+unfoldable pub eventsSelect : Change → Rule → ℕ → Bool
+eventsSelect c r s = isUnder (c .schema .types) (c .end) s (r .context) && (moves c (r .body) (s ∷ []) down || broughtIn c r s)
+
+-- Req 08: "An empty batch is an inspection."
+unfoldable pub inspection : Change → Bool
+inspection c = isEmpty (c .steps)
+
+-- "A batch without events selects every pair of rule and object of its context type" (Req 08), any other those that its events select.
 unfoldable pub selected : Change → Rule → ℕ → Bool
-selected c r s = isUnder (c .schema .types) (c .end) s (r .context) && (moves c (r .body) (s ∷ []) down || broughtIn c r s)
+selected c r s = cond (inspection c) (isUnder (c .schema .types) (c .end) s (r .context)) (eventsSelect c r s)
 
 -- a rule's number and an object's id
 pub record Pair : Type 0 where
