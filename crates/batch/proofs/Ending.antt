@@ -1,4 +1,4 @@
--- What is known at the end of a batch that is not refused: its tables are as no refusal leaves them, and the rules that it does not touch have no pair.
+-- What is known at the end of a batch that is not refused: its tables are as no refusal leaves them, and its events select no pair of the rules that they do not touch.
 use Prim.Native.Nat.{ℕ, _≤_}
 use mathlib.Core.Path.{_≡_, refl, sym, ap, subst, _∙_}
 use mathlib.Core.Bool.{Bool, true, false, not}
@@ -11,11 +11,11 @@ use Rattle.meaning.specs.Limits.{maxTypes}
 use Rattle.meaning.specs.Register.{Register}
 use Rattle.meaning.specs.Forms.{Book}
 use Rattle.meaning.specs.Events.{batchRefusal}
-use Rattle.meaning.specs.Reach.{Change, changeBy, selected}
+use Rattle.meaning.specs.Reach.{Change, changeBy, eventsSelect}
 use Rattle.meaning.specs.Answers.{refusal}
 use Rattle.meaning.proofs.Registers.{RegisterFits}
 use Rattle.meaning.proofs.Agreement.{checked}
-use Rattle.meaning.proofs.Theorems.{after-not-refused, untouched}
+use Rattle.meaning.proofs.Theorems.{after-not-refused, untouched-by-events}
 use Rattle.schema.proofs.Rows.{length-rows, row-there}
 use Rattle.tables.specs.Layouts.{Sheet, layouts, sheetOf}
 use Rattle.tables.specs.Columns.{typeRow, ruleRow, bookOf, registerIn, batchIn}
@@ -108,6 +108,6 @@ module _ (n : Counts) (s : Sheet) (scratchObjects scratchLinks : List ℕ) (word
         lost = lost-by (countsWith n m l) (s .types) objects links (s .events) met lost losses left fits taken few-types refl refl (known .1 .few-events);
         untouched = λ i h e id.
             let r = ruleRow (s .rules) (s .bodies) i in
-            off (selected c r id)
-            (untouched k (lentBy (s .objects) (s .links) words) g (batchIn n s) (u .contents, u .events) i r (row-there (ruleRow (s .rules) (s .bodies)) (n .rules) i h) (subst (λ b. T (not b)) (sym e) tt) id);
+            off (eventsSelect c r id)
+            (untouched-by-events k (lentBy (s .objects) (s .links) words) g (batchIn n s) (u .contents, u .events) i r (row-there (ruleRow (s .rules) (s .bodies)) (n .rules) i h) (subst (λ b. T (not b)) (sym e) tt) id);
       }

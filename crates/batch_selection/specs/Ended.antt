@@ -2,18 +2,22 @@
 use Prim.Native.Nat.{ℕ, _≤_, _<_}
 use mathlib.Core.Path.{_≡_}
 use mathlib.Core.Bool.{false}
-use mathlib.Core.List.{List}
+use mathlib.Core.List.{List, flatMap}
 use lib.ListN.{getD}
+use Rattle.meaning.specs.Lists.{keep}
 use Rattle.meaning.specs.Limits.{maxTypes}
-use Rattle.meaning.specs.Reach.{Change, someStep, taken, selected}
+use Rattle.meaning.specs.Reach.{Change, someStep, taken, eventsSelect}
 use Rattle.meaning.specs.EventList.{touched}
+use Rattle.rows.specs.Rows.{readRows}
 use Rattle.tables.specs.Losses.{lostIn, LossesLow}
 use Rattle.tables.specs.Layouts.{Sheet}
 use Rattle.tables.specs.Columns.{ruleRow, bookOf}
 use Rattle.tables.specs.declared.Counts.{Counts}
 use Rattle.trace_places.specs.Traces.{Seen}
+use Rattle.selection.specs.Selected.{ruleCodes}
 
--- the tables are those of the batch's end, with the type that each event met and the losses that its deletes wrote; "a rule none of whose listed event types occurs has no pair"
+-- the tables are those of the batch's end, with the type that each event met and the losses that its deletes wrote; its events select no pair of "a rule none
+-- of whose listed event types occurs"
 pub record Ended (c : Change) (n : Counts) (s : Sheet) (met : List ℕ) (count : ℕ) (losses : List ℕ) : Type 0 where
   pub seen : Seen c n (s .types) (s .objects) (s .links) (s .events) (λ i. getD met i 0)
   pub schema-is : c .schema ≡ (bookOf n s) .schema
@@ -21,4 +25,8 @@ pub record Ended (c : Change) (n : Counts) (s : Sheet) (met : List ℕ) (count :
   pub losses-few : count ≤ 4352
   pub losses-low : LossesLow losses count
   pub lost : (r u : ℕ) → lostIn losses count r u ≡ someStep c (taken r u)
-  pub untouched : (i : ℕ) → i < n .rules → touched c (ruleRow (s .rules) (s .bodies) i) ≡ false → (id : ℕ) → selected c (ruleRow (s .rules) (s .bodies) i) id ≡ false
+  pub untouched : (i : ℕ) → i < n .rules → touched c (ruleRow (s .rules) (s .bodies) i) ≡ false → (id : ℕ) → eventsSelect c (ruleRow (s .rules) (s .bodies) i) id ≡ false
+
+-- the codes of the pairs that its events select: those of the rules that it touches
+abbrev pub eventCodes : Change → Counts → Sheet → List ℕ
+eventCodes c n s = flatMap (ruleCodes c (s .rules) (s .bodies) (s .objects) (n .objects)) (keep (λ i. touched c (ruleRow (s .rules) (s .bodies) i)) (readRows (λ i. i) (n .rules)))

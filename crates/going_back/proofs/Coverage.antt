@@ -15,7 +15,7 @@ use Rattle.meaning.specs.Schema.{Schema, knownRole}
 use Rattle.meaning.specs.Register.{isUnder, farEnds}
 use Rattle.meaning.specs.Forms.{Sort, truth, collection, Form, compare, negate, connect, quantify, kind, num, cell, size, sum, combine, role, all, select, bind, variable, memberType, wellTyped, Rule}
 use Rattle.meaning.specs.Meaning.{meaning}
-use Rattle.meaning.specs.Reach.{Change, Direction, up, down, opposite, Passing, same, reversed, either, through, leftOf, rightOf, firstTruth, secondTruth, sourceOf, chosenFrom, firstTerm, secondTerm, sumSource, flooredSum, roleMoves, cellMoves, kindMoves, moves, broughtIn, selected}
+use Rattle.meaning.specs.Reach.{Change, Direction, up, down, opposite, Passing, same, reversed, either, through, leftOf, rightOf, firstTruth, secondTruth, sourceOf, chosenFrom, firstTerm, secondTerm, sumSource, flooredSum, roleMoves, cellMoves, kindMoves, moves, broughtIn, eventsSelect}
 use Rattle.meaning.proofs.Lists.{or-left, or-right, any-of, any-cases, keep-from}
 use Rattle.going_back.specs.Back.{leadsInto, throughMembers, reached, candidate}
 
@@ -125,9 +125,9 @@ module _ (c : Change) where
       let q : v ≡ 0 = omega arith in
       subst (λ z. T (reached c (r .body) 1 z (variable (s ∷ []) z) d)) q p
 
-  -- so no pair is selected whose object is no candidate
-  pub selected-candidate : (r : Rule) (s : ℕ) → T (wellTyped S (r .context ∷ []) (r .body)) → T (selected c r s) → T (candidate c r s)
-  unfolding selected candidate
+  -- so the events select no pair whose object is no candidate
+  pub selected-candidate : (r : Rule) (s : ℕ) → T (wellTyped S (r .context ∷ []) (r .body)) → T (eventsSelect c r s) → T (candidate c r s)
+  unfolding eventsSelect candidate
   selected-candidate r s w t =
       ⊎-elim (λ h. or-left (reached c (r .body) 1 0 s down) _ (body-covered r s down w h)) (λ h. or-right (reached c (r .body) 1 0 s down) _ h)
       (or-yes (moves c (r .body) (s ∷ []) down) (broughtIn c r s) (and-yes (isUnder (S .types) (c .end) s (r .context)) _ t .1))

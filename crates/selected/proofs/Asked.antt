@@ -9,7 +9,7 @@ use lib.ListN.{getD, take}
 use Rattle.meaning.specs.Schema.{under}
 use Rattle.meaning.specs.Register.{isUnder}
 use Rattle.meaning.specs.Forms.{Rule}
-use Rattle.meaning.specs.Reach.{Change, down, moves, broughtIn, selected}
+use Rattle.meaning.specs.Reach.{Change, down, moves, broughtIn, eventsSelect}
 use Rattle.rows.specs.Rows.{wordAt}
 use Rattle.tables.specs.Bodies.{wholeBody}
 use Rattle.tables.specs.Columns.{typesOf, objectRow, ruleRow}
@@ -74,20 +74,20 @@ module _ {c : Change} {n : Counts} {types objects links events trace : List ℕ}
   unfolding ruleRow
   at-end = sym (under-is ∙ under-end traced h (wordAt rules 2 rule 0))
 
-  pub not-under : inside ≡ false → false ≡ selected c r u
-  unfolding selected
+  pub not-under : inside ≡ false → false ≡ eventsSelect c r u
+  unfolding eventsSelect
   not-under e = sym (rw (at-end, e))
 
   module _ (yes : inside ≡ true) {brought : Bool} (brought-is : brought ≡ broughtIn c r u) where
-    is-selected : selected c r u ≡ (moves c (r .body) (u ∷ []) down || brought)
-    unfolding selected
+    is-selected : eventsSelect c r u ≡ (moves c (r .body) (u ∷ []) down || brought)
+    unfolding eventsSelect
     is-selected = rw (at-end, yes, brought-is)
 
-    pub was-brought : brought ≡ true → true ≡ selected c r u
+    pub was-brought : brought ≡ true → true ≡ eventsSelect c r u
     was-brought e = sym (is-selected ∙ or-second (moves c (r .body) (u ∷ []) down) e)
 
     -- the walk of the body answers
-    pub body-moved : brought ≡ false → T (wholeBody (bodyOf bodies rule) (wordAt rules 2 rule 1)) → (vars : List ℕ) → take 1 vars ≡ row ∷ [] → {moved : Bool} → moved ≡ movesAt c w (wordAt rules 2 rule 1) vars 1 2 → moved ≡ selected c r u
+    pub body-moved : brought ≡ false → T (wholeBody (bodyOf bodies rule) (wordAt rules 2 rule 1)) → (vars : List ℕ) → take 1 vars ≡ row ∷ [] → {moved : Bool} → moved ≡ movesAt c w (wordAt rules 2 rule 1) vars 1 2 → moved ≡ eventsSelect c r u
     unfolding movesAt partMoves ruleRow
     body-moved e whole vars self q =
         q
@@ -98,11 +98,11 @@ module _ {c : Change} {n : Counts} {types objects links events trace : List ℕ}
 
 pub unmarked : {c : Change} {n : Counts} {types objects links events trace : List ℕ} (traced : Traced c n types objects links events trace) (rules bodies : List ℕ) (rule : ℕ) (floored marks : List Bool) {still : Still}
     → Marked n types objects links events trace rules bodies rule floored still marks → KnownBy c rules bodies rule floored still
-    → (row : ℕ) → row < n .objects → getD marks row false ≡ false → false ≡ selected c (ruleRow rules bodies rule) (idIn objects row)
+    → (row : ℕ) → row < n .objects → getD marks row false ≡ false → false ≡ eventsSelect c (ruleRow rules bodies rule) (idIn objects row)
 unmarked {c} {objects = objects} traced rules bodies rule floored marks marked known row h off =
     let r = ruleRow rules bodies rule in
     let u = idIn objects row in
     ⊎-elim
-    (λ (yes : T (selected c r u)). absurd (false≢true (sym off ∙ marked c traced (known .floors) (known .stills) row h (so-true (candidate c r u) (selected-candidate c r u (known .typed) yes)))))
-    (λ no. sym (off-true (selected c r u) no))
-    (decide (selected c r u))
+    (λ (yes : T (eventsSelect c r u)). absurd (false≢true (sym off ∙ marked c traced (known .floors) (known .stills) row h (so-true (candidate c r u) (selected-candidate c r u (known .typed) yes)))))
+    (λ no. sym (off-true (eventsSelect c r u) no))
+    (decide (eventsSelect c r u))

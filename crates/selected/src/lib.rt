@@ -6,7 +6,7 @@ use reach::moved;
 use tables::Counts;
 ghost use mathlib.Core.Path.{_≡_};
 ghost use Prim.Native.Nat.{_<_};
-ghost use Rattle.meaning.specs.Reach.{Change, selected};
+ghost use Rattle.meaning.specs.Reach.{Change, eventsSelect};
 ghost use Rattle.tables.specs.Columns.{ruleRow};
 ghost use Rattle.quietness.specs.Quiet.{StillBy, cameInto};
 ghost use Rattle.walks.specs.Site.{idIn};
@@ -81,7 +81,7 @@ fn selected_at(
     ensures { λ r. ⌜ ((c : Change) → Traced c n (now (types .entry)) (now (objects .entry)) (now (links .entry)) (now (events .entry)) (now (trace .entry))
         → FlooredBy c (now (rules .entry)) (now (bodies .entry)) rule (now (floored .entry))
         → StillBy (c .schema) (ruleRow (now (rules .entry)) (now (bodies .entry)) rule) still
-        → r ≡ selected c (ruleRow (now (rules .entry)) (now (bodies .entry)) rule) (idIn (now (objects .entry)) row)) ⌝ }
+        → r ≡ eventsSelect c (ruleRow (now (rules .entry)) (now (bodies .entry)) rule) (idIn (now (objects .entry)) row)) ⌝ }
 {
     let context = rows::word(rules, tables::RULE_WIDTH, rule, 0);
     if !schema::under(n.types, types, register::type_of(objects, row), context) {
@@ -133,7 +133,7 @@ pub fn chosen_at(
         × (Marked n (now types) (now objects) (now links) (now events) (now trace) (now rules) (now bodies) rule (now floored) still (now marks)) × (row < n .objects) ⌝ }
     ensures { λ r. ⌜ ((c : Change) → Traced c n (now (types .entry)) (now (objects .entry)) (now (links .entry)) (now (events .entry)) (now (trace .entry))
         → KnownBy c (now (rules .entry)) (now (bodies .entry)) rule (now (floored .entry)) still
-        → r ≡ selected c (ruleRow (now (rules .entry)) (now (bodies .entry)) rule) (idIn (now (objects .entry)) row)) ⌝ }
+        → r ≡ eventsSelect c (ruleRow (now (rules .entry)) (now (bodies .entry)) rule) (idIn (now (objects .entry)) row)) ⌝ }
 {
     let at = row as usize;
     if !marks[at] {

@@ -1,6 +1,6 @@
 -- The codes of a rule's rows one after the other.
 use Prim.Native.Nat.{ℕ, zero, suc, _+_, _<_}
-use mathlib.Core.Path.{_≡_, refl, sym, ap, ap₂, _∙_}
+use mathlib.Core.Path.{_≡_, sym, ap, ap₂, _∙_}
 use mathlib.Core.Bool.{Bool, true, false, cond}
 use mathlib.Core.List.{List, [], _∷_, _++_, map, map-append, append-assoc, append-nil}
 use native.Mathlib.Nat.{zero-add, suc-add, add-suc}
@@ -11,8 +11,9 @@ use lib.Seq.{take-suc-set}
 use Rattle.meaning.specs.Lists.{keep}
 use Rattle.rows.specs.Rows.{rowsFrom, readRows}
 use Rattle.pair_list.specs.Pairs.{codeOf}
+use Rattle.selection.specs.Selected.{codesWhere}
 
-rows-snoc : {A : Type 0} (read : ℕ → A) (j n : ℕ) → rowsFrom read j (suc n) ≡ rowsFrom read j n ++ read (j + n) ∷ []
+pub rows-snoc : {A : Type 0} (read : ℕ → A) (j n : ℕ) → rowsFrom read j (suc n) ≡ rowsFrom read j n ++ read (j + n) ∷ []
 rows-snoc read j zero = ap (λ k. read k ∷ []) (omega arith)
 rows-snoc read j (suc n) = ap (λ l. read j ∷ l) (rows-snoc read (suc j) n ∙ ap (λ k. rowsFrom read (suc j) n ++ read k ∷ []) (suc-add j n ∙ sym (add-suc j n)))
 
@@ -25,11 +26,7 @@ keep-snoc p (y ∷ l) x {b} e = step (p y) (keep-snoc p l x e)
     step false rest = rest
 
 module _ (p : ℕ → Bool) (rule : ℕ) where
-  -- the codes of the rows below a row that pass the test
-  abbrev pub below : ℕ → List ℕ
-  below row = map (codeOf rule) (keep p (readRows (λ x. x) row))
-
-  below-next : (row : ℕ) {b : Bool} → p row ≡ b → below (row + 1) ≡ below row ++ map (codeOf rule) (cond b (row ∷ []) [])
+  below-next : (row : ℕ) {b : Bool} → p row ≡ b → codesWhere p (row + 1) rule ≡ codesWhere p row rule ++ map (codeOf rule) (cond b (row ∷ []) [])
   below-next row {b} e =
       ap (λ k. map (codeOf rule) (keep p (readRows (λ x. x) k))) (add-one row)
       ∙ ap (λ l. map (codeOf rule) (keep p l)) (rows-snoc (λ x. x) 0 row ∙ ap (λ k. readRows (λ x. x) row ++ k ∷ []) (zero-add row))
@@ -38,7 +35,7 @@ module _ (p : ℕ → Bool) (rule : ℕ) where
 
 -- the codes that are held: those in front, and those of the rows below a row that pass the test
 pub record Choosing (p : ℕ → Bool) (rule : ℕ) (front now : List ℕ) (count row : ℕ) : Type 0 where
-  pub held : take count now ≡ front ++ below p rule row
+  pub held : take count now ≡ front ++ codesWhere p row rule
 
 module _ {p : ℕ → Bool} {rule : ℕ} {front now : List ℕ} {count row : ℕ} (was : Choosing p rule front now count row) {now' : List ℕ} {count' : ℕ} where
   pub one-taken : true ≡ p row → count < length now → now' ≡ set now count (codeOf rule row) → count' ≡ count + 1 → Choosing p rule front now' count' (row + 1)
@@ -49,10 +46,10 @@ module _ {p : ℕ → Bool} {rule : ℕ} {front now : List ℕ} {count row : ℕ
             ∙ ap (λ k. take k (set now count (codeOf rule row))) (add-one count)
             ∙ take-suc-set now count (codeOf rule row) low
             ∙ ap (λ l. l ++ codeOf rule row ∷ []) (was .held)
-            ∙ append-assoc front (below p rule row) (codeOf rule row ∷ [])
+            ∙ append-assoc front (codesWhere p row rule) (codeOf rule row ∷ [])
             ∙ ap (λ l. front ++ l) (sym (below-next p rule row (sym e)));
       }
 
   pub one-passed : false ≡ p row → now' ≡ now → count' ≡ count → Choosing p rule front now' count' (row + 1)
   one-passed e same on =
-      record { held = ap₂ take on same ∙ was .held ∙ ap (λ l. front ++ l) (sym (below-next p rule row (sym e) ∙ append-nil (below p rule row))) }
+      record { held = ap₂ take on same ∙ was .held ∙ ap (λ l. front ++ l) (sym (below-next p rule row (sym e) ∙ append-nil (codesWhere p row rule))) }

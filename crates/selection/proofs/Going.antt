@@ -1,13 +1,16 @@
--- The touched rules one after the other: their codes follow each other, and there is room for each.
+-- Rules one after the other, all or those that are touched: their codes follow each other, and there is room for each.
 use Prim.Native.Nat.{ℕ, zero, suc, _+_, _*_, _≤_, _<_}
 use mathlib.Core.Path.{_≡_, refl, sym, ap, ap₂, subst, _∙_}
 use mathlib.Core.Bool.{Bool, true, false, cond}
 use mathlib.Core.List.{List, [], _∷_, _++_, append-assoc, append-nil, flatMap}
+use native.Mathlib.Nat.{zero-add}
+use native.Mathlib.Numerals.{add-one}
 use native.Mathlib.Omega.{arith}
 use lib.ListN.{length, getD, drop}
 use Rattle.meaning.specs.Lists.{keep}
 use Rattle.meaning.specs.Limits.{maxObjects}
 use Rattle.rows.specs.Rows.{rowsFrom, readRows}
+use Rattle.selection.proofs.Chosen.{rows-snoc}
 
 -- numbers from `low` on, ascending, and below m
 abbrev pub Spaced : ℕ → ℕ → List ℕ → Type 0
@@ -35,6 +38,18 @@ flat-append f (i ∷ l) k = ap (λ m. f i ++ m) (flat-append f l k) ∙ sym (app
 flat-one : (f : ℕ → List ℕ) (i : ℕ) → flatMap f (i ∷ []) ≡ f i
 unfolding flatMap
 flat-one f i = append-nil (f i)
+
+-- ---- every rule in turn
+
+-- with the codes of one rule more
+pub rule-on : (f : ℕ → List ℕ) (rule : ℕ) {now now' : List ℕ} → now ≡ flatMap f (readRows (λ x. x) rule) → now' ≡ now ++ f rule → now' ≡ flatMap f (readRows (λ x. x) (rule + 1))
+rule-on f rule was put =
+    put
+    ∙ ap₂ _++_ was (sym (flat-one f rule))
+    ∙ sym (flat-append f (readRows (λ x. x) rule) (rule ∷ []))
+    ∙ ap (flatMap f) (ap (λ k. readRows (λ x. x) rule ++ k ∷ []) (sym (zero-add rule)) ∙ sym (rows-snoc (λ x. x) 0 rule) ∙ ap (readRows (λ x. x)) (sym (add-one rule)))
+
+-- ---- the touched rules
 
 -- the rules that are left of all, the codes that are there, and how many rules remain
 pub record Going (m : ℕ) (all left : List ℕ) (count remaining : ℕ) : Type 0 where

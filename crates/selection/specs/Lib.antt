@@ -1,3 +1,3 @@
 -- The selection of a batch's pairs.
---   Selected   the rows at which a rule is selected, and their codes
+--   Selected   the codes of a rule's listed pairs
 pub mod Selected

@@ -1,4 +1,5 @@
 // Which pairs of a rule and an object a batch selects.
+pub mod inspection;
 mod rule;
 
 use rule::select_rule;

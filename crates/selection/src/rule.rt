@@ -20,7 +20,7 @@ ghost use Rattle.selection.specs.Selected.{ruleCodes};
 ghost use Rattle.selected.specs.Ready.{RuleReady, KnownBy, Marked};
 
 // A code at its place.
-fn put(chosen: &mut [u16], at: u32, code: u32)
+pub fn put(chosen: &mut [u16], at: u32, code: u32)
     requires { ⌜ (at < length (now chosen)) × (code < 65536) ⌝ }
     ensures { λ _. ⌜ now (chosen .exit) ≡ set (now (chosen .entry)) at code ⌝ }
 {

@@ -1,77 +1,68 @@
--- `batch_selection::selected_pairs` meets its contract.
-use Prim.Native.Nat.{ℕ}
-use mathlib.Core.Path.{ap, _∙_}
-use mathlib.Core.List.{List, [], flatMap}
+-- `batch_selection::selected_pairs` meets its contract: an inspection lists every pair, another batch those that its events select.
+use Prim.Native.Nat.{ℕ, _<_}
+use mathlib.Core.Path.{_≡_, ap, _∙_}
+use mathlib.Core.List.{List, flatMap}
+use native.Mathlib.Omega.{arith}
 use denote.Ref.{now}
-use Rattle.tables.specs.Layouts.{Sheet, sheetOf}
-use Rattle.full_search.proofs.Given.{register-fits, zeros}
-use Rattle.touched.proofs.Books.{book-given}
-use Rattle.selection.specs.Selected.{ruleCodes}
-use Rattle.batch_selection.proofs.Pairs.{held, pairs-are}
+use Rattle.batch_selection.proofs.Pairs.{held, all-of, no-event, some-event, pairs-inspected, pairs-by-events}
 use Rattle.batch_selection.proofs.selected_pairs.Statement.{statement}
 use Rattle.batch_selection.proofs.selected_pairs.Tie as tie
 
--- the function's entry, and its tables
-abbrev entry : tie.After-trace → tie.Start
+-- the function's entry
+abbrev entry : tie.After-struct-known → tie.Start
 entry c = c .before .before .before .before .before .before .before .before .before .before
 
-abbrev sheet : tie.Start → List ℕ → Sheet
-sheet s events =
-    let a = s .args in
-    sheetOf (now (a .types)) (now (a .floors)) (now (a .relationships)) (now (a .rules)) (now (a .bodies)) (now (a .objects)) (now (a .links)) events
+-- the codes that are left: by an inspection, and by events
+abbrev every : tie.After-every-pair → List ℕ
+every c = c .every-pair .last .1 .1 .1 .1 .0
 
--- the codes that are left
-abbrev left : tie.After-select → List ℕ
-left c = c .select .last .1 .1 .1 .1 .1 .1 .1 .1 .1 .1 .1 .1 .0
+abbrev chosen : tie.After-by-events → List ℕ
+chosen c = c .by-events .last .1 .1 .1 .1 .1 .1 .1 .1 .1 .1 .1 .1 .1 .0
 
-make-requires : tie.Need-make-requires
-make-requires c κs =
-    let s = entry c in
-    let ended = s .pre .1 .1 in
-    record {
-      objects-ascend = s .pre .0 .indexed .objects-ascend;
-      links-ascend = register-fits (s .args .n) (sheet s []) (s .pre .0 .given) .links-ascend;
-      objects-few = s .pre .0 .given .few-objects;
-      events-few = ended .seen .few;
-      met-low = ended .met-low;
-      losses-few = ended .losses-few;
-      losses-low = ended .losses-low;
-      empty = zeros 16675;
-    }
+-- the batch has no event, or some
+empty : (c : tie.Then1) → (entry (c .before)) .args .n .events ≡ 0
+empty c = c .if1 .taken
 
-touched-rules-requires : tie.Need-touched-rules-requires
-touched-rules-requires c κs =
-    let s = entry (c .before) in
-    (book-given (s .args .n) (sheet s []) (s .pre .0 .given), s .pre .0 .indexed .objects-ascend, s .pre .1 .1 .seen .few)
+events : (c : tie.Else1) → 0 < (entry (c .before)) .args .n .events
+events c = omega (arith, c .if1 .left)
 
-select-requires : tie.Need-select-requires
-select-requires c κs =
-    let rules = c .before .before in
-    let s = entry (rules .before .before) in
-    let (k, ended) = s .pre .1 in
-    (s .pre .0, (k, rules .before .make .ensures k (ended .seen) (ended .lost)), (_, rules .touched-rules .ensures k _ (ended .seen) (ended .schema-is)), s .pre .2)
+every-pair-requires : tie.Need-every-pair-requires
+every-pair-requires c κs =
+    let s = entry (c .before .before) in
+    (s .pre .0 .given .few-rules, s .pre .0 .given .few-objects, s .pre .2)
 
 same-length : tie.Need-same-length
-same-length c = c .before .before .select .ensures .0
+same-length c = c .before .before .every-pair .ensures .0
 
 returns : tie.Need-returns
 returns c =
-    let chose = c .before .before in
-    let rules = chose .before .before .before in
-    let s = entry (rules .before .before) in
-    let (k, ended) = s .pre .1 in
-    let a = s .args in
-    let traced = rules .before .make .ensures in
-    let bits = rules .touched-rules .ensures in
-    let codes = chose .select .ensures in (
+    let listed = c .before .before in
+    let test = listed .before .before in
+    let s = entry (test .before) in
+    let codes = listed .every-pair .ensures in (
       codes .0,
-      held k (a .n) (now (a .rules)) (now (a .bodies)) (now (a .objects)) _ _ (s .pre .0 .given .few-objects) (s .pre .0 .given .few-rules) (codes .0 ∙ s .pre .2) (codes .1)
-          (codes .2 k (traced k (ended .seen) (ended .lost)) (ended .schema-is)
-          ∙ ap (flatMap (ruleCodes k (now (a .rules)) (now (a .bodies)) (now (a .objects)) (a .n .objects))) (bits k _ (ended .seen) (ended .schema-is))),
-      λ m e.
-          pairs-are e (s .pre .0 .indexed .objects-ascend) (s .pre .0 .given .few-objects) (chose .select .result) (left chose)
-          (codes .2 m (traced m (e .seen) (e .lost)) (e .schema-is) ∙ ap (flatMap (ruleCodes m (now (a .rules)) (now (a .bodies)) (now (a .objects)) (a .n .objects))) (bits m _ (e .seen) (e .schema-is))),
+      held (s .args .n) _ (s .pre .0 .given .few-objects) (s .pre .0 .given .few-rules) (codes .0 ∙ s .pre .2) (codes .1) _ _
+          (codes .2 ∙ ap (flatMap _) (all-of (s .args .n .rules))),
+      λ k e. pairs-inspected e (s .pre .0 .indexed .objects-ascend) (s .pre .0 .given .few-objects) (listed .every-pair .result) (every listed) (no-event e (empty test)) (codes .2),
+    )
+
+by-events-requires : tie.Need-by-events-requires
+by-events-requires c κs = (entry (c .before .before)) .pre
+
+same-length-2 : tie.Need-same-length-2
+same-length-2 c = c .before .before .by-events .ensures .0
+
+returns-2 : tie.Need-returns-2
+returns-2 c =
+    let listed = c .before .before in
+    let test = listed .before .before in
+    let s = entry (test .before) in
+    let (k, ended) = s .pre .1 in
+    let codes = listed .by-events .ensures in (
+      codes .0,
+      held (s .args .n) _ (s .pre .0 .given .few-objects) (s .pre .0 .given .few-rules) (codes .0 ∙ s .pre .2) (codes .1) _ _ (codes .2 k ended),
+      λ m e. pairs-by-events e (s .pre .0 .indexed .objects-ascend) (s .pre .0 .given .few-objects) (listed .by-events .result) (chosen listed) (some-event e (events test)) (codes .2 m e),
     )
 
 pub selected-pairs-spec : {M : Type 1} → statement M
-selected-pairs-spec = tie.close (tie.spec make-requires touched-rules-requires select-requires same-length returns)
+selected-pairs-spec = tie.close (tie.spec every-pair-requires same-length returns by-events-requires same-length-2 returns-2)

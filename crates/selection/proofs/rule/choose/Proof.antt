@@ -6,13 +6,13 @@ use mathlib.Core.List.{List, _++_, append-nil}
 use native.Mathlib.Omega.{arith}
 use denote.Ref.{now}
 use lib.ListN.{length, take}
-use Rattle.meaning.specs.Reach.{Change, selected}
+use Rattle.meaning.specs.Reach.{Change, eventsSelect}
 use Rattle.tables.specs.Columns.{ruleRow}
 use Rattle.walks.specs.Site.{idIn}
 use Rattle.trace_places.specs.Traces.{Traced}
-use Rattle.selection.specs.Selected.{selectedRows}
+use Rattle.selection.specs.Selected.{ruleCodes}
 use Rattle.selected.specs.Ready.{KnownBy}
-use Rattle.selection.proofs.Chosen.{below, Choosing, one-taken, one-passed}
+use Rattle.selection.proofs.Chosen.{Choosing, one-taken, one-passed}
 use Rattle.selection.proofs.rule.choose.Statement.{statement}
 use Rattle.selection.proofs.rule.choose.Tie as tie
 
@@ -20,7 +20,7 @@ abbrev Inv-loop : tie.InvT-loop
 Inv-loop n types objects links index rules bodies spans floored events trace rule still marks at chosen₀ count₀ row₀ chosen count row =
     (row ≤ n .objects) × (count ≤ at + row) × (length chosen ≡ length chosen₀)
     × ((c : Change) → Traced c n types objects links events trace → KnownBy c rules bodies rule floored still
-    → Choosing (λ x. selected c (ruleRow rules bodies rule) (idIn objects x)) rule (take at chosen₀) chosen count row)
+    → Choosing (λ x. eventsSelect c (ruleRow rules bodies rule) (idIn objects x)) rule (take at chosen₀) chosen count row)
 
 abbrev μ-loop : tie.MeasureT-loop
 μ-loop n types objects links index rules bodies spans floored events trace rule still marks at chosen₀ count₀ row₀ chosen count row = n .objects - row
@@ -31,7 +31,7 @@ entry c = c .before .before .before .before .before .before .before .before
 
 -- the codes of the rows below one, after those that were there
 codes : Change → tie.Start Inv-loop μ-loop → ℕ → List ℕ
-codes k s row = take (s .args .at) (now (s .args .chosen)) ++ below (λ x. selected k (ruleRow (now (s .args .rules)) (now (s .args .bodies)) (s .args .rule)) (idIn (now (s .args .objects)) x)) (s .args .rule) row
+codes k s row = take (s .args .at) (now (s .args .chosen)) ++ ruleCodes k (now (s .args .rules)) (now (s .args .bodies)) (now (s .args .objects)) row (s .args .rule)
 
 loop-holds : tie.Need-loop-holds Inv-loop μ-loop
 loop-holds c = (omega arith, omega arith, refl, λ k traced known. record { held = sym (append-nil _) })
@@ -96,7 +96,7 @@ same-length : tie.Need-same-length Inv-loop μ-loop
 same-length c = c .before .before .loop .inv .2
 
 returns : tie.Need-returns Inv-loop μ-loop
-unfolding selectedRows codes
+unfolding codes
 returns c =
     let head = c .before .before in
     let s = entry head in
