@@ -1,36 +1,38 @@
 -- Each claim about the batch check's own result, from its promise and the theorems about the definitions.
-use Prim.Native.Nat.{ℕ}
+use Prim.Native.Nat.{ℕ, zero, suc}
 use mathlib.Core.Path.{_≡_, refl, sym, ap, ap₂, subst, _∙_}
 use mathlib.Core.Logic.{_↔_, ⊎-elim}
-use mathlib.Core.Bool.{not}
-use mathlib.Core.List.{List, [], _∷_, flatMap}
+use mathlib.Core.Bool.{false, not}
+use mathlib.Core.List.{List, [], flatMap}
 use mathlib.Core.Option.{Option, none, some}
 use native.Mathlib.Omega.{arith}
 use mir.Facts.{T-not}
 use lib.Dec.{T}
 use lib.ListN.{length, getElem?}
-use Rattle.meaning.specs.Lists.{_∈_, Before, firstOf, holds}
+use Rattle.meaning.specs.Lists.{isEmpty, _∈_, Before, holds}
+use Rattle.meaning.specs.Schema.{Schema}
 use Rattle.meaning.specs.Register.{Register}
 use Rattle.meaning.specs.Forms.{Book}
-use Rattle.meaning.specs.Events.{Lent, Refusal, batchRefusal}
-use Rattle.meaning.specs.Reach.{Change, Pair, pairKey, ofRule, pairSelected, selected, selectedPairs}
+use Rattle.meaning.specs.Events.{Event, Lent, Refusal, batchRefusal}
+use Rattle.meaning.specs.Reach.{Change, stepsOf, inspection, Pair, pairKey, ofRule, pairSelected, selected}
 use Rattle.meaning.specs.Answers as Meaning
 use Rattle.meaning.specs.Answers.{accepted, brokenAt, refused, refusal, pairBroken, unlessRefused, foundAnswer, firstBroken, fullCheck, checkRefusal, Outcome, outcomeOf, outcomeUnless, batchCheck}
 use Rattle.meaning.proofs.Lists.{first-of-none, decide}
 use Rattle.meaning.proofs.Theorems as Proved
-use Rattle.tables.specs.Layouts.{layouts}
-use Rattle.rows.specs.Rows.{inFront}
-use Rattle.tables.specs.Columns.{batchIn, objectRow, linkRow}
+use Rattle.tables.specs.Layouts.{Sheet, layouts, bookTables}
+use Rattle.rows.specs.Rows.{inFront, readRows}
+use Rattle.tables.specs.Columns.{bookOf, registerIn, batchIn, objectRow, linkRow, eventRow}
 use Rattle.tables.specs.Words.{objectWords, linkWords}
 use Rattle.tables.specs.Refusals.{tableRefusal}
 use Rattle.tables.specs.Answers.{answerOf}
+use Rattle.tables.specs.declared.Counts.{Counts}
 use Rattle.tables.specs.declared.Answer.the-variants.{Accepted, Broken, Refused}
 use Rattle.schema.proofs.Rows.{length-rows}
 use Rattle.events.specs.Runs.{lentBy}
 use Rattle.full.specs.Answers.{lentAnswer}
 use Rattle.pair_list.specs.Pairs.{pairWords}
-use Rattle.batch.specs.Checked.{lentOutcome, tableAfter, Left}
-use Rattle.batch_claims.specs.Claims.{Call, Promised, NotRefused, bookIn, before, end, change, listed, AsLent, ListNamesSelected, UntouchedHasNoPair, BrokenIsFirstListed, ElseAccepted, AgreesWithFullCheck, NothingPassedOver, AcceptedLeavesEnd, BrokenLeavesBefore, RefusedLeavesAll}
+use Rattle.batch.specs.Checked.{lentOutcome, tableAfter}
+use Rattle.batch_claims.specs.Claims.{Call, Promised, InspectionIsNoEvents, NotRefused, bookIn, before, end, change, listed, AsLent, ListNamesSelected, InspectionListsEveryPair, UntouchedHasNoPair, BrokenIsFirstListed, ElseAccepted, AgreesWithFullCheck, InspectionAgreesWithFullCheck, NothingPassedOver, AcceptedLeavesEnd, BrokenLeavesBefore, RefusedLeavesAll}
 
 module _ (d : Call) where
   abbrev lent : Lent
@@ -95,6 +97,15 @@ as-refused (refused number place) e = cc
 
 -- ---- the list
 
+none-read : (S : Schema) (g : Register) (read : ℕ → Event) (m : ℕ) → T (isEmpty (stepsOf S g (readRows read m))) ↔ (m ≡ 0)
+unfolding stepsOf
+none-read S g read zero = (λ t. refl, λ e. tt)
+none-read S g read (suc m) = (λ t. absurd t, λ e. absurd (omega arith))
+
+pub inspection-is-no-events : InspectionIsNoEvents
+unfolding inspection
+inspection-is-no-events d = none-read ((bookIn d) .schema) (before d) (eventRow (d .s .events)) (d .n .events)
+
 pub list-names-selected : ListNamesSelected
 list-names-selected d p unless =
     let u = unrefused d p unless in (
@@ -104,13 +115,18 @@ list-names-selected d p unless =
       Proved.list-selects (bookIn d) (lent d) (before d) (batchIn (d .n) (d .s)) (ok d u),
     )
 
+pub inspection-lists-every-pair : InspectionListsEveryPair
+inspection-lists-every-pair d p unless empty =
+    let u = unrefused d p unless in
+    Proved.inspection-lists (bookIn d) (lent d) (before d) (batchIn (d .n) (d .s)) (ok d u) empty
+
 pub untouched-has-no-pair : UntouchedHasNoPair
 unfolding ofRule
-untouched-has-no-pair d p unless n r e no-event q m same =
+untouched-has-no-pair d p unless events n r e no-event q m same =
     let u = unrefused d p unless in
     let k = bookIn d in
     let yes : T (pairSelected k (change d) q) = Proved.list-selects k (lent d) (before d) (batchIn (d .n) (d .s)) (ok d u) q .0 m in
-    let not-so = Proved.untouched k (lent d) (before d) (batchIn (d .n) (d .s)) (ok d u) n r e no-event (q .id) in
+    let not-so = Proved.untouched k (lent d) (before d) (batchIn (d .n) (d .s)) (ok d u) events n r e no-event (q .id) in
     T-not (selected (change d) r (q .id)) (subst (λ x. T (holds (λ r. selected (change d) r (q .id)) x)) (ap (getElem? (k .rules)) same ∙ e) yes) not-so
 
 -- ---- the answer
@@ -136,12 +152,20 @@ else-accepted d p unless =
       λ h. says d p u ∙ ap answerOf (turned .1 h),
     )
 
-pub agrees-with-full-check : AgreesWithFullCheck
+-- what a full check of tables answers that are not refused as tables
+full-is : (n : Counts) (s : Sheet) {k : Book} {g : Register} → bookOf n s ≡ k → registerIn n s ≡ g → tableRefusal bookTables n s false ≡ none → lentAnswer n s ≡ fullCheck k g
 unfolding lentAnswer unlessRefused
+full-is n s book register clear = rw clear (ap₂ fullCheck book register)
+
+pub agrees-with-full-check : AgreesWithFullCheck
 agrees-with-full-check d p unless good n s book register clear =
     let u = unrefused d p unless in
-    let full : lentAnswer n s ≡ fullCheck (bookIn d) (end d) = rw clear (ap₂ fullCheck book register) in
-    says d p u ∙ ap answerOf (Proved.batch-agreement (bookIn d) (lent d) (before d) (batchIn (d .n) (d .s)) (u .none-met) good ∙ sym full)
+    says d p u ∙ ap answerOf (Proved.batch-agreement (bookIn d) (lent d) (before d) (batchIn (d .n) (d .s)) (u .none-met) good ∙ sym (full-is n s book register clear))
+
+pub inspection-agrees-with-full-check : InspectionAgreesWithFullCheck
+inspection-agrees-with-full-check d p unless empty n s book register clear =
+    let u = unrefused d p unless in
+    says d p u ∙ ap answerOf (Proved.inspection-agreement (bookIn d) (lent d) (before d) (batchIn (d .n) (d .s)) (u .none-met) empty ∙ sym (full-is n s book register clear))
 
 pub nothing-passed-over : NothingPassedOver
 nothing-passed-over d p unless q broken unlisted =

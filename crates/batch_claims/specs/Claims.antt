@@ -12,8 +12,8 @@ use Rattle.meaning.specs.Lists.{_∈_, Ascending, Before}
 use Rattle.meaning.specs.Register.{Register}
 use Rattle.meaning.specs.Forms.{Rule, Book}
 use Rattle.meaning.specs.Meaning.{bookHolds}
-use Rattle.meaning.specs.Events.{Event, after}
-use Rattle.meaning.specs.Reach.{Change, changeBy, Pair, pairKey, pairSelected, selectedPairs}
+use Rattle.meaning.specs.Events.{after}
+use Rattle.meaning.specs.Reach.{Change, changeBy, inspection, Pair, pairKey, contextPairs, pairSelected, selectedPairs}
 use Rattle.meaning.specs.EventList.{touched}
 use Rattle.meaning.specs.Answers.{pairBroken}
 use Rattle.rows.specs.Rows.{inFront, padded}
@@ -67,6 +67,10 @@ change d = changeBy ((bookIn d) .schema) (before d) (batchIn (d .n) (d .s))
 abbrev pub listed : Call → List Pair
 listed d = selectedPairs (bookIn d) (change d)
 
+-- Req 08: a call is an inspection exactly when its count of events is 0
+abbrev pub InspectionIsNoEvents : Type 0
+InspectionIsNoEvents = (d : Call) → T (inspection (change d)) ↔ (d .n .events ≡ 0)
+
 abbrev pub ForEach : (Call → Type 0) → Type 0
 ForEach claim = (d : Call) → Promised d → NotRefused d → claim d
 
@@ -82,10 +86,14 @@ ListNamesSelected =
     × Ascending (Before pairKey) (listed d)
     × ((p : Pair) → (p ∈ listed d) ↔ T (pairSelected (bookIn d) (change d) p)))
 
--- "a rule none of whose listed event types occurs has no pair"
+-- Req 08: "A batch without events selects every pair of rule and object of its context type."
+abbrev pub InspectionListsEveryPair : Type 0
+InspectionListsEveryPair = ForEach (λ d. T (inspection (change d)) → listed d ≡ contextPairs (bookIn d) (before d))
+
+-- "a rule none of whose listed event types occurs has no pair"; Req 08: "only for other batches" than an inspection
 abbrev pub UntouchedHasNoPair : Type 0
 UntouchedHasNoPair =
-    ForEach (λ d. (n : ℕ) (r : Rule) → getElem? ((bookIn d) .rules) n ≡ some r → T (not (touched (change d) r)) → (p : Pair) → p ∈ listed d → p .rule ≡ n → ⊥)
+    ForEach (λ d. T (not (inspection (change d))) → (n : ℕ) (r : Rule) → getElem? ((bookIn d) .rules) n ≡ some r → T (not (touched (change d) r)) → (p : Pair) → p ∈ listed d → p .rule ≡ n → ⊥)
 
 -- ---- the answer
 
@@ -109,6 +117,15 @@ AgreesWithFullCheck =
     ForEach
     (λ d. T (bookHolds (bookIn d) (before d))
     → (n : Counts) (s : Sheet) → bookOf n s ≡ bookIn d → registerIn n s ≡ end d → tableRefusal bookTables n s false ≡ none
+    → d .r .answer ≡ answerOf (lentAnswer n s))
+
+-- Req 08: for an inspection "the agreement with the full check needs no earlier good state": of whatever tables that hold the same book and the register as it
+-- was lent, the same tables among them.
+abbrev pub InspectionAgreesWithFullCheck : Type 0
+InspectionAgreesWithFullCheck =
+    ForEach
+    (λ d. T (inspection (change d))
+    → (n : Counts) (s : Sheet) → bookOf n s ≡ bookIn d → registerIn n s ≡ before d → tableRefusal bookTables n s false ≡ none
     → d .r .answer ≡ answerOf (lentAnswer n s))
 
 -- What is passed over was broken before: a pair that is broken at the end and not listed.
