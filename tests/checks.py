@@ -37,7 +37,7 @@ def changed(lines, place, *new):
 def marked_cases():
     case('(a) as shown', 'broken 0 10; 0:10', BOOK_A + ['(set 20 0 31)'])
     case('(b) set 20 0 30', 'accepted; 0:10', BOOK_A + ['(set 20 0 30)'])
-    case('(c) no event', 'accepted;', BOOK_A)
+    case('(c) no event', 'accepted; 0:10 0:11', BOOK_A)
     case('(d) part 0 10 20', 'accepted; 0:10', BOOK_A + ['(part 0 10 20)'])
     case('(e) part, then join of that link', 'accepted; 0:10', BOOK_A + ['(part 0 10 20)', '(join 0 10 20)'])
     case('(f) insert 12 0', 'accepted; 0:12', BOOK_A + ['(insert 12 0)'])
@@ -193,6 +193,7 @@ def limits():
     case('2: 65 events', 'refused 2 67', events)
     sizes = ['(type 0 - 1)'] + [f'(rule {n} 0 (ge (size (all 0)) (num %d)))' % (129 * (n == 7)) for n in range(8)] + [f'(ent {n} 0 0)' for n in range(65408, 65536)]
     case('14 is not met: every pair of 8 rules and 128 objects', 'broken 7 1; 1024 pairs', sizes + ['(delete 65408)', '(insert 1 0)'])
+    case('14 is not met: an inspection of 8 rules and 128 objects', 'broken 7 65408; 1024 pairs', sizes)
     case('2 before 3: a faulty type and 33 types', 'refused 2 33', changed(types, 0, '(type 0 - 9)'))
 
 
@@ -483,6 +484,38 @@ def specials():
     case('from the context to a type below', 'accepted;', below + ['(special 12 3)'])
 
 
+# ---------------------------------------------------------------- request 08
+
+# A rule of every drive, one of servo drives, one of cabinets and one of a type without objects; servo drive 22 is too heavy for the second, and cabinet 11 is bare.
+LOOKED = ['(type 0 - 1)', '(type 1 - 1)', '(type 2 1 2)', '(type 3 - 0)', '(rel 0 0 1)', '(rule 0 1 (ge (cell 0 0) (num 0)))', '(rule 1 2 (le (cell 0 1) (num 5)))',
+          '(rule 2 0 (exists (role 0 0) (kind 1 1)))', '(rule 3 3 (eq (num 1) (num 2)))', '(ent 10 0 30)', '(ent 11 0 30)', '(ent 20 1 25)', '(ent 21 2 25 5)', '(ent 22 2 25 6)', '(link 0 10 20)']
+
+
+def inspections():
+    """A batch without events looks at every rule and object of its context type; any other looks at what its events reach, whatever was broken before."""
+    bad = changed(BOOK_A, 5, '(ent 11 0 -1)')
+    quiet, never = changed(BOOK_A, 3, QUIET), changed(BOOK_A, 3, '(rule 0 0 (eq (num 1) (num 2)))')
+    case('an inspection finds what was broken before', 'broken 0 11; 0:10 0:11', bad)
+    case('an inspection of four rules, objects below a context, and a context without objects', 'broken 1 22; 0:20 0:21 0:22 1:21 1:22 2:10 2:11', LOOKED)
+    case('the same, the servo drive lighter: a later rule is broken', 'broken 2 11; 0:20 0:21 0:22 1:21 1:22 2:10 2:11', changed(LOOKED, 13, '(ent 22 2 25 5)'))
+    case('the same without the bare cabinet', 'accepted; 0:20 0:21 0:22 1:21 1:22 2:10', LOOKED[:10] + LOOKED[11:13] + ['(ent 22 2 25 5)', '(link 0 10 20)'])
+    case('an inspection of a quiet rule', 'accepted; 0:10 0:11', quiet)
+    case('an inspection of a quiet rule, broken before', 'broken 0 10; 0:10 0:11', changed(quiet, 4, '(ent 10 0 20)'))
+    case('an inspection of a rule that lists its context alone', 'broken 0 10; 0:10 0:11', never)
+    case('no other batch looks at it, but by an insert', 'accepted;', never + ['(set 20 0 31)', '(part 0 10 20)', '(delete 11)'])
+    case('an inspection without rules', 'accepted;', BOOK[:3] + REGISTER)
+    case('an inspection of types and objects alone', 'accepted;', objects(3))
+    case('an inspection of ids far apart', 'broken 0 65546; 0:10 0:65546 0:2147483647',
+         BOOK + ['(ent 10 0 30)', '(ent 20 1 25)', '(ent 65546 0 20)', '(ent 2147483647 0 24)', '(link 0 10 20)', '(link 0 65546 20)', '(link 0 2147483647 20)'])
+    case('no inspection: a set to the value that is there', 'accepted; 0:10', bad + ['(set 20 0 25)'])
+    case('no inspection: an object inserted and deleted again', 'accepted;', bad + ['(insert 12 0)', '(delete 12)'])
+    case('no inspection: a link joined and parted again', 'broken 0 11; 0:11', bad + ['(join 0 11 20)', '(part 0 11 20)'])
+    case('no inspection: a link parted and joined again', 'accepted; 0:10', bad + ['(part 0 10 20)', '(join 0 10 20)'])
+    case('no inspection: an event that no rule reads', 'accepted;', LOOKED + ['(set 10 0 31)'])
+    case('no inspection: an insert into the context without objects', 'broken 3 30; 3:30', LOOKED + ['(insert 30 3)'])
+    case('no inspection: a special and a general back', 'accepted;', LOOKED + ['(special 20 2)', '(general 20 1)'])
+
+
 def short_texts():
     """The texts of refusals.py."""
     for name, answer, lines in refusals.CASES:
@@ -509,7 +542,7 @@ def blocks():
     """Of each case its line, the lines of its block, and its text."""
     CASES.clear()
     for make in (marked_cases, guesses, malformed_lines, limits, faulty_schemas, faulty_rules, faulty_registers, faulty_events, linked_objects, events_on_the_way, short_texts, constraints, floor_lines,
-                 below_floors, specials):
+                 below_floors, specials, inspections):
         make()
     return CASES
 

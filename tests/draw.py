@@ -6,6 +6,8 @@
     draw.py BOOKS BATCHES floors    others, whose books have floors; most rules are such that the floors make their event list shorter
     draw.py BOOKS BATCHES specials    others, whose rules are mostly quiet by roles of self, of which some start at the context type and some above it;
                                       most batches have specials, and objects made general and special again
+    draw.py BOOKS BATCHES inspections    others, some with floors, some with specials, some with far ids: in each register some rule is broken, and the first
+                                         batch has no event; the events of the further ones leave the register as it was
 
 Parks are small, so that coincidences happen: the same link parted and joined, an id deleted with its links and inserted again. Most rules are
 drawn until they hold, since a batch check promises most from a good register.
@@ -389,6 +391,21 @@ class Batches:
                 self.do('join', *link)
         return True
 
+    def same_value(self):
+        """A cell set to what it is."""
+        places = [(i, k, self.now.objects[i][1][k]) for i, t in self.typed() for k in range(self.book.cells(t))]
+        return bool(places) and self.do('set', *self.draw.choice(places))
+
+    def in_and_out(self):
+        """An object inserted, with a link perhaps, and deleted."""
+        if not self.insert():
+            return False
+        i = self.events[-1][1]
+        if self.draw.random() < 0.5:
+            own = [link for link in possible_links(self.book, self.now) if i in link[1:]]
+            own and self.do('join', *self.draw.choice(own))
+        return self.do('delete', i)
+
     def join_and_delete(self):
         """A link joined, and then one of its ends deleted."""
         return self.join() and self.do('delete', self.draw.choice(self.events[-1][2:]))
@@ -490,8 +507,36 @@ def drawn(number, batches, near=True, floored=False, specials=False):
         yield ([f'+{name}.{k}'] if k else base) + events
 
 
+def still(draw, book, register):
+    """Events that leave a register as it was."""
+    while True:
+        batches = Batches(draw, book, register)
+        for _ in range(draw.randint(1, 2)):
+            draw.choice([batches.same_value, batches.link_and_back, batches.type_and_back, batches.in_and_out])()
+        if batches.events and (batches.now.objects, batches.now.links) == (register.objects, register.links):
+            return batches.events
+
+
+def inspected(number, batches):
+    """A book and a register in which some rule is broken, without events; and batches whose end is the start, which are no inspections."""
+    draw, floored, specials, show = Draw(number + 30000), number % 3 == 1, number % 3 == 2, far if number % 4 == 3 else lambda line: line
+    book = schema_with_specials(draw) if specials else schema(draw)
+    book.floors = floors(draw, book) if floored else []
+    register = park(draw, book)
+    while plain.full_check(book, register) is None:
+        book.rules.clear()
+        add_rules(draw, book, register, specials)
+    yield [f'inspections {number}'] + [spelled(line if line[0] in ('type', 'floor', 'rel', 'rule') else show(line)) for line in lines(book, register)]
+    for k in range(1, batches):
+        yield [f'+inspections {number}.{k}'] + [spelled(show(event)) for event in still(draw, book, register)]
+
+
 if __name__ == '__main__':
     books, batches = int(sys.argv[1]), int(sys.argv[2])
     for number in range(books):
+        if 'inspections' in sys.argv:
+            for block in inspected(number, batches):
+                print('\n'.join(block) + '\n')
+            continue
         for block in drawn(number, batches, near='far' not in sys.argv, floored='floors' in sys.argv, specials='specials' in sys.argv):
             print('\n'.join(block) + '\n')

@@ -1,10 +1,10 @@
 #!/usr/bin/env python3
 """Puts one fault after the other into a copy of plain.py or whole.py, and counts the cases that notice it.
 
-    faults.py FILE        of plain.py, by the blocks of FILE
-    faults.py checks      of whole.py, by the texts of checks.py
+    faults.py FILE [WORD]        of plain.py, by the blocks of FILE
+    faults.py checks [WORD]      of whole.py, by the texts of checks.py
 
-Ends with an error if some fault is noticed by none.
+With a word, only the faults that have it in their names. Ends with an error if some fault is noticed by none.
 """
 import os
 import sys
@@ -21,6 +21,14 @@ LISTED = 'quiet(body, book.roles_from(context))'
 # Whether a body names a role of self that starts at the context type, or one that starts higher.
 NAMED_OWN = "any(str(('role', 0, r)) in str(body) for r in self.book.roles_from(context))"
 NAMED_OTHER = "any(str(('role', 0, r)) in str(body) for r in self.book.roles() - self.book.roles_from(context))"
+
+# The pieces of request 08: when a batch is an inspection, and what it selects.
+EMPTY = 'self.empty = not events'
+INSPECTED = 'if self.empty:'
+FIRST = 'first = next((pair for pair in pairs if broken(book, self.batch.end, *pair)), None)'
+PAIRS = 'return [(r, s) for r in range(len(self.book.rules)) for s in sorted(self.end.objects) if self.selected(r, s)]'
+SHORT = 'if 2 * len(pairs) > LIST_WORDS:'
+STILL = '(self.end.objects, self.end.links) == (self.start.objects, self.start.links)'
 
 
 def within(variable):
@@ -172,8 +180,7 @@ FAULTS = [
      "return inserted or special or (false and not (self.brought('special', s, context) and quiet(body, self.book.roles_from(context))))"),
     ('a join of a link that was there before the batch is no gain', 'such(link) and link in self.end.links', 'such(link) and link in self.end.links and link not in self.start.links'),
     ('special t is listed where the context has no parent', 'else self.parented(5, context)', 'else {(5, context, 0)}'),
-    ('the full check in place of the listed pairs', 'first = next((pair for pair in pairs if broken(book, self.batch.end, *pair)), None)',
-     'first = full_check(book, self.batch.end)'),
+    ('the full check in place of the listed pairs', FIRST, 'first = full_check(book, self.batch.end)'),
     ('the list ends at the first broken pair', "        self.answer = ('accepted',)", "        self.pairs = [p for p in pairs if first is None or p <= first]\n        self.answer = ('accepted',)"),
     ('everything is listed', 'if self.selected(r, s)]', 'if self.there(s, self.book.rules[r][0])]'),
     ('a broken batch leaves the register after it', '        if first is None:\n            self.left', '        if True:\n            self.left'),
@@ -213,6 +220,42 @@ FAULTS = [
     ('a cell at 0 is below its floor', 'any(cells[k] < 0 for k', 'any(cells[k] <= 0 for k'),
     ('13 is met with a row left', 'len(rows[event[0]][0]) >= rows[event[0]][1]', 'len(rows[event[0]][0]) >= rows[event[0]][1] - 1'),
     ('12 looks at sources only', '(b, book.relationships[r][1])):', '):'),
+    ('an inspection lists nothing', EMPTY, 'self.empty = False'),
+    ('an inspection leaves out rules that list their context alone', INSPECTED, 'if self.empty and set(EventList(self.book, rule).types) - {(0, context, 0), (5, context, 0)}:'),
+    ('an inspection leaves out quiet rules', INSPECTED, 'if self.empty and not quiet(body, self.book.roles()):'),
+    ('an inspection leaves out rules that are quiet by roles of the context type', INSPECTED, f'if self.empty and {SELECTED}:'),
+    ('an inspection lists objects of exactly the context type', INSPECTED, 'if self.empty and self.end.type_of(s) == context:'),
+    ('an inspection lists objects of the context type and right below', INSPECTED, 'if self.empty and context in (self.end.type_of(s), self.book.types[self.end.type_of(s)][0]):'),
+    ('an inspection lists objects of any type', 'if not self.there(s, context):', 'if not self.there(s, context) and not self.empty:'),
+    ('an inspection lists broken pairs only', INSPECTED, 'if self.empty and broken(self.book, self.end, rule, s):'),
+    ('an inspection lists the first rule only', INSPECTED, 'if self.empty and rule == 0:'),
+    ('an inspection lists the first object of each rule only', INSPECTED, 'if self.empty and s == min(i for i in self.end.objects if self.there(i, context)):'),
+    ('an inspection lists rules only up to the first that is broken', INSPECTED, 'if self.empty and not any(broken(self.book, self.end, r, i) for r in range(rule) for i in self.end.objects):'),
+    ('an inspection lists by ids before rules', PAIRS, f'return sorted({PAIRS[7:]}, key=lambda pair: pair[::-1] if self.empty else pair)'),
+    ('an inspection is always accepted', FIRST, FIRST.replace('if broken', 'if not self.batch.empty and broken')),
+    ('an inspection answers the last broken pair', FIRST, FIRST.replace('in pairs if', 'in pairs[::-1 if self.batch.empty else 1] if')),
+    ('an inspection answers the lowest broken id', FIRST, FIRST.replace('in pairs if', 'in sorted(pairs, key=lambda pair: pair[::-1] if self.batch.empty else pair) if')),
+    ('an inspection leaves unused rows as they were', "free = 0 if checked.answer[0] == 'accepted' else", "free = 0 if checked.answer[0] == 'accepted' and not checked.batch.empty else"),
+    ('an inspection takes a register below a floor', 'register.copy(), register_refusal(book, register)', 'register.copy(), register_refusal(book, register) if events else None'),
+    ('an inspection does not meet 14', SHORT, 'if 2 * len(pairs) > LIST_WORDS and not self.batch.empty:'),
+    ('an inspection meets 14 with words enough', SHORT, 'if 2 * len(pairs) > LIST_WORDS - 1 * self.batch.empty:'),
+    ('an inspection meets 14 by all its rules and objects', SHORT, 'if 2 * max(len(pairs), len(book.rules) * len(register.objects) * self.batch.empty) > LIST_WORDS:'),
+    ('an inspection meets 14 only where all holds', SHORT, 'if 2 * len(pairs) > LIST_WORDS and not (self.batch.empty and full_check(book, register)):'),
+    ('an inspection meets 14 before 5', '        if self.batch.refused is not None:\n',
+     "        if self.batch.empty and 2 * len(self.batch.pairs()) > LIST_WORDS:\n            self.answer = ('refused', 14, 0)\n            return\n        if self.batch.refused is not None:\n"),
+    ('one event is an inspection', EMPTY, 'self.empty = len(events) < 2'),
+    ('any batch from a register with a broken rule is an inspection', INSPECTED, 'if self.empty or full_check(self.book, self.start):'),
+    ('a batch whose end is its start is an inspection', INSPECTED, f'if {STILL}:'),
+    ('a set to the value that is there is an inspection', INSPECTED, f'if self.empty or {STILL} and self.sets and not (self.changes or self.joined or self.parted):'),
+    ('an object inserted and deleted again is an inspection', INSPECTED, f'if self.empty or {STILL} and self.changes and not (self.sets or self.joined or self.parted):'),
+    ('a link joined and parted again is an inspection', INSPECTED, f'if self.empty or {STILL} and self.joined and not (self.sets or self.changes):'),
+    ('a batch that leaves the links as they were, and objects of the same types, is an inspection', INSPECTED,
+     'if self.end.links == self.start.links and {i: t for i, (t, _) in self.end.objects.items()} == {i: t for i, (t, _) in self.start.objects.items()}:'),
+    ('a batch that touches no rule is an inspection', INSPECTED,
+     'if self.empty or not any(self.occurring() & set(EventList(self.book, r).types) for r in range(len(self.book.rules))):'),
+    ('a batch that selects nothing is an inspection', 'if self.selected(r, s)]',
+     'if self.selected(r, s)] or [(r, s) for r in range(len(self.book.rules)) for s in sorted(self.end.objects) if self.there(s, self.book.rules[r][0])]'),
+    ('each rule that a batch does not touch has its inspection', INSPECTED, 'if not self.occurring() & set(EventList(self.book, rule).types):'),
     ('13 before 9', 'if not known(book, event):\n        return 7', 'if not known(book, event):\n        return 7\n    if kind == "insert" and full(register, event):\n        return 13'),
 ]
 
@@ -275,6 +318,12 @@ TEXT_FAULTS = [
     ('an end may be of any type', 'i in register.objects and book.under(register.type_of(i), end)', 'i in register.objects'),
     ('5 before 4', 'refused = first(3,', "refused = first(5, len(rows['ent']), lambda n: faulty_object(book, rows['ent'], n)) or first(3,"),
     ('the register has a row too few', "plain.OBJECT_ROWS, plain.LINK_ROWS, plain.LIST_WORDS = ROOM['ent'], ROOM['link']", "plain.OBJECT_ROWS, plain.LINK_ROWS, plain.LIST_WORDS = ROOM['ent'] - 1, ROOM['link']"),
+    ('a text without events is not looked at: no inspection', "    checked = plain.Checked(book, register, text.rows['event'])\n",
+     "    if not text.rows['event']:\n        return ('accepted',), []\n    checked = plain.Checked(book, register, text.rows['event'])\n"),
+    ('a text without events has the full check for its inspection, and no list', '    return checked.answer, checked.pairs', "    return checked.answer, checked.pairs if text.rows['event'] else []"),
+    ('a text of one event is an inspection', "text.rows['event'])\n    return", "text.rows['event'][1:] and text.rows['event'])\n    return"),
+    ('a text whose events leave the register as it was is an inspection', '    return checked.answer, checked.pairs',
+     "    end = checked.batch.end\n    if checked.answer[0] != 'refused' and (end.objects, end.links) == (register.objects, register.links):\n        checked = plain.Checked(book, register, [])\n    return checked.answer, checked.pairs"),
     ('the links have a row more', "plain.OBJECT_ROWS, plain.LINK_ROWS, plain.LIST_WORDS = ROOM['ent'], ROOM['link']", "plain.OBJECT_ROWS, plain.LINK_ROWS, plain.LIST_WORDS = ROOM['ent'], ROOM['link'] + 1"),
 ]
 
@@ -295,7 +344,7 @@ def printed(source, text):
             yield failure
 
 
-def by_blocks(name):
+def by_blocks(name, word):
     """The faults of plain.py, and how many cases of a file notice each."""
     source = open(os.path.join(HERE, 'plain.py')).read()
     # Faults may look at the register before the batch and before the event.
@@ -303,7 +352,7 @@ def by_blocks(name):
     source = source.replace('        apply(self.book, self.end, event)', '        self.old = self.end.copy()\n        apply(self.book, self.end, event)', 1)
     text = open(name).read()
     good = list(printed(source, text))
-    for label, old, new in FAULTS:
+    for label, old, new in (fault for fault in FAULTS if word in fault[0]):
         assert source.count(old) == 1, f'{label}: {source.count(old)} places'
         yield label, sum(a != b for a, b in zip(good, printed(source.replace(old, new), text)))
 
@@ -318,18 +367,18 @@ def outcomes(source, texts):
             yield failure
 
 
-def by_texts():
+def by_texts(word):
     """The faults of whole.py, and how many texts notice each."""
     source, texts = open(os.path.join(HERE, 'whole.py')).read(), [text for _, _, text in checks.blocks()]
     good = list(outcomes(source, texts))
-    for label, old, new in TEXT_FAULTS:
+    for label, old, new in (fault for fault in TEXT_FAULTS if word in fault[0]):
         assert source.count(old) == 1, f'{label}: {source.count(old)} places'
         yield label, sum(a != b for a, b in zip(good, outcomes(source.replace(old, new), texts)))
 
 
 def main():
-    counts = []
-    for label, count in by_texts() if sys.argv[1] == 'checks' else by_blocks(sys.argv[1]):
+    counts, word = [], sys.argv[2] if len(sys.argv) > 2 else ''
+    for label, count in by_texts(word) if sys.argv[1] == 'checks' else by_blocks(sys.argv[1], word):
         counts.append(count)
         print(f'{count:6} {label}', flush=True)
     print(f'{len(counts)} faults, {counts.count(0)} noticed by none')

@@ -4,7 +4,7 @@ limits, and compares what it prints with the plain reading.
 
     park.py PROGRAM [EVERY]        every case, or every so manieth of the drawn ones
 
-What `after` prints is read back as the text of the next visit, whose events are the next case's.
+What `after` prints is read back as the text of an inspection, and with the next case's events as that of the next visit.
 """
 import pathlib
 import random
@@ -78,10 +78,19 @@ class Count:
         if got.startswith('answer '):
             return
         self.visits += 1
-        self.compare(name + ' again', 'after', got, got)
+        wanted = expected(got)  # without events: what is left is inspected, and is broken where the visit did not look
+        for word in ('check', 'after'):
+            self.compare(name + ' inspected', word, got, wanted[word])
+        self.inspection(name, wanted)
         following = got + ended(more)
         for word, what in expected(following).items():
             self.compare(name + ' and then', word, following, what)
+
+    def inspection(self, name, wanted):
+        """The answer of a batch without events is the full check's; so it is by the plain reading too, which is compared here."""
+        if wanted['check'].splitlines()[0] + '\n' != wanted['full']:
+            self.wrong += 1
+            print(f'{name}: the plain reading of an inspection is not its full check')
 
     def refusal(self, name, text, answers):
         """The answer line of each word; None: what the plain reading says."""
@@ -173,6 +182,12 @@ def every_pair(count):
     pairs = [f'pair {r} {i}' for r in range(32) for i in [*range(1, 1024), 2147483647]]
     text = ended(['(type 0 - 0)', '(type 1 0 0)'] + rules + objects + ['(insert 2147483647 1)'])
     count.compare('every pair', 'check', text, ended(['answer accepted'] + pairs))
+    inspected = ended(['(type 0 - 0)', '(type 1 0 0)'] + rules + objects + ['(ent 2147483647 1)'])
+    count.compare('every pair inspected', 'check', inspected, ended(['answer accepted'] + pairs))
+    broken = inspected.replace('(rule 31 0 (le (size (all 1)) (num 5)))', '(rule 31 0 (le (size (all 1)) (num 0)))')
+    count.compare('every pair inspected, the last rule broken', 'check', broken, ended(['answer broken 31 1'] + pairs))
+    count.compare('the same, what is left', 'after', broken, ended(['answer broken 31 1'] + pairs))
+    count.compare('the same, a special and a general back: no inspection', 'check', broken + '(special 1 1)\n(general 1 0)\n', 'answer accepted\n')
 
 
 def main():
@@ -184,6 +199,7 @@ def main():
         count.case(name, text, lines(next_text if next_name.startswith('+') else text, True))
     for seed in range(3):
         for most in (9, 20):
+            count.case(f'a thousand objects, {seed}, at most {most}, inspected', ended(lines(park(random.Random(seed), most)[0], False)), [])
             count.case(f'a thousand objects, {seed}, at most {most}', *park(random.Random(seed), most))
     refusals(count)
     every_pair(count)

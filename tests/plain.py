@@ -1,5 +1,5 @@
 #!/usr/bin/env python3
-"""A plain reading of document 01, with requests 01, 02, 06 and 07 of document 02: what each block of a file of cases has to print.
+"""A plain reading of document 01, with requests 01, 02, 06, 07 and 08 of document 02: what each block of a file of cases has to print.
 
     plain.py FILE        the expected output of crates/test_batch for the blocks of FILE
 
@@ -341,6 +341,7 @@ class Batch(Reach):
 
     def __init__(self, book, register, events):
         self.book, self.end, self.refused = book, register.copy(), register_refusal(book, register)
+        self.empty = not events  # by the events themselves: a batch that leaves all as it was is not empty
         self.sets, self.joined, self.parted = set(), set(), set()
         self.taken = set()  # (a link that a delete took along, the object deleted)
         self.changes = []  # (kind, id, the types it brought the object into, the types it took it out of)
@@ -419,6 +420,8 @@ class Batch(Reach):
         context, body = self.book.rules[rule]
         if not self.there(s, context):
             return False
+        if self.empty:  # request 08: "A batch without events selects every pair of rule and object of its context type."
+            return True
         false = self.moves(body, [s])[1]
         inserted = self.brought('insert', s, context) and not quiet(body, self.book.roles())
         special = self.brought('special', s, context) and not quiet(body, self.book.roles_from(context))

@@ -4,7 +4,8 @@
     stats.py FILE
 
 From a register where every rule holds, the batch check answers as a full check of the register after the batch; and a rule none of whose
-listed event types occurs has no pair. A name may end in what is to come, found by hand: `=> answer; pairs`, or `=> list` and the event list of
+listed event types occurs has no pair. Of a batch without events (request 08) neither is asked, but that its list is every pair of a rule and an object of its
+context type, and its answer the full check's, whatever held before. A name may end in what is to come, found by hand: `=> answer; pairs`, or `=> list` and the event list of
 rule 0, or `=> lists` and that of each rule, parted by ` |`. A case that is otherwise is written, and the program ends with an error.
 """
 import collections
@@ -25,13 +26,24 @@ def depth(f):
     return 1 + max([depth(part) for part in f if isinstance(part, tuple)], default=0)
 
 
-def claims(book, register, checked):
+def every_pair(book, register):
+    """Each rule with each object of its context type or a type below, rules and then ids ascending."""
+    return [(r, s) for r, (context, _) in enumerate(book.rules) for s, (t, _) in sorted(register.objects.items()) if context in book.above(t)]
+
+
+def claims(book, register, events, checked):
     """The names of the claims that a case breaks."""
     end, rules = checked.batch.end, {rule for rule, _ in checked.pairs}
-    if checked.answer[0] != 'refused' and plain.full_check(book, register) is None:
+    if checked.answer[0] != 'refused' and (not events or plain.full_check(book, register) is None):
         full = plain.full_check(book, end)
         if checked.answer != (('accepted',) if full is None else ('broken', *full)):
             yield 'the full check'
+    if not events:
+        pairs = every_pair(book, register)
+        refused = plain.register_refusal(book, register) or ((14, 0) if 2 * len(pairs) > plain.LIST_WORDS else None)
+        if (checked.pairs, checked.answer[0] == 'refused') != ([] if refused else pairs, refused is not None):
+            yield 'an inspection'
+        return
     occurring = checked.batch.occurring()
     if any(not occurring & set(plain.EventList(book, rule).types) for rule in rules):
         yield 'the event list'
@@ -106,7 +118,27 @@ def count_specials(count, book, checked):
     count['pairs not spared by request 06, since the body may turn false, broken'] += sum(plain.broken(book, batch.end, *pair) for pair in spared & listed)
 
 
+def count_inspections(count, book, register, events, checked):
+    """Batches without events, and those that might be taken for one."""
+    held, what = plain.full_check(book, register) is None, ' '.join(str(part) for part in checked.answer[:2 if checked.answer[0] == 'refused' else 1])
+    if not events:
+        count['inspection: ' + what] += 1
+        count['inspection: pairs listed'] += len(checked.pairs)
+        exact = {(r, s) for r, s in checked.pairs if book.rules[r][0] == register.type_of(s)}
+        count['inspection: pairs of an object below the context type'] += len(checked.pairs) - len(exact)
+        count['inspection: pairs of a quiet rule'] += sum(plain.quiet(book.rules[r][1], book.roles()) for r, _ in checked.pairs)
+        count['inspection: pairs that are broken'] += sum(plain.broken(book, register, *pair) for pair in checked.pairs)
+        return
+    end = checked.batch.end
+    same = checked.answer[0] != 'refused' and (end.objects, end.links) == (register.objects, register.links)
+    count['no inspection: the register as it was'] += same
+    count['no inspection: the register as it was, some rule broken'] += same and not held
+    count['no inspection: the register as it was, some rule broken, accepted'] += same and not held and checked.answer == ('accepted',)
+    count['no inspection: one event and no pair, some rule broken'] += len(events) == 1 and not held and checked.answer[0] != 'refused' and checked.pairs == []
+
+
 def count_case(count, book, register, events, checked):
+    count_inspections(count, book, register, events, checked)
     kind = checked.answer[0]
     count['answer ' + (kind if kind != 'refused' else 'refused %d' % checked.answer[1])] += 1
     if checked.answer[:2] == ('refused', 15):
@@ -145,7 +177,7 @@ def main():
             count_book(count, book)
         count_case(count, book, register, events, checked)
         count['cases whose outcome was found by hand'] += '=>' in name
-        wrong = list(claims(book, register, checked)) + ([] if by_hand(name, book, checked) else ['its name'])
+        wrong = list(claims(book, register, events, checked)) + ([] if by_hand(name, book, checked) else ['its name'])
         for claim in wrong:
             faults += 1
             print(f'not as {claim} says: {plain.show(name, checked)}')

@@ -1,4 +1,4 @@
-"""A plain reading of document 01, with requests 01, 02, 06 and 07, from a text to what the program `check` prints: its limits, refusals 1 to 5,
+"""A plain reading of document 01, with requests 01, 02, 06, 07 and 08, from a text to what the program `check` prints: its limits, refusals 1 to 5,
 and then the plain batch check.
 
 Nothing is shared with the reader under test: a line is matched against patterns, and each check looks through whole lists.
