@@ -21,7 +21,7 @@ use visits::{Event, Visit};
 
 // Two sizes of the park, with the rows lent in proportion.
 const SIZES: [(&[usize], (usize, usize)); 2] = [(&visits::SMALL, (256, 1024)), (&visits::LARGE, (1024, 4096))];
-const LIST_WORDS: usize = 8192;
+const LIST_WORDS: usize = 65_536; // for every pair that there can be
 const DRAWN: u32 = 10_000;
 
 // Lent tables with a batch's scratch and list, and the register to start from.
@@ -145,6 +145,34 @@ fn agree_on_drawn() {
         })
         .collect();
     tell("drawn books, registers and batches", &found);
+}
+
+// Every drawn register inspected: in most of them some rule is broken. Where it is not refused, the answer is a plain full check's and the list every pair.
+fn agree_on_inspections() {
+    let mut apart = 0;
+    let mut inspected = |seed: u32| {
+        let park = drawn::book(seed);
+        let all = 2 * all_pairs(&park);
+        // some lists are just long enough or a word too short, some registers faulty
+        let words = if seed % 16 == 0 { all } else { 512 };
+        let words = if seed % 16 == 2 { all.saturating_sub(1) } else { words };
+        let park = if seed % 16 == 1 { drawn::damaged(park, seed) } else { park };
+        let found = compared(&Case { park: &park, room: drawn::ROOM, events: &[], words });
+        let (answer, short) = (found.0.answer, seed % 16 == 2 && all > 0);
+        apart += usize::from(match answer {
+            Answer::Refused(14, 0) => !short,
+            Answer::Refused(5, _) => seed % 16 != 1,
+            _ => short || answer != full_answer(&park) || found.0.pairs.len() != all_pairs(&park),
+        });
+        found
+    };
+    let found: Vec<_> = (1..=DRAWN).map(&mut inspected).collect();
+    tell("drawn registers inspected", &found);
+    println!("  other than the full check, every pair, or a refusal that is due: {apart}");
+}
+
+fn full_answer(p: &Park) -> Answer {
+    Plain::new(p).full_check(p).map_or(Answer::Accepted, |(rule, id)| Answer::Broken(rule, id))
 }
 
 fn agree_on_visits(parks: &[Park], visits: &[Visit]) {
@@ -298,6 +326,58 @@ fn beside_full(cases: &[Timed]) {
     }
 }
 
+// The parks as a visit leaves them that breaks a rule, whatever a check would say of it.
+fn broken_parks(parks: &[Park], visit: &Visit) -> Vec<Park> {
+    let after = |p: &Park| Park { rules: p.rules.clone(), ..visit.events.iter().fold(literal::copy(p), |now, e| literal::done(&now, *e)) };
+    parks.iter().map(after).collect()
+}
+
+// The bodies that a search over all pairs evaluates: up to the first that is broken.
+fn searched(left: &Left) -> usize {
+    match left.answer {
+        Answer::Broken(rule, id) => 1 + left.pairs.iter().position(|p| *p == (rule, id)).unwrap(),
+        _ => left.pairs.len(),
+    }
+}
+
+// Inspections: the batch check without events beside the full check of the same tables, and the plain checks of both kinds. Both evaluate the same bodies;
+// an inspection writes the list of all pairs besides.
+fn inspections(cases: &[Timed]) {
+    let tables: Vec<Tables> = cases.iter().map(|c| park::tables(c.park)).collect();
+    let mut groups: Vec<Vec<Call>> = vec![];
+    for (c, t) in cases.iter().zip(&tables) {
+        groups.push(vec![c.restore(), c.proved(), call(|| full_check(t)), c.built(), c.kept(), call(|| Plain::new(c.park).full_check(c.park))]);
+    }
+    let figures = rounds(&mut groups);
+    print!("\n{HEAD}  pairs  bodies, inspection  bodies, full  inspection (us)  full (us)  plain, lists built (us)  plain, lists kept (us)");
+    println!("  plain full (us)  inspection / full  inspection / built  inspection / kept");
+    for (c, f) in cases.iter().zip(&figures) {
+        let left = by_library(&Case { park: c.park, room: SIZES[1].1, events: &c.visit.events, words: LIST_WORDS });
+        assert_eq!(left.answer, full_answer(c.park), "{}", c.visit.name);
+        let bodies = searched(&left);
+        let [batch, built] = [1, 3].map(|i| median(f, |r| r[i] - r[0]));
+        let [full, kept, plain] = [2, 4, 5].map(|i| median(f, |r| r[i]));
+        let [to_full, to_kept] = [2, 4].map(|i| median(f, |r| (r[1] - r[0]) / r[i]));
+        let to_built = median(f, |r| (r[1] - r[0]) / (r[3] - r[0]));
+        print!("{}  {:5}  {bodies:18}  {:12}  {batch:15.1}  {full:9.1}  {built:23.1}  {kept:22.1}", c.name(), c.pairs, evaluated(c.park));
+        println!("  {plain:15.1}  {to_full:17.2}  {to_built:18.2}  {to_kept:17.2}");
+    }
+}
+
+// The bodies that a full check evaluates.
+fn evaluated(p: &Park) -> usize {
+    let (plain, mut count) = (Plain::new(p), 0);
+    for (context, body) in &p.rules {
+        for x in (0..plain.ids.len()).filter(|x| plain.under(plain.kinds[*x], *context)) {
+            count += 1;
+            if !plain.truth(body, &mut vec![x]) {
+                return count;
+            }
+        }
+    }
+    count
+}
+
 #[cfg(sqlite)]
 fn beside_sqlite(cases: &[Timed], broken: &[Timed]) {
     println!("\nSQLite {}, in memory, {} views", sqlite::version(), cases[0].park.rules.len());
@@ -408,6 +488,7 @@ fn main() {
     }
     let kinds = [visits::accepted(), visits::broken(), visits::refused()];
     agree_on_drawn();
+    agree_on_inspections();
     for visits in &kinds {
         agree_on_visits(&parks, visits);
     }
@@ -423,12 +504,21 @@ fn main() {
     for parks in &servos {
         agree_on_visits(parks, &specials);
     }
+    // the parks as they are, and with a rule broken that stands early in the book and one that stands late
+    let good = SIZES.iter().map(|(sections, _)| visits::wind_park(sections)).collect();
+    let names = ["inspection, all holds", "inspection, currents above the rating", "inspection, a blade without charge"];
+    let registers: [Vec<Park>; 3] = [good, broken_parks(&parks, &kinds[1][0]), broken_parks(&parks, &kinds[1][2])];
+    let inspected = names.map(|name| [visits::inspection(name)]);
+    for (parks, visit) in registers.iter().zip(&inspected) {
+        agree_on_visits(parks, visit);
+    }
     let [accepted, broken, refused] = kinds.each_ref().map(|visits| timed(&parks, visits));
     beside_plain(&accepted);
     beside_plain(&broken);
     beside_plain(&refused);
     by_ids(&accepted, &timed(&far_parks, &far_visits));
     beside_full(&accepted);
+    inspections(&registers.iter().zip(&inspected).flat_map(|(parks, visit)| timed(parks, visit)).collect::<Vec<_>>());
     beside_sqlite(&accepted, &broken);
     by_parts(&accepted);
     by_parts(&timed(&parks.iter().map(without_all).collect::<Vec<_>>(), &kinds[0]));

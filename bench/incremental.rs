@@ -880,8 +880,7 @@ impl Lists {
         let candidates = &mut sets[0];
         if everything {
             candidates.clear();
-            let types = (0..book.above.len()).filter(|n| book.above[*n] >> t & 1 == 1);
-            candidates.extend(types.flat_map(|n| &self.of_type[n]));
+            candidates.extend(self.every(book, rule));
         } else {
             candidates.extend(self.touched.iter().copied().filter(|x| self.brought(rule, *x)));
             candidates.sort_unstable();
@@ -891,6 +890,12 @@ impl Lists {
         let mut ids: Vec<u32> = candidates.iter().filter(|x| chosen(x)).map(|x| self.at(*x).id).collect();
         ids.sort_unstable();
         ids
+    }
+
+    // The objects of a rule's context type, in no order.
+    fn every<'a>(&'a self, book: &'a Book, rule: &'a Rule) -> impl Iterator<Item = Slot> + 'a {
+        let types = (0..book.above.len()).filter(|n| book.above[*n] >> rule.context & 1 == 1);
+        types.flat_map(|n| self.of_type[n].iter().copied())
     }
 
     // whether the batch brought an object into a rule's context, so that the rule has to be looked at there
@@ -911,6 +916,18 @@ impl Lists {
         self.pairs = pairs;
     }
 
+    // A visit without events is an inspection: every rule at every object of its context type, with nothing to go back from and nothing to ask of the events.
+    fn inspect(&mut self, book: &Book) {
+        let mut pairs = std::mem::take(&mut self.pairs);
+        pairs.clear();
+        for (n, rule) in book.rules.iter().enumerate() {
+            let start = pairs.len();
+            pairs.extend(self.every(book, rule).map(|x| (n as u32, self.at(x).id)));
+            pairs[start..].sort_unstable();
+        }
+        self.pairs = pairs;
+    }
+
     fn first_broken(&self, book: &Book) -> Option<(u32, u32)> {
         let holds = |p: &(u32, u32)| self.truth(book, &book.rules[p.0 as usize].body, &mut vec![self.slot(p.1).unwrap()]);
         self.pairs.iter().copied().find(|p| !holds(p))
@@ -923,8 +940,12 @@ impl Lists {
                 return Answer::Refused(number, place as u32);
             }
         }
-        self.end(book);
-        self.select_all(book);
+        if events.is_empty() {
+            self.inspect(book);
+        } else {
+            self.end(book);
+            self.select_all(book);
+        }
         if 2 * self.pairs.len() > list_words {
             return Answer::Refused(14, 0);
         }

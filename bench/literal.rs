@@ -239,7 +239,8 @@ impl Story<'_> {
         let id = self.end.ids[row];
         let inserted = || self.brought(&[0], id, context) && !quiet(body, &every_role(self.book));
         let special = || self.brought(&[5], id, context) && !quiet(body, &roles_from(self.book, context));
-        in_type(self.last(), id, context) && (self.moves(body, false, &mut vec![row]) || inserted() || special())
+        // without events it is an inspection, which looks at everything
+        in_type(self.last(), id, context) && (self.events.is_empty() || self.moves(body, false, &mut vec![row]) || inserted() || special())
     }
 }
 

@@ -396,6 +396,11 @@ fn ending(name: &'static str, last: Event) -> Visit {
     Visit { name, events }
 }
 
+// A visit without events, which looks at everything.
+pub fn inspection(name: &'static str) -> Visit {
+    Visit { name, events: vec![] }
+}
+
 pub fn broken() -> Vec<Visit> {
     let n = Numbers::drawn();
     let at = |part| n.part(SMALL[1], 6, part);

@@ -172,6 +172,13 @@ def reading(case, text=None, refusal=None, rows=None):
     return [2, len(text), *text, *sizes, *answer, *tables]
 
 
+def inspections(make):
+    """A case without events, with a list of the words that all its pairs need, of one less, and of none."""
+    case = make()
+    needed = 2 * sum(case.book.under(t, context) for context, _ in case.book.rules for t, _ in case.register.objects.values())
+    yield from (make(list_words=words) for words in sorted({needed, max(needed - 1, 0), 0}))
+
+
 # ---------------------------------------------------------------- damaged
 
 EVERY = ['check', 'full', 'run', 'batch', 'write']
@@ -325,6 +332,13 @@ def largest(last, cells=2):
     return Case(largest_book(cells), register, events, LARGEST, 65536)
 
 
+def every_pair(list_words, most=31):
+    """An inspection of 32 rules at 1,024 objects each: the longest list that there is. The last rule holds or not."""
+    case = largest(('set', 1, 0, 5))
+    case.book.rules = [(0, ('le', ('cell', 0, 0), ('num', most if r == 31 else 31))) for r in range(32)]
+    return Case(case.book, case.register, [], LARGEST, list_words)
+
+
 def long_text(size):
     """A case whose text has so many bytes: objects of eight cells, of one to ten digits each."""
     book = plain.Book()
@@ -353,7 +367,10 @@ def marked():
     with open(os.path.join(os.path.dirname(plain.__file__), 'marked.txt')) as file:
         blocks = file.read().strip('\n').split('\n\n')
     rows = {**LARGEST, **{name: SMALL[name] for name in ('objects', 'links', 'events')}}
-    yield from from_blocks([block.split('\n') for block in blocks], rows=rows)
+    for case in from_blocks([block.split('\n') for block in blocks], rows=rows):
+        yield case
+        if not case.events:
+            yield from inspections(lambda **lent: Case(case.book, case.register, [], rows=rows, **lent))
 
 
 def of_book(number, floored):
@@ -367,9 +384,15 @@ def of_book(number, floored):
         yield short.file_words()
     small = lambda: next(from_blocks(draw.drawn(number, 1, floored=floored)))
     case = small()
+    unvisited = lambda **lent: Case(case.book, case.register, [], **lent)
+    yield from (other.file_words() for other in inspections(unvisited))
     kept = 'check' not in case.refused
     if kept and all(count > 1 for name, count in case.used.items() if name != 'floors'):
         yield from (case.file_words() for case in damaged_tables(small, damages()))
+    if kept and number % 6 == 0 and all(count > 1 for name, count in case.used.items() if name not in ('floors', 'events')):
+        # without events too, what is refused of the tables comes before 14
+        of_tables = [damage for damage in damages() if damage[0] != 7]
+        yield from (other.file_words() for other in damaged_tables(lambda: unvisited(list_words=0), of_tables))
     if kept and case.used['floors'] > 1:
         yield from (case.file_words() for case in damaged_tables(small, floor_damages(case)))
 
@@ -380,12 +403,14 @@ def all_cases():
         yield from of_book(number, False)
         yield from (case.file_words() for case in from_blocks(draw.drawn(number, 2, near=False)))
         yield from (case.file_words() for case in from_blocks(draw.drawn(number, 5, specials=True)))
+        yield from (case.file_words() for case in from_blocks(draw.inspected(number, 2)))
         yield from of_book(number, True)
     for cells in (2, 8):
         yield largest(('set', 1, 0, 5), cells).file_words()
         yield largest(('set', 1 + 64 * 33, 0, 500), cells).file_words()
         yield largest(('insert', 2, 0), cells).file_words()
     yield largest(('set', 1, 0, -1), 8).file_words()
+    yield from (every_pair(*how).file_words() for how in ((65536,), (65535,), (65536, 30)))
     yield reading(long_text(65536))
     yield reading(long_text(65537), refusal=(2, 0))
 

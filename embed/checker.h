@@ -132,6 +132,8 @@ void checker_run(
  *   accepted  objects and links are the register after the batch, unused rows 0; the list has every pair that was looked at
  *   broken    objects and links are as they were; the list is whole all the same
  *   refused   objects, links and list are as they were; no pair is listed
+ * Without events it is an inspection: every rule at every object of its type is looked at and listed, whatever held before, so the answer is
+ * the full check's; with fewer words than that needs it is refused by 14.
  * Words past the listed pairs keep what they held. Nothing is known of the scratch afterwards; each is as long as its table or longer. */
 void checker_batch(
     uint32_t types_used, uint32_t floors_used, uint32_t relationships_used, uint32_t rules_used,

@@ -201,7 +201,8 @@ impl Park {
         if coded == 0 { Ok(()) } else { Err(Refusal { number: (coded >> 32) as u32, place: coded as u32 }) }
     }
 
-    /// The batch check. An accepted batch is in the register afterwards; a broken or refused one leaves it as it was.
+    /// The batch check. An accepted batch is in the register afterwards; a broken or refused one leaves it as it was. No event at all is an inspection: every
+    /// rule at every object of its type, so the answer is that of `full`.
     pub fn check(&mut self, events: &[Event]) -> Answer {
         let rows: Vec<u32> = events.iter().flat_map(words).collect();
         let mut answer = [0; 6];

@@ -113,6 +113,18 @@ fn visit(t: &mut Tally, lent: &mut Park, plain: &Plain, room: Room, rows: &[[u32
     after
 }
 
+// A visit without events. Unless the list is too short for every pair, its answer is the full check's and its list all of them, whatever is broken; the park stays.
+fn inspection(t: &mut Tally, lent: &mut Park, plain: &Plain, room: Room) {
+    let of = plain::Plain::new(plain);
+    let every: usize = plain.rules.iter().map(|(context, _)| of.kinds.iter().filter(|kind| of.under(**kind, *context)).count()).sum();
+    let full = lent.full();
+    visit(t, lent, plain, room, &[]);
+    let (answer, listed) = (lent.check(&[]), lent.pairs().count());
+    let expected = if every > room.pairs { (Answer::Refused { number: 14, place: 0 }, 0) } else { (full, every) };
+    t.agree("an inspection", (answer, listed) == expected);
+    same_park(t, lent, plain);
+}
+
 fn spelled(rows: &[[u32; 4]]) -> String {
     let line = |[kind, x, y, z]: &[u32; 4]| match kind {
         0 => format!("(insert {x} {y})\n"),
@@ -145,7 +157,7 @@ fn damaged_register(t: &mut Tally, lent: &mut Park, plain: Plain, seed: u32) -> 
     }
 }
 
-// Three visits one after the other to each drawn park, so that the counts have to stay in step with the tables.
+// Three visits one after the other to each drawn park, each with an inspection after it, so that the counts have to stay in step with the tables.
 fn drawn_parks() -> Tally {
     let mut t = Tally::default();
     for seed in 1..=DRAWN {
@@ -164,6 +176,7 @@ fn drawn_parks() -> Tally {
         for n in 1..=3 {
             let rows = drawn::batch(&plain, seed + n * 1_000_000);
             plain = visit(&mut t, &mut lent, &plain, room, &rows);
+            inspection(&mut t, &mut lent, &plain, room);
         }
     }
     t
@@ -176,12 +189,21 @@ fn largest() -> Tally {
         let plain = visits::wind_park(sections);
         let (mut empty, _) = Park::read_into(lent::book_text(&plain).as_bytes(), room).expect("a book");
         empty.set_register(&lent::objects(&plain), &lent::links(&plain)).expect("a register");
+        inspection(&mut t, &mut empty.clone(), &plain, room);
+        for v in visits::broken() {
+            // what a visit would leave that breaks a rule
+            let after = v.events.iter().fold(literal::copy(&plain), |now, row| literal::done(&now, *row));
+            let (mut lent, after) = (empty.clone(), Plain { rules: plain.rules.clone(), ..after });
+            lent.set_register(&lent::objects(&after), &lent::links(&after)).expect("a register");
+            inspection(&mut t, &mut lent, &after, room);
+        }
         for v in visits::accepted().iter().chain(&visits::broken()).chain(&visits::refused()) {
             visit(&mut t, &mut empty.clone(), &plain, room, &v.events);
         }
     }
     let plain = park::park(1024, 4096, 7);
     let full = lent::park(&plain);
+    inspection(&mut t, &mut full.clone(), &plain, Room::LARGEST);
     let (r, a, b) = plain.links[0];
     let (part, join) = ([4, r, a, b], [3, r, a, b]);
     // an insert without a row, a row freed and used again, and one that is not freed; deletes that free rows of both tables
