@@ -1,7 +1,7 @@
 -- What is known at the end of a batch that is not refused: its tables are as no refusal leaves them, and its events select no pair of the rules that they do not touch.
 use Prim.Native.Nat.{ℕ, _≤_}
 use mathlib.Core.Path.{_≡_, refl, sym, ap, subst, _∙_}
-use mathlib.Core.Bool.{Bool, true, false, not}
+use mathlib.Core.Bool.{false, not}
 use mathlib.Core.List.{List, []}
 use mathlib.Core.Option.{none}
 use native.Mathlib.Omega.{arith}
@@ -13,6 +13,7 @@ use Rattle.meaning.specs.Forms.{Book}
 use Rattle.meaning.specs.Events.{batchRefusal}
 use Rattle.meaning.specs.Reach.{Change, changeBy, eventsSelect}
 use Rattle.meaning.specs.Answers.{refusal}
+use Rattle.meaning.proofs.Lists.{so-false}
 use Rattle.meaning.proofs.Registers.{RegisterFits}
 use Rattle.meaning.proofs.Agreement.{checked}
 use Rattle.meaning.proofs.Theorems.{after-not-refused, untouched-by-events}
@@ -28,10 +29,6 @@ use Rattle.lent_run.specs.Lent.{scratchShort}
 use Rattle.trace.proofs.Runs.{seen, met-low, lost-by}
 use Rattle.batch_selection.specs.Ended.{Ended}
 use Rattle.batch.proofs.Outcomes.{Unrefused, batch-same}
-
-off : (b : Bool) → T (not b) → b ≡ false
-off true h = absurd h
-off false h = refl
 
 -- the counts with other rows of objects and links
 abbrev pub countsWith : Counts → ℕ → ℕ → Counts
@@ -108,6 +105,6 @@ module _ (n : Counts) (s : Sheet) (scratchObjects scratchLinks : List ℕ) (word
         lost = lost-by (countsWith n m l) (s .types) objects links (s .events) met lost losses left fits taken few-types refl refl (known .1 .few-events);
         untouched = λ i h e id.
             let r = ruleRow (s .rules) (s .bodies) i in
-            off (eventsSelect c r id)
+            so-false (eventsSelect c r id)
             (untouched-by-events k (lentBy (s .objects) (s .links) words) g (batchIn n s) (u .contents, u .events) i r (row-there (ruleRow (s .rules) (s .bodies)) (n .rules) i h) (subst (λ b. T (not b)) (sym e) tt) id);
       }

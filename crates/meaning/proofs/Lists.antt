@@ -45,6 +45,10 @@ pub not-sub : (a b : Bool) → (T a → T b) → T (not b) → T (not a)
 not-sub a b h n = not-T a (λ t. T-not b (h t) n)
 
 -- which of the two a test is
+pub so-false : (b : Bool) → T (not b) → b ≡ false
+so-false true h = absurd h
+so-false false h = refl
+
 pub decide : (b : Bool) → T b ⊎ T (not b)
 decide true = inl tt
 decide false = inr tt

@@ -11,17 +11,13 @@ use native.Mathlib.Omega.{arith}
 use lib.Dec.{T, ltb}
 use mir.Facts.{ltb-yes, ltb-no}
 use Rattle.meaning.specs.Lists.{any, keep, first, holds, faultFrom, firstFault}
-use Rattle.meaning.proofs.Lists.{decide}
+use Rattle.meaning.proofs.Lists.{so-false, decide}
 use Rattle.rows.specs.Rows.{rowsFrom, readRows}
 use Rattle.schema.proofs.Scan.{Passed, passed-none, passed-more, passed-found, passed-all}
 
 T-true : (b : Bool) → T b → b ≡ true
 T-true true t = refl
 T-true false t = absurd t
-
-T-false : (b : Bool) → T (not b) → b ≡ false
-T-false true t = absurd t
-T-false false t = refl
 
 -- a row is judged by itself
 abbrev pub alone : {A : Type 0} → (A → Bool) → ℕ → Option A → A → Bool
@@ -34,7 +30,7 @@ module _ {A : Type 0} (hit : A → Bool) (read : ℕ → A) where
 
   module _ (n : ℕ) where
     pub missed-one : {i : ℕ} → Passed (alone hit) read n i → i < n → T (not (hit (read i))) → Passed (alone hit) read n (i + 1)
-    missed-one {i} p h t = passed-more (alone hit) read n p h (T-false (hit (read i)) t)
+    missed-one {i} p h t = passed-more (alone hit) read n p h (so-false (hit (read i)) t)
 
     -- rows that do not pass the test are passed over
     missed-on : (i d : ℕ) → Passed (alone hit) read n i → i + d ≤ n → ((j : ℕ) → i ≤ j → j < n → T (not (hit (read j)))) → Passed (alone hit) read n (i + d)

@@ -19,7 +19,7 @@ use Rattle.walks.specs.Site.{Site, siteOf, idIn}
 use Rattle.trace_places.specs.Traces.{Traced}
 use Rattle.reach.specs.Moves.{partMoves, movesAt}
 use Rattle.reach.proofs.Leaves.{under-end}
-use Rattle.meaning.proofs.Lists.{decide}
+use Rattle.meaning.proofs.Lists.{so-false, decide}
 use Rattle.going_back.specs.Back.{candidate}
 use Rattle.row_sets.proofs.Tests.{so-true}
 use Rattle.going_back.proofs.Coverage.{selected-candidate}
@@ -42,10 +42,6 @@ or-second false e = e
 or-none : (a : Bool) {b : Bool} → b ≡ false → (a || b) ≡ a
 or-none true e = refl
 or-none false e = e
-
-off-true : (b : Bool) → T (not b) → b ≡ false
-off-true true h = absurd h
-off-true false h = refl
 
 -- what is asked only where it is not still
 pub unless-still : (still : Bool) {a b : Bool} → a ≡ b → (not still && (true && a)) ≡ (b && not still)
@@ -104,5 +100,5 @@ unmarked {c} {objects = objects} traced rules bodies rule floored marks marked k
     let u = idIn objects row in
     ⊎-elim
     (λ (yes : T (eventsSelect c r u)). absurd (false≢true (sym off ∙ marked c traced (known .floors) (known .stills) row h (so-true (candidate c r u) (selected-candidate c r u (known .typed) yes)))))
-    (λ no. sym (off-true (eventsSelect c r u) no))
+    (λ no. sym (so-false (eventsSelect c r u) no))
     (decide (eventsSelect c r u))

@@ -5,6 +5,7 @@ use mathlib.Core.Bool.{Bool, true, false, not, cond, false≢true}
 use mathlib.Core.List.{List, [], _∷_, _++_, map, map-append, flatMap}
 use native.Mathlib.Numerals.{add-one}
 use native.Mathlib.Omega.{arith}
+use mir.Facts.{not-T}
 use lib.Dec.{T}
 use lib.ListN.{getElem?}
 use Rattle.meaning.specs.Lists.{keep, holds}
@@ -13,6 +14,7 @@ use Rattle.meaning.specs.Schema.{ObjectType, under}
 use Rattle.meaning.specs.Register.{isUnder, instances}
 use Rattle.meaning.specs.Forms.{Rule, Book}
 use Rattle.meaning.specs.Reach.{Change, eventsSelect, inspection, selected, Pair, pairOf, pairsFrom, contextPairs, ofRule, pairSelected, selectedPairs}
+use Rattle.meaning.proofs.Lists.{so-false}
 use Rattle.meaning.proofs.Touched.{inspection-selects, others-select}
 use Rattle.meaning.proofs.Pairs.{selected-under}
 use Rattle.rows.specs.Rows.{rowsFrom, readRows}
@@ -63,10 +65,6 @@ keep-append p (x ∷ l) k = step (p x) (keep-append p l k)
     step true rest = ap (λ m. x ∷ m) rest
     step false rest = rest
 
-not-so : (b : Bool) → (T b → ⊥) → b ≡ false
-not-so true h = absurd (h tt)
-not-so false h = refl
-
 -- ---- a rule's codes
 
 -- a code's rule and row
@@ -88,7 +86,7 @@ module _ (c : Change) (objects : List ℕ) (m : ℕ) (links : List ℕ) (n : ℕ
 
   -- a row whose object is not under the context type is not chosen
   off : (row : ℕ) → row < m → under types ((objectRow objects row) .type) (r .context) ≡ false → chosen row ≡ false
-  off row h e = not-so (chosen row) (λ t. subst T (at-end row h ∙ e) (selected-under c r (idIn objects row) t))
+  off row h e = so-false (chosen row) (not-T (chosen row) (λ t. subst T (at-end row h ∙ e) (selected-under c r (idIn objects row) t)))
 
   pair-of : (row : ℕ) → row < m → pairAt objects (codeOf i row) ≡ pairOf i (idIn objects row)
   pair-of row h = ap₂ (λ a b. pairOf a (idIn objects b)) (code-rule i row (omega arith)) (code-row i row (omega arith))
