@@ -135,7 +135,7 @@ pub fn set_below(
         (record { types = typesOf «type_count» (now (types .entry)); floors = floorsOf «floor_count» (now (floors .entry)); relationships = rs })
         (objectsWith count (now (objects .entry)) ls) id cell (signed word)) ⌝ }
 {
-    if !number::is_negative(word) {
+    if !signed::is_negative(word) {
         return false;
     }
     match register::object_row(count, objects, id) {

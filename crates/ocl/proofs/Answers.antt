@@ -17,7 +17,7 @@ use Rattle.meaning.proofs.Integers.{natAbs-add}
 use Rattle.rows.specs.Rows.{signed}
 use Rattle.tables.specs.Bodies.{BodyRow, asCollection, asTruth}
 use Rattle.tables.specs.Columns.{objectRow}
-use Rattle.number.specs.Comparing.{comparisonOf}
+use Rattle.signed.specs.Comparing.{comparisonOf}
 use Rattle.walks.specs.Site.{Site, typesAt, registerAt, rowsAt, formAt, codeAt, idIn, idsOf}
 use Rattle.operators.specs.Operators.{connectiveOf, quantifierOf, arithmeticOf, stopping}
 use Rattle.walks.specs.Values.{truthOf, numberOf, membersOf, cellIn, weightOf}

@@ -4,7 +4,7 @@ use mathlib.Core.Path.{_≡_, refl, subst}
 use mathlib.Core.Option.{some}
 use native.Mathlib.Omega.{arith}
 use Rattle.tables.specs.Codes.{Operator, comparing, connecting, quantifying, combining, operators, operatorOf}
-use Rattle.number.specs.Comparing.{comparisonOf}
+use Rattle.signed.specs.Comparing.{comparisonOf}
 use Rattle.operators.specs.Operators.{connectiveOf, quantifierOf, arithmeticOf}
 
 pub comparing-at : (k : ℕ) → k < 6 → operatorOf k ≡ some (comparing (comparisonOf k))

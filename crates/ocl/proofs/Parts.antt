@@ -22,7 +22,7 @@ use Rattle.rows.specs.Rows.{signed}
 use Rattle.tables.specs.Codes.{Operator, comparing, negating, connecting, quantifying, kindOf, literal, cellOf, sizeOf, sumOf, combining, roleOf, allOf, selecting, operators, operatorOf, shapeOf}
 use Rattle.tables.specs.Bodies.{BodyRow, Part, asTruth, asNumber, asCollection, formOf, reads, ending}
 use Rattle.tables.proofs.Readings.{sound-pos}
-use Rattle.number.specs.Comparing.{comparisonOf}
+use Rattle.signed.specs.Comparing.{comparisonOf}
 use Rattle.walks.specs.Site.{Site, typesAt, registerAt, rowsAt, formAt, codeAt, idIn, idsOf}
 use Rattle.operators.specs.Operators.{connectiveOf, quantifierOf, arithmeticOf}
 use Rattle.walks.specs.Values.{truthOf, numberOf, membersOf}

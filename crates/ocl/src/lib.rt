@@ -92,7 +92,7 @@ fn comparison(
     let left = value(n, types, objects, links, index, bodies, spans, vs, first);
     let second = Place(rule, row, depth);
     let right = value(n, types, objects, links, index, bodies, spans, vs, second);
-    number::compare(code, left, right)
+    signed::compare(code, left, right)
 }
 
 // A connective of two truths; the second is not looked at where the first decides.
@@ -200,7 +200,7 @@ pub fn value(
     let code = field(bodies, rule, row, 0);
     let x = field(bodies, rule, row, 1);
     if code == 14 {
-        return number::from_word(x);
+        return signed::from_word(x);
     }
     if code == 15 {
         let object = variable(vs, x);
@@ -242,9 +242,9 @@ fn combination(
     let second = Place(rule, row, depth);
     let right = value(n, types, objects, links, index, bodies, spans, vs, second);
     if code == 18 {
-        number::add(left, right)
+        signed::add(left, right)
     } else {
-        number::subtract(left, right)
+        signed::subtract(left, right)
     }
 }
 
@@ -282,7 +282,7 @@ fn totalled(
         let Step::At(object, on) = step else {
             return total;
         };
-        total = number::add(total, weight(objects, code, cell, object));
+        total = signed::add(total, weight(objects, code, cell, object));
         word = on;
     }
 }

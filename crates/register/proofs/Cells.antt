@@ -21,7 +21,7 @@ use Rattle.meaning.proofs.Lists.{decide, cond-yes}
 use Rattle.rows.specs.Rows.{wordAt, rowsFrom, readRows, signed}
 use Rattle.rows.proofs.Words.{signed-fits}
 use Rattle.tables.specs.Columns.{objectRow}
-use Rattle.number.proofs.Signed.{signed-low, signed-high}
+use Rattle.signed.proofs.Signed.{signed-low, signed-high}
 use Rattle.schema.proofs.Rows.{length-rows, row-used}
 use Rattle.register.specs.Tables.{cellWord}
 

@@ -22,7 +22,7 @@ fn cell_below(
     ensures { λ r. ⌜ r ≡ (negative (getD ((objectRow (now (objects .entry)) row) .cells) cell (pos 0))
         && floored (typesOf «type_count» (now (types .entry))) (floorsOf «floor_count» (now (floors .entry))) t cell) ⌝ }
 {
-    if number::is_negative(columns::cell_of(objects, row, cell)) {
+    if signed::is_negative(columns::cell_of(objects, row, cell)) {
         schema::floors::floored(type_count, types, floor_count, floors, t, cell)
     } else {
         false

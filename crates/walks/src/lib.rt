@@ -34,7 +34,7 @@ pub fn start_of(starts: &[u32; 65], row: u32) -> u32
 pub fn cell_value(objects: &[u32], row: u32, cell: u32) -> i64
     ensures { λ r. ⌜ r ≡ cellIn (now (objects .entry)) row cell ⌝ }
 {
-    number::from_word(register::cell_of(objects, row, cell))
+    signed::from_word(register::cell_of(objects, row, cell))
 }
 
 // What a member adds to a size, or to a sum of cells.

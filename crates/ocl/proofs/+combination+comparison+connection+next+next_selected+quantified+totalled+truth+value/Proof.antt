@@ -54,10 +54,10 @@ use Rattle.ocl.proofs.value.Reads as value
 use Rattle.ocl.proofs.value.Kinds as value-kinds
 use Rattle.ocl.proofs.+combination+comparison+connection+next+next_selected+quantified+totalled+truth+value.Lts-value as value-lts
 use Rattle.body_rows.proofs.body.field.Reads as field-reads
-use Rattle.number.proofs.add.Reads as add-reads
-use Rattle.number.proofs.compare.Reads as compare-reads
-use Rattle.number.proofs.from_word.Reads as from-word-reads
-use Rattle.number.proofs.subtract.Reads as subtract-reads
+use Rattle.signed.proofs.add.Reads as add-reads
+use Rattle.signed.proofs.compare.Reads as compare-reads
+use Rattle.signed.proofs.from_word.Reads as from-word-reads
+use Rattle.signed.proofs.subtract.Reads as subtract-reads
 use Rattle.ocl.proofs.begin.Reads as begin-reads
 use Rattle.operators.proofs.operators.decided.Reads as decided-reads
 use Rattle.operators.proofs.operators.joined.Reads as joined-reads

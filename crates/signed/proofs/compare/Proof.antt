@@ -1,4 +1,4 @@
--- `number::compare` meets its contract.
+-- `signed::compare` meets its contract.
 use mathlib.Core.Path.{ap, sym}
 use mathlib.Core.Bool.{not}
 use mathlib.Core.List.{List, [], _∷_}
@@ -6,12 +6,12 @@ use native.Mathlib.Omega.{arith}
 use lib.ListN.{List·getD-eq-default}
 use Rattle.meaning.specs.Forms.{Comparison, le, lt, eq, ne, ge, gt}
 use Rattle.meaning.specs.Meaning.{compared}
-use Rattle.number.specs.Comparing.{comparisonOf}
-use Rattle.number.proofs.Signed.{back, equal}
-use Rattle.number.proofs.compare.Statement.{statement}
-use Rattle.number.proofs.compare.Tie as tie
-use Rattle.number.proofs.compare.Reads as reads
-use Rattle.number.proofs.compare.Lts as lts
+use Rattle.signed.specs.Comparing.{comparisonOf}
+use Rattle.signed.proofs.Signed.{back, equal}
+use Rattle.signed.proofs.compare.Statement.{statement}
+use Rattle.signed.proofs.compare.Tie as tie
+use Rattle.signed.proofs.compare.Reads as reads
+use Rattle.signed.proofs.compare.Lts as lts
 
 abbrev five : List Comparison
 five = le ∷ lt ∷ eq ∷ ne ∷ ge ∷ []

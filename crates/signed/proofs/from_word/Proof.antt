@@ -1,16 +1,16 @@
--- `number::from_word` meets its contract.
+-- `signed::from_word` meets its contract.
 use Prim.Native.Nat.{_-_, _^_}
 use mathlib.Core.Path.{ap, sym, _∙_}
 use native.Mathlib.Omega.{arith}
 use lib.IntN.{pos, negsuc, _-ℤ_}
 use mir.Syntax.{w64}
 use mir.Val.{toZ, ofZ}
-use Rattle.number.proofs.Signed.{back, small-fits, word-small, minus, signed-low, signed-high}
+use Rattle.signed.proofs.Signed.{back, small-fits, word-small, minus, signed-low, signed-high}
 use borrow.Author.Needs.{needs}
-use Rattle.number.proofs.from_word.Statement.{statement}
-use Rattle.number.proofs.from_word.Tie as tie
-use Rattle.number.proofs.from_word.Reads as reads
-use Rattle.number.proofs.from_word.Lts as lts
+use Rattle.signed.proofs.from_word.Statement.{statement}
+use Rattle.signed.proofs.from_word.Tie as tie
+use Rattle.signed.proofs.from_word.Reads as reads
+use Rattle.signed.proofs.from_word.Lts as lts
 
 cast-result : tie.Need-cast-result
 cast-result c = search needs

@@ -1,11 +1,11 @@
--- `number::subtract` meets its contract.
+-- `signed::subtract` meets its contract.
 use native.Mathlib.Omega.{arith}
-use Rattle.number.proofs.Signed.{back, small-fits}
+use Rattle.signed.proofs.Signed.{back, small-fits}
 use Rattle.meaning.proofs.Integers.{natAbs-sub}
-use Rattle.number.proofs.subtract.Statement.{statement}
-use Rattle.number.proofs.subtract.Tie as tie
-use Rattle.number.proofs.subtract.Reads as reads
-use Rattle.number.proofs.subtract.Lts as lts
+use Rattle.signed.proofs.subtract.Statement.{statement}
+use Rattle.signed.proofs.subtract.Tie as tie
+use Rattle.signed.proofs.subtract.Reads as reads
+use Rattle.signed.proofs.subtract.Lts as lts
 
 sub-result : tie.Need-sub-result
 sub-result c = rw (back (c .args .a) (c .fits .a), back (c .args .b) (c .fits .b)) (small-fits _ (omega (arith, natAbs-sub (c .args .a) (c .args .b))))

@@ -5,7 +5,7 @@ ghost use lib.IntN.{natAbs, _+ℤ_, _-ℤ_};
 ghost use Rattle.meaning.specs.Register.{negative};
 ghost use Rattle.meaning.specs.Meaning.{compared};
 ghost use Rattle.rows.specs.Rows.{signed};
-ghost use Rattle.number.specs.Comparing.{comparisonOf};
+ghost use Rattle.signed.specs.Comparing.{comparisonOf};
 
 // The value of a word, two's complement.
 pub fn from_word(w: u32) -> i64
