@@ -3,6 +3,7 @@ mod batches;
 mod lists;
 mod runs;
 mod texts;
+mod version;
 
 use tables::Counts;
 ghost use mathlib.Core.Path.{_≡_};
