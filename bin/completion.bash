@@ -8,6 +8,6 @@ _register_checker() {
         *) case $typed in -*) words='--quiet --help --version' ;; esac ;;
     esac
     mapfile -t COMPREPLY < <(compgen -W "$words" -- "$typed")
-    [ "${#COMPREPLY[@]}" -gt 0 ] || { compopt -o filenames && mapfile -t COMPREPLY < <(compgen -f -- "$typed"); }
+    [ "${#COMPREPLY[@]}" -gt 0 ] || mapfile -t COMPREPLY < <(compgen -f -- "$typed")
 }
-complete -F _register_checker check park
+complete -o filenames -F _register_checker check park
