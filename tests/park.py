@@ -13,6 +13,7 @@ import sys
 
 import plain
 import texts
+from long_texts import TYPES, ended, exactly
 
 plain.OBJECT_ROWS, plain.LINK_ROWS, plain.LIST_WORDS = 1024, 4096, 65536
 WORDS = ['check', 'full', 'events', 'after']
@@ -26,10 +27,6 @@ def program(word, text):
 def lines(text, events):
     """The lines of a text that are events, or those that are not."""
     return [line for line in text.splitlines() if (line[1:].split(' ')[0] in EVENTS) == events]
-
-
-def ended(all_lines):
-    return ''.join(line + '\n' for line in all_lines)
 
 
 def written(text, book, register):
@@ -124,20 +121,6 @@ def park(draw, most):
     return ended(book + objects + links + visit), [f'(set {i} 0 9)' for i in range(101, 130)] + ['(delete 50)', '(delete 51)', '(insert 50 0)']
 
 
-TYPES = ['(type 0 - 8)', '(type 1 - 0)', '(rel 0 1 1)']
-
-
-def exactly(size):
-    """A text of so many bytes: objects of eight cells, the last two with as many digits as are left."""
-    objects = [f'(ent {i} 0 {" ".join(["-1000000"] * 8)})' for i in range(10001, 11025)]
-    most = (size - len(ended(TYPES))) // (len(objects[0]) + 1) - 1
-    digits = size - len(ended(TYPES + objects[:most])) - 2 * len('(ent 20000 0        )\n')
-    cells = ['1' * (digits // 16 + (k < digits % 16)) for k in range(16)]
-    text = ended(TYPES + objects[:most] + [f'(ent {20000 + k // 8} 0 {" ".join(cells[k:k + 8])})' for k in (0, 8)])
-    assert len(text) == size
-    return text
-
-
 def refusals(count):
     """Texts at the limits, and what is refused of a text, a book, a register and a batch, for each word."""
     few = [f'(ent {i} 1)' for i in range(1, 1025)]
@@ -146,10 +129,10 @@ def refusals(count):
     rules = [f'(rule {i} 1 (kind 0 1))' for i in range(33)]
     floors = [f'(floor {i // 8} {i % 8})' for i in range(256)]
     every_floor = [f'(type {i} - 8)' for i in range(32)] + floors + ['(ent 1 31 1 2 3 4 5 6 7 8)']
-    count.refusal('65,536 bytes', exactly(65536), [None] * 4)
-    count.refusal('65,537 bytes', exactly(65537), ['refused 2 0'] * 4)
+    count.refusal('65,536 bytes', exactly(65536, TYPES), [None] * 4)
+    count.refusal('65,537 bytes', exactly(65537, TYPES), ['refused 2 0'] * 4)
     count.refusal('no line break at the end', ended(TYPES)[:-1], ['refused 1 3'] * 4)
-    count.refusal('a text above 65,536 bytes after the visit', exactly(61000) + ended(f'(insert {i} 0)' for i in range(30001, 30257)), [None] * 3 + ['refused 2 0'])
+    count.refusal('a text above 65,536 bytes after the visit', exactly(61000, TYPES) + ended(f'(insert {i} 0)' for i in range(30001, 30257)), [None] * 3 + ['refused 2 0'])
     count.refusal('256 floors', ended(every_floor + ['(set 1 7 0)']), [None] * 4)
     count.refusal('256 floors, a set below the last', ended(every_floor + ['(set 1 7 0)', '(set 1 7 -1)']), ['refused 15 1', None, None, 'refused 15 1'])
     count.refusal('256 floors, an object below the last', ended(every_floor[:-1] + ['(ent 1 31 1 2 3 4 5 6 7 -8)']), ['refused 5 0', 'refused 5 0', None, 'refused 5 0'])

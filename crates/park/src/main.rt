@@ -1,5 +1,4 @@
 // Reads the text of a park from standard input and prints what the first argument asks. Alone or with another word it says how to use it.
-use park_answers::Asked;
 use park_answers::words::Word;
 use park_answers::words::asked_by;
 
@@ -27,21 +26,12 @@ fn usage() {
     );
 }
 
-fn print(asked: Asked) {
-    // one byte more than the longest text, so that a longer one is seen
-    let mut text = [0u8; 65537];
-    let length = io::read_full(0, &mut text);
-    let mut out = [0u8; 1048576];
-    let printed = park_answers::print(asked, &text[..length], &mut out);
-    io::write_all(1, &out[..printed]);
-}
-
 fn main() {
     // a longer word is none of the four, and comes as no bytes
     let mut word = [0u8; 6];
     let length = os::arg(1, &mut word);
     match asked_by(&word[..length]) {
-        Word::Asks(asked) => print(asked),
+        Word::Asks(asked) => programs::park(asked, 0, 1),
         Word::Unknown => usage(),
     }
 }

@@ -1,4 +1,4 @@
--- `park::print` is safe and ends: what is printed is within the bytes lent for it.
+-- `programs::park` is safe and ends: what is printed is within the bytes lent for it.
 use Prim.Native.Nat.{ℕ, _≤_}
 use mathlib.Core.Path.{_≡_, sym, ap}
 use mathlib.Core.List.{List}
@@ -8,23 +8,8 @@ use lib.Seq.{length-take-le}
 use Rattle.rows.specs.Rows.{inFront}
 use Rattle.park_answers.specs.Prints.{parkPrints}
 use borrow.Author.Needs.{needs}
-use Rattle.park.proofs.print.Statement.{statement}
-use Rattle.park.proofs.print.Tie as tie
-
-slice-aggregate-read-full : tie.Need-slice-aggregate-read-full
-slice-aggregate-read-full c = search needs
-
-read-full-requires : tie.Need-read-full-requires
-read-full-requires c κs = search needs
-
-array-share-prefix-text : tie.Need-array-share-prefix-text
-array-share-prefix-text c = search needs
-
-slice-aggregate-print : tie.Need-slice-aggregate-print
-slice-aggregate-print c = search needs
-
-print-requires : tie.Need-print-requires
-print-requires c κs = search needs
+use Rattle.programs.proofs.park.Statement.{statement}
+use Rattle.programs.proofs.park.Tie as tie
 
 -- bytes in front are no more than there are
 within : (bytes before : List ℕ) {after : List ℕ} {size : ℕ} → after ≡ inFront bytes before → size ≡ length bytes → size ≤ length after
@@ -36,22 +21,18 @@ array-share-prefix-out c = within (parkPrints _ _) (replicate 1048576 0) (c .pri
 slice-aggregate-write-all : tie.Need-slice-aggregate-write-all
 slice-aggregate-write-all c = sym (length-take-le (c .before .print .result) (c .before .print .last .1 .1 .0) (array-share-prefix-out (c .before)))
 
-write-all-requires : tie.Need-write-all-requires
-write-all-requires c κs = search needs
-
-returns : tie.Need-returns
-returns c = search needs
-
-pub print-spec : {M : Type 1} → statement M
-print-spec =
+pub park-spec : {M : Type 1} → statement M
+park-spec =
     tie.close
     (tie.spec
-    slice-aggregate-read-full
-    read-full-requires
-    array-share-prefix-text
-    slice-aggregate-print
-    print-requires
+    (λ c. search needs)
+    (λ c κs. search needs)
+    (λ c κs. search needs)
+    (λ c. search needs)
+    (λ c. search needs)
+    (λ c. search needs)
+    (λ c κs. search needs)
     array-share-prefix-out
     slice-aggregate-write-all
-    write-all-requires
-    returns)
+    (λ c κs. search needs)
+    (λ c. search needs))
