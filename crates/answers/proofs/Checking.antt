@@ -1,6 +1,6 @@
 -- What is printed of a batch check, and of a read, by what they leave.
 use Prim.Native.Nat.{ℕ, _*_, _≤_, _<_}
-use mathlib.Core.Path.{_≡_, sym, ap, ap₂, _∙_}
+use mathlib.Core.Path.{_≡_, sym, ap, ap₂, _∙_, subst}
 use mathlib.Core.Bool.{Bool, false}
 use mathlib.Core.List.{List, []}
 use native.Mathlib.Omega.{arith}
@@ -16,7 +16,7 @@ use Rattle.reader.specs.declared.Outcome.the-variants.{Done, Refused}
 use Rattle.lent_run.specs.Lent.{scratchShort}
 use Rattle.pair_list.specs.Pairs.{pairWords}
 use Rattle.pair_list.proofs.Words.{words-length}
-use Rattle.batch.specs.Checked.{lentOutcome, Left}
+use Rattle.batch.specs.Checked.{lentOutcome, RegisterLeft, Left}
 use Rattle.batch.specs.declared.Checked.{Checked}
 use Rattle.printing.specs.Printed.{printed, meant, pairsIn}
 use Rattle.answers.specs.Checks.{Room, lentSheet, outcomePrinted, batchPrinted, readPrinted, readingPrinted, textPrints}
@@ -44,6 +44,12 @@ module _ {o : Outcome} {list list′ objects links objects′ links′ : List �
 pub lent-outcome : (n : Counts) (s : Sheet) {short : Bool} (words : ℕ) → short ≡ false → outcomePrinted (lentOutcome n s short words) ≡ batchPrinted words n s
 unfolding batchPrinted
 lent-outcome n s words p = ap (λ short. outcomePrinted (lentOutcome n s short words)) p
+
+-- the tables that a check with an equal scratch test leaves
+pub register-by :
+    {objects links objects′ links′ : List ℕ} (o : Bool → Outcome) {short other : Bool} → short ≡ other
+    → RegisterLeft (o short) objects links objects′ links′ → RegisterLeft (o other) objects links objects′ links′
+register-by {objects} {links} {objects′} {links′} o e = subst (λ b. RegisterLeft (o b) objects links objects′ links′) e
 
 -- ---- a read
 

@@ -4,10 +4,13 @@ use printing::refuse;
 use reader::Outcome;
 use tables::Counts;
 ghost use mathlib.Core.Path.{_≡_};
+ghost use mathlib.Core.Bool.{false};
 ghost use Prim.Native.Nat.{_/_, _≤_};
 ghost use lib.ListN.{length};
 ghost use Rattle.rows.specs.Rows.{inFront};
 ghost use Rattle.tables.specs.Layouts.{sheetOf};
+ghost use Rattle.pair_list.specs.Pairs.{pairWords};
+ghost use Rattle.batch.specs.Checked.{lentOutcome, RegisterLeft};
 ghost use Rattle.printing.specs.Printed.{roomFor};
 ghost use Rattle.answers.specs.Checks.{batchPrinted, checkPrints};
 
@@ -29,8 +32,10 @@ pub fn check_tables(
 ) -> usize
     requires { ⌜ (length (now objects) ≤ length (now «scratch_objects»)) × (length (now links) ≤ length (now «scratch_links»)) × (roomFor (length (now list) / 2) ≤ length (now out)) ⌝ }
     ensures { λ r. ⌜ (let s = sheetOf (now (types .entry)) (now (floors .entry)) (now (relationships .entry)) (now (rules .entry)) (now (bodies .entry)) (now (objects .entry)) (now (links .entry)) (now (events .entry)) in
+        let o = lentOutcome n s false (length (now (list .entry))) in
         let bytes = batchPrinted (length (now (list .entry))) n s in
-        (now (out .exit) ≡ inFront bytes (now (out .entry))) × (r ≡ length bytes)) ⌝ }
+        (now (out .exit) ≡ inFront bytes (now (out .entry))) × (r ≡ length bytes) × (now (list .exit) ≡ inFront (pairWords (o .pairs)) (now (list .entry)))
+        × RegisterLeft o (now (objects .entry)) (now (links .entry)) (now (objects .exit)) (now (links .exit))) ⌝ }
 {
     let checked = batch::check(
         n,

@@ -58,8 +58,7 @@ module _ (n : Counts) (s : Sheet) (scratchObjects scratchLinks list : List ℕ) 
         objects-used = objects ∙ sym (length-rows (objectRow (s .objects)) (n .objects));
         links-used = links ∙ sym (length-rows (linkRow (s .links)) (n .links));
         list-is = refl;
-        objects-are = refl;
-        links-are = refl;
+        register = record { objects-are = refl; links-are = refl };
       })
 
 -- ---- what is settled
@@ -146,12 +145,14 @@ module _ (n : Counts) (s : Sheet) (scratchObjects scratchLinks list : List ℕ) 
             ∙ kept-by (o .answer) (λ (r : Register). length (r .links)) g (c .end)
             ∙ ap (λ (r : Register). length (r .links)) (sym ends);
         list-is = judges .list-is;
-        objects-are = settles .objects-kept
-            ∙ ap (λ a. kept a (broughtBack (s .objects) objects 10 (now .objects)) (s .objects)) (judges .answer-is)
-            ∙ table-by (o .answer) (λ (r : Register). flatMap objectWords (r .objects)) g (c .end) (s .objects) objects-back
-            ∙ ap (λ (r : Register). tableAfter (o .answer) (flatMap objectWords (r .objects)) (s .objects)) (sym ends);
-        links-are = settles .links-kept
-            ∙ ap (λ a. kept a (broughtBack (s .links) links 3 (now .links)) (s .links)) (judges .answer-is)
-            ∙ table-by (o .answer) (λ (r : Register). flatMap linkWords (r .links)) g (c .end) (s .links) links-back
-            ∙ ap (λ (r : Register). tableAfter (o .answer) (flatMap linkWords (r .links)) (s .links)) (sym ends);
+        register = record {
+          objects-are = settles .objects-kept
+              ∙ ap (λ a. kept a (broughtBack (s .objects) objects 10 (now .objects)) (s .objects)) (judges .answer-is)
+              ∙ table-by (o .answer) (λ (r : Register). flatMap objectWords (r .objects)) g (c .end) (s .objects) objects-back
+              ∙ ap (λ (r : Register). tableAfter (o .answer) (flatMap objectWords (r .objects)) (s .objects)) (sym ends);
+          links-are = settles .links-kept
+              ∙ ap (λ a. kept a (broughtBack (s .links) links 3 (now .links)) (s .links)) (judges .answer-is)
+              ∙ table-by (o .answer) (λ (r : Register). flatMap linkWords (r .links)) g (c .end) (s .links) links-back
+              ∙ ap (λ (r : Register). tableAfter (o .answer) (flatMap linkWords (r .links)) (s .links)) (sym ends);
+        };
       })

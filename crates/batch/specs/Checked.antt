@@ -30,6 +30,11 @@ tableAfter accepted rows before = padded (length before) rows
 tableAfter (brokenAt rule id) rows before = before
 tableAfter (refused number place) rows before = before
 
+-- The register's tables after the check, by its outcome.
+pub record RegisterLeft (o : Outcome) (objects links objects′ links′ : List ℕ) : Type 0 where
+  pub objects-are : objects′ ≡ tableAfter (o .answer) (flatMap objectWords (o .register .objects)) objects
+  pub links-are : links′ ≡ tableAfter (o .answer) (flatMap linkWords (o .register .links)) links
+
 -- What a batch check says and leaves, by its outcome: the answer, how many pairs, how many rows of objects and links are used then; "words past a list ..
 -- keep what they held", and a refusal lists no pair.
 pub record Left (o : Outcome) (list objects links : List ℕ) (r : Checked) (list′ objects′ links′ : List ℕ) : Type 0 where
@@ -38,5 +43,4 @@ pub record Left (o : Outcome) (list objects links : List ℕ) (r : Checked) (lis
   pub objects-used : r .objects ≡ length (o .register .objects)
   pub links-used : r .links ≡ length (o .register .links)
   pub list-is : list′ ≡ inFront (pairWords (o .pairs)) list
-  pub objects-are : objects′ ≡ tableAfter (o .answer) (flatMap objectWords (o .register .objects)) objects
-  pub links-are : links′ ≡ tableAfter (o .answer) (flatMap linkWords (o .register .links)) links
+  pub register : RegisterLeft o objects links objects′ links′

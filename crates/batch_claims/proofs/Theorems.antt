@@ -182,8 +182,8 @@ accepted-leaves-end d p unless e =
     let told : (B d) .answer ≡ accepted = as-accepted ((B d) .answer) (sym (says d p u) ∙ e) in
     let left : (o d) .register ≡ end d = ap (λ (x : Outcome). x .register) (u .outcome-is) ∙ Proved.batch-leaves (bookIn d) (lent d) (before d) (batchIn (d .n) (d .s)) (u .none-met) .0 told in
     let answer : (o d) .answer ≡ accepted = ap (λ (x : Outcome). x .answer) (u .outcome-is) ∙ told in (
-      p .objects-are ∙ ap₂ (λ a (g : Register). tableAfter a (flatMap objectWords (g .objects)) (d .s .objects)) answer left,
-      p .links-are ∙ ap₂ (λ a (g : Register). tableAfter a (flatMap linkWords (g .links)) (d .s .links)) answer left,
+      p .register .objects-are ∙ ap₂ (λ a (g : Register). tableAfter a (flatMap objectWords (g .objects)) (d .s .objects)) answer left,
+      p .register .links-are ∙ ap₂ (λ a (g : Register). tableAfter a (flatMap linkWords (g .links)) (d .s .links)) answer left,
       p .objects-used ∙ ap (λ (g : Register). length (g .objects)) left,
       p .links-used ∙ ap (λ (g : Register). length (g .links)) left,
     )
@@ -191,8 +191,8 @@ accepted-leaves-end d p unless e =
 -- the register that an outcome leaves as it was
 as-lent : (d : Call) → Promised d → (o d) .register ≡ before d → ((x y : List ℕ) → tableAfter ((o d) .answer) x y ≡ y) → AsLent d
 as-lent d p same kept = (
-  p .objects-are ∙ kept _ _,
-  p .links-are ∙ kept _ _,
+  p .register .objects-are ∙ kept _ _,
+  p .register .links-are ∙ kept _ _,
   p .objects-used ∙ ap (λ (g : Register). length (g .objects)) same ∙ length-rows (objectRow (d .s .objects)) (d .n .objects),
   p .links-used ∙ ap (λ (g : Register). length (g .links)) same ∙ length-rows (linkRow (d .s .links)) (d .n .links),
 )

@@ -19,6 +19,5 @@ batch-told {o} left told =
           told ∙ ap₂ _++_ (ap saidWords (left .answer-is) ∙ answer-said (o .answer))
           (ap₂ _∷_ (left .pairs-are) (ap₂ _∷_ (left .objects-used) (ap (λ x. x ∷ []) (left .links-used))));
       list-is = left .list-is;
-      objects-are = left .objects-are;
-      links-are = left .links-are;
+      register = left .register;
     }

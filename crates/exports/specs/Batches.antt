@@ -1,13 +1,12 @@
 -- A batch check as numbers, for programs in other languages.
 use Prim.Native.Nat.{ℕ}
 use mathlib.Core.Path.{_≡_}
-use mathlib.Core.List.{List, [], _∷_, _++_, flatMap}
+use mathlib.Core.List.{List, [], _∷_, _++_}
 use lib.ListN.{length}
 use Rattle.meaning.specs.Answers.{Outcome}
 use Rattle.rows.specs.Rows.{inFront}
-use Rattle.tables.specs.Words.{objectWords, linkWords}
 use Rattle.pair_list.specs.Pairs.{pairWords}
-use Rattle.batch.specs.Checked.{tableAfter}
+use Rattle.batch.specs.Checked.{RegisterLeft}
 use Rattle.told.specs.Coded.{answerWords}
 
 -- six words: the answer, how many pairs are listed, and how many rows of objects and links are used after the check
@@ -19,5 +18,4 @@ outcomeWords o =
 pub record BatchTold (o : Outcome) (list objects links words list′ objects′ links′ : List ℕ) : Type 0 where
   pub words-are : words ≡ outcomeWords o
   pub list-is : list′ ≡ inFront (pairWords (o .pairs)) list
-  pub objects-are : objects′ ≡ tableAfter (o .answer) (flatMap objectWords (o .register .objects)) objects
-  pub links-are : links′ ≡ tableAfter (o .answer) (flatMap linkWords (o .register .links)) links
+  pub register : RegisterLeft o objects links objects′ links′

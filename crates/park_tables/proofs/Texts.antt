@@ -1,6 +1,6 @@
 -- The text after a batch, by what the batch check and the writer leave.
 use Prim.Native.Nat.{ℕ, _≤_}
-use mathlib.Core.Path.{_≡_, refl, sym, ap, ap₂, _∙_}
+use mathlib.Core.Path.{_≡_, refl, sym, ap, ap₂, _∙_, subst}
 use mathlib.Core.Bool.{Bool, true, false, cond}
 use mathlib.Core.Logic.{⊎-elim}
 use mathlib.Core.List.{List, [], _∷_}
@@ -25,7 +25,7 @@ use Rattle.text.specs.Texts.{maxText}
 use Rattle.text.specs.Sheets.{textOf}
 use Rattle.writer.specs.Answers.{textRefusal, writerRefusal}
 use Rattle.lent_run.specs.Lent.{scratchShort}
-use Rattle.batch.specs.Checked.{lentOutcome, Left}
+use Rattle.batch.specs.Checked.{lentOutcome, RegisterLeft, Left}
 use Rattle.batch.specs.declared.Checked.{Checked}
 use Rattle.answers.specs.Checks.{outcomePrinted}
 use Rattle.answers.proofs.Checking.{long-enough}
@@ -73,7 +73,7 @@ module _ {o : Outcome} {list list′ objects links objects′ links′ : List �
       ≡ leftPrinted o n s
   unfolding leftPrinted countsLeft sheetLeft
   text-left e =
-      (λ i. textPrinted (record { types = n .types; floors = n .floors; relationships = n .relationships; rules = n .rules; objects = left .objects-used i; links = left .links-used i; events = 0 }) (sheetOf types floors relationships rules bodies (left .objects-are i) (left .links-are i) []))
+      (λ i. textPrinted (record { types = n .types; floors = n .floors; relationships = n .relationships; rules = n .rules; objects = left .objects-used i; links = left .links-used i; events = 0 }) (sheetOf types floors relationships rules bodies (left .register .objects-are i) (left .register .links-are i) []))
       ∙ if-accepted (o .answer) _ (outcomePrinted o) (sym (left .answer-is) ∙ e)
 
   -- any other
@@ -82,10 +82,23 @@ module _ {o : Outcome} {list list′ objects links objects′ links′ : List �
   answer-left other = if-other (o .answer) (textPrinted (countsLeft o n) (sheetLeft o s)) (outcomePrinted o) (λ e. other (left .answer-is ∙ e))
 
 -- with the scratch and the list that are lent
-pub lent-left : (n : Counts) (s : Sheet) → length (s .objects) ≤ 10240 → length (s .links) ≤ 12288
-    → leftPrinted (lentOutcome n s (scratchShort (s .objects) (s .links) (replicate 10240 0) (replicate 12288 0)) (length {A = ℕ} (replicate 65536 0))) n s ≡ afterPrinted 65536 n s
-unfolding afterPrinted
-lent-left n s h k =
-    ap₂ (λ short words. leftPrinted (lentOutcome n s short words) n s)
-    (long-enough (s .objects) (s .links) (replicate 10240 0) (replicate 12288 0) (omega (arith, length-replicate {A = ℕ} 10240 0)) (omega (arith, length-replicate {A = ℕ} 12288 0)))
-    (length-replicate {A = ℕ} 65536 0)
+module _ (n : Counts) (s : Sheet) (h : length (s .objects) ≤ 10240) (k : length (s .links) ≤ 12288) where
+  abbrev lentHere : Outcome
+  lentHere = lentOutcome n s (scratchShort (s .objects) (s .links) (replicate 10240 0) (replicate 12288 0)) (length {A = ℕ} (replicate 65536 0))
+
+  -- what is lent is long enough
+  pub lent-enough : lentHere ≡ lentOutcome n s false 65536
+  lent-enough =
+      ap₂ (λ short words. lentOutcome n s short words)
+      (long-enough (s .objects) (s .links) (replicate 10240 0) (replicate 12288 0) (omega (arith, length-replicate {A = ℕ} 10240 0)) (omega (arith, length-replicate {A = ℕ} 12288 0)))
+      (length-replicate {A = ℕ} 65536 0)
+
+  pub lent-left : leftPrinted lentHere n s ≡ afterPrinted 65536 n s
+  unfolding afterPrinted
+  lent-left = ap (λ o. leftPrinted o n s) lent-enough
+
+  pub register-left :
+      {objects links objects′ links′ : List ℕ}
+      → RegisterLeft lentHere objects links objects′ links′
+      → RegisterLeft (lentOutcome n s false 65536) objects links objects′ links′
+  register-left {objects} {links} {objects′} {links′} = subst (λ o. RegisterLeft o objects links objects′ links′) lent-enough

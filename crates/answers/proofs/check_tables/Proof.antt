@@ -4,7 +4,9 @@ use mathlib.Core.Path.{ap, _∙_}
 use lib.ListN.{length}
 use Rattle.rows.specs.Rows.{inFront}
 use Rattle.tables.specs.Layouts.{sheetOf}
-use Rattle.answers.proofs.Checking.{long-enough, pairs-within, outcome-is, lent-outcome}
+use Rattle.pair_list.specs.Pairs.{pairWords}
+use Rattle.batch.specs.Checked.{lentOutcome}
+use Rattle.answers.proofs.Checking.{long-enough, pairs-within, outcome-is, lent-outcome, register-by}
 use borrow.Author.Needs.{needs}
 use Rattle.answers.proofs.check_tables.Statement.{statement}
 use Rattle.answers.proofs.check_tables.Tie as tie
@@ -49,8 +51,13 @@ returns c =
     let a = start .args in
     let s = sheetOf (a .types .now) (a .floors .now) (a .relationships .now) (a .rules .now) (a .bodies .now) (a .objects .now) (a .links .now) (a .events .now) in
     let long = long-enough (a .objects .now) (a .links .now) (a .scratch-objects .now) (a .scratch-links .now) (start .pre .0) (start .pre .1) in
-    let e = outcome-is (at-check .check .ensures) ∙ lent-outcome (a .n) s (length (a .list .now)) long in
-    (at-print .print .ensures .0 ∙ ap (λ b. inFront b (a .out .now)) e, at-print .print .ensures .1 ∙ ap length e)
+    let left = at-check .check .ensures in
+    let e = outcome-is left ∙ lent-outcome (a .n) s (length (a .list .now)) long in (
+      at-print .print .ensures .0 ∙ ap (λ b. inFront b (a .out .now)) e,
+      at-print .print .ensures .1 ∙ ap length e,
+      left .list-is ∙ ap (λ short. inFront (pairWords (lentOutcome (a .n) s short (length (a .list .now)) .pairs)) (a .list .now)) long,
+      register-by (λ short. lentOutcome (a .n) s short (length (a .list .now))) long (left .register),
+    )
 
 pub check-tables-spec : {M : Type 1} → statement M
 check-tables-spec =

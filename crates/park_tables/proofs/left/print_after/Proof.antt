@@ -5,7 +5,7 @@ use lib.ListN.{length}
 use Rattle.rows.specs.Rows.{inFront}
 use Rattle.tables.specs.Layouts.{Sheet, sheetOf}
 use Rattle.answers.proofs.Checking.{pairs-within, outcome-is}
-use Rattle.park_tables.proofs.Texts.{text-left, answer-left, lent-left, not-accepted}
+use Rattle.park_tables.proofs.Texts.{text-left, answer-left, lent-left, register-left, not-accepted}
 use borrow.Author.Needs.{needs}
 use Rattle.park_tables.proofs.left.print_after.Statement.{statement}
 use Rattle.park_tables.proofs.left.print_after.Tie as tie
@@ -52,8 +52,11 @@ returns c =
     let at-check = at-told .before .before .before .before .before .before .before .before .before in
     let start = start-of at-check in
     let a = start .args in
-    let e = text-left (at-check .check .ensures) (a .n) (a .types .now) (a .floors .now) (a .relationships .now) (a .rules .now) (a .bodies .now) (a .events .now) (at-told .enum-told .given .1) ∙ lent-left (a .n) (sheet at-check) (start .pre .0) (start .pre .1) in
-    (at-text .print-text .ensures .0 ∙ ap (λ b. inFront b (a .out .now)) e, at-text .print-text .ensures .1 ∙ ap length e)
+    let e = text-left (at-check .check .ensures) (a .n) (a .types .now) (a .floors .now) (a .relationships .now) (a .rules .now) (a .bodies .now) (a .events .now) (at-told .enum-told .given .1) ∙ lent-left (a .n) (sheet at-check) (start .pre .0) (start .pre .1) in (
+      at-text .print-text .ensures .0 ∙ ap (λ b. inFront b (a .out .now)) e,
+      at-text .print-text .ensures .1 ∙ ap length e,
+      register-left (a .n) (sheet at-check) (start .pre .0) (start .pre .1) (at-check .check .ensures .register),
+    )
 
 slice-aggregate-print : tie.Need-slice-aggregate-print
 slice-aggregate-print c = search needs
@@ -83,8 +86,11 @@ returns-2 c =
     let start = start-of at-check in
     let a = start .args in
     let other = not-accepted _ (at-match .match .keys2) in
-    let e = outcome-is (at-check .check .ensures) ∙ answer-left (at-check .check .ensures) (a .n) (a .types .now) (a .floors .now) (a .relationships .now) (a .rules .now) (a .bodies .now) (a .events .now) other ∙ lent-left (a .n) (sheet at-check) (start .pre .0) (start .pre .1) in
-    (at-print .print .ensures .0 ∙ ap (λ b. inFront b (a .out .now)) e, at-print .print .ensures .1 ∙ ap length e)
+    let e = outcome-is (at-check .check .ensures) ∙ answer-left (at-check .check .ensures) (a .n) (a .types .now) (a .floors .now) (a .relationships .now) (a .rules .now) (a .bodies .now) (a .events .now) other ∙ lent-left (a .n) (sheet at-check) (start .pre .0) (start .pre .1) in (
+      at-print .print .ensures .0 ∙ ap (λ b. inFront b (a .out .now)) e,
+      at-print .print .ensures .1 ∙ ap length e,
+      register-left (a .n) (sheet at-check) (start .pre .0) (start .pre .1) (at-check .check .ensures .register),
+    )
 
 pub print-after-spec : {M : Type 1} → statement M
 print-after-spec =
