@@ -1,4 +1,5 @@
 // The wrapper of `checker.rs` beside document 01 taken by the letter (`bench/literal.rs`) and a plain full check (`bench/plain.rs`).
+mod anything;
 mod checker;
 #[path = "../bench/drawn.rs"]
 mod drawn;
@@ -369,7 +370,7 @@ fn refusals() -> Tally {
 }
 
 fn tests() -> usize {
-    let groups: [(&str, fn() -> Tally); 7] = [
+    let groups: [(&str, fn() -> Tally); 11] = [
         ("visits to drawn parks", drawn_parks),
         ("visits to the largest parks", largest),
         ("damaged texts", damaged_texts),
@@ -377,6 +378,10 @@ fn tests() -> usize {
         ("event lists", event_lists),
         ("visits, lists and registers with a floor", floors),
         ("refusals in words", refusals),
+        ("texts of any bytes", anything::texts),
+        ("registers of any numbers", anything::registers),
+        ("batches of any numbers", anything::batches),
+        ("rooms of any size, and more than any room", anything::rooms),
     ];
     let tallies = groups.map(|(name, group)| {
         let t = group();
