@@ -59,8 +59,8 @@ fn any_link(d: &mut Draw) -> Link {
     Link { relationship: word(d), source: word(d), target: word(d) }
 }
 
-// Every call on a park. Unless the batch is accepted the register stays as it was; an inspection answers as the full check does, if the list
-// has room for it.
+// Every call on a park. Unless the batch is accepted the register stays as it was; an inspection answers as the full check does, if its
+// pairs have room.
 fn every_call(park: &mut Park, events: &[Event]) -> (Answer, bool) {
     let register = |park: &Park| (park.objects().collect::<Vec<_>>(), park.links().collect::<Vec<_>>());
     let shown = format!("{park:?}{:?}{:?}", park.types().collect::<Vec<_>>(), park.relationships().collect::<Vec<_>>());

@@ -1,5 +1,5 @@
-// Has the proved library linked: `libexports.a` of the folder that CHECKER_LIB names, else of a folder beside this one. Without it the crate
-// can be built and documented, and a program that uses it cannot be linked.
+// Has the proved library linked: `libexports.a` of the folder that CHECKER_LIB names, else of a folder beside this one. Without it the
+// crate can be built and documented, but no program linked.
 use std::env;
 use std::path::{Path, PathBuf};
 
@@ -36,7 +36,8 @@ fn main() {
         None => {
             archives.iter().for_each(|archive| watch(archive));
             let places: Vec<String> = archives.iter().map(|archive| archive.display().to_string()).collect();
-            println!("cargo:warning=no program will link: set CHECKER_LIB to the folder of {ARCHIVE}; there is no {}", places.join(", no "));
+            let places = places.join(", no ");
+            println!("cargo:warning=no program will link: set CHECKER_LIB to the folder of {ARCHIVE}; there is no {places}");
         }
     }
 }

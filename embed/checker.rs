@@ -246,10 +246,11 @@ impl fmt::Display for Body {
         let mut whole: Vec<String> = vec![]; // the forms that are not yet part of another
         for form in &self.forms {
             let parts = whole.split_off(whole.len().saturating_sub(form.parts()));
-            let words: Vec<String> = std::iter::once(form.name().to_string()).chain(parts).chain(form.numbers()).collect();
-            whole.push(format!("({})", words.join(" ")));
+            let mut text = format!("({}", form.name());
+            parts.into_iter().chain(form.numbers()).for_each(|word| text.extend([" ", &word]));
+            whole.push(text + ")");
         }
-        f.write_str(&whole.join(" "))
+        whole.iter().try_for_each(|text| f.write_str(text))
     }
 }
 
@@ -434,9 +435,6 @@ impl Park {
     /// Puts other objects and links in the place of the park's, for registers that are kept elsewhere or are too long for a text.
     /// A refusal leaves the park as it was.
     pub fn set_register(&mut self, objects: &[Object], links: &[Link]) -> Result<(), Refusal> {
-        if objects.len() > self.objects.len() / OBJECT_WORDS || links.len() > self.links.len() / LINK_WORDS {
-            return Err(Refusal { number: RefusalNumber::TooMany, place: 0 });
-        }
         let new_objects = table(objects.iter().map(object_row), self.objects.len());
         let new_links = table(links.iter().map(link_row), self.links.len());
         let used = Used { objects: count(objects.len()), links: count(links.len()), ..self.used };
@@ -617,9 +615,9 @@ fn rows<T: Copy, const WIDTH: usize>(table: &[T], used: u32) -> impl Iterator<It
     table.chunks_exact(WIDTH).take(used as usize).filter_map(|row| row.try_into().ok())
 }
 
-// A table of so many words: the rows, and zeros after them.
+// A table of so many words: the rows, and zeros after them. Rows that it has no room for are left out; their count is refused.
 fn table<const WIDTH: usize>(rows: impl Iterator<Item = [u32; WIDTH]>, words: usize) -> Vec<u32> {
-    let mut table: Vec<u32> = rows.flatten().collect();
+    let mut table: Vec<u32> = rows.flatten().take(words).collect();
     table.resize(words, 0);
     table
 }
