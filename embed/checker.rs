@@ -41,11 +41,13 @@ pub const CHECKER_VERSION: u32 = 1;
 /// Bytes of stack that a thread should have for any call; the measured figures are in docs/EMBEDDING.md.
 pub const STACK: usize = 1 << 20;
 
+/// Bytes that a text can have; a longer one is refused.
+pub const MOST_TEXT: usize = 65_536;
+
 const BODY_ROWS: usize = 64;
 const MOST: usize = 32; // types, relationships and rules
 const MOST_FLOORS: usize = 256;
 const MOST_EVENTS: usize = 256;
-const MOST_TEXT: usize = 65_536;
 const MOST_EVENT_TYPES: usize = 14 * MOST; // a set has eight cells a type, six kinds have one
 const NO_PARENT: u32 = u32::MAX;
 
