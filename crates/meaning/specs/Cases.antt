@@ -174,6 +174,28 @@ quietBelow = record { context = 1; body = quantify forall (role 0 0) (compare le
 abbrev registerS : Register
 registerS = record { objects = object 10 0 [] ∷ object 11 1 (pos 7 ∷ []) ∷ []; links = linkOf 0 10 11 ∷ [] }
 
+-- an object of type 0 or of type 1, and nothing else
+abbrev single : ℕ → Register
+single t = record { objects = object 10 t [] ∷ []; links = [] }
+
+-- rules of the type above: how many objects of a type there are at most, and at least
+abbrev mostOf : ℕ → ℕ → Rule
+mostOf t n = record { context = 0; body = compare le (size (all t)) (num (pos n)) }
+
+abbrev someBelow : Rule
+someBelow = record { context = 0; body = compare ge (size (all 1)) (num (pos 1)) }
+
+-- what a role's members are asked: that there is one, and that few have more than 30
+abbrev anyRule : Rule
+anyRule = record { context = 0; body = quantify exists (role 0 0) (kind 0 0) }
+
+abbrev noneOver : Rule
+noneOver = record { context = 0; body = compare le (size (select (role 0 0) (compare gt (cell 1 0) (num (pos 30))))) (num (pos 0)) }
+
+-- a cell of the object itself
+abbrev cellRule : Rule
+cellRule = record { context = 0; body = compare le (cell 0 0) (num (pos 5)) }
+
 -- ---- deletes that take links along (Req 01)
 
 -- quiet, and yet a loss may turn it false: what is listed of it after an insert is listed for a loss
@@ -310,6 +332,15 @@ table =
     ∷ caseBy schemaK quietOrCell registerK (set 10 0 (pos 3) ∷ delete 10 ∷ insert 10 1 ∷ []) accepted (pairOf 0 10 ∷ []) registerK
     ∷ caseBy schemaK quietOrCell registerK (delete 10 ∷ insert 10 1 ∷ []) accepted [] registerK
     ∷ caseBy schemaK quietBelow registerS (special 10 1 ∷ []) (brokenAt 0 10) (pairOf 0 10 ∷ []) registerS
+    -- what moves `all t`: a special into t and a general out of it, not a special below t
+    ∷ caseBy schemaK (mostOf 1 0) (single 0) (special 10 1 ∷ []) (brokenAt 0 10) (pairOf 0 10 ∷ []) (single 0)
+    ∷ caseBy schemaK someBelow (single 1) (general 10 0 ∷ []) (brokenAt 0 10) (pairOf 0 10 ∷ []) (single 1)
+    ∷ caseBy schemaK (mostOf 0 9) (single 0) (special 10 1 ∷ []) accepted [] (single 1)
+    -- a forall by its body at a member, a select by its condition; exists is not quiet; a general moves no cell
+    ∷ caseBy schemaA eachRule registerA (set 20 0 (pos 31) ∷ []) (brokenAt 0 10) (pairOf 0 10 ∷ []) registerA
+    ∷ caseBy schemaA noneOver registerA (set 20 0 (pos 31) ∷ []) (brokenAt 0 10) (pairOf 0 10 ∷ []) registerA
+    ∷ caseBy schemaA anyRule registerA (insert 12 0 ∷ []) (brokenAt 0 12) (pairOf 0 12 ∷ []) registerA
+    ∷ caseBy schemaK cellRule (single 1) (general 10 0 ∷ []) accepted [] (single 0)
     -- deletes: the deleted id inserted again; a link of an object to itself; the far object deleted, inserted and joined again
     ∷ caseBy (schemaD 1) someOrNone (registerD (object 2 1 [] ∷ []) (linkOf 0 1 2 ∷ [])) (delete 1 ∷ insert 1 0 ∷ []) accepted []
     (registerD (object 2 1 [] ∷ []) [])
