@@ -1,4 +1,4 @@
-/* The register checker's entries, for C and C++.
+/* The register checker's entries, for C and C++. park.h has them with all tables in one struct.
  *
  * Every table is the caller's: an array of 32-bit words, rows of a fixed width one after the other, given by its address and its length in
  * words. How many of its rows are used is given beside it; rows past those are not looked at. The columns are in docs/TABLES.md.
