@@ -10,7 +10,7 @@ import draw
 import plain
 import refusals
 
-END, READ, EVENT, NEW_BATCH, CHECK, FULL, EVENTS, TEXT = range(8)
+END, READ, REGISTER, EVENT, NEW_BATCH, CHECK, FULL, EVENTS, TEXT = range(9)
 KINDS = ['accepted', 'broken', 'refused', 'done']
 ROOM = 65536
 
@@ -36,6 +36,12 @@ class Caller:
     def read(self, book, register, events=()):
         self.book, self.register, self.batch, self.answered = book, register, list(events), False
         self.read_text(self.case().text())
+
+    def write_register(self, register):
+        """Rows and counts into the park itself."""
+        self.register = register
+        objects, links = cases.words(cases.object_rows(register)), cases.words(sorted(register.links))
+        self.call(REGISTER, [len(register.objects), len(register.links), *objects, *links])
 
     def events(self, events):
         for event in events:
@@ -112,7 +118,8 @@ def visits(blocks):
 
 
 def refused():
-    """The texts of tests/refusals.py that no limit refuses: at the reading by 1, else by the check, which is asked twice; no limit is that of check."""
+    """The texts of tests/refusals.py but for those that meet a limit of its program. 1 is met by the reading, the others by the check, which is
+    asked twice."""
     caller = Caller()
     for _, answer, lines in refusals.CASES:
         kind, *place = answer.split()
@@ -219,12 +226,27 @@ def longest_text():
     return caller
 
 
+def largest():
+    """A register that is too long for a text: two visits, the second broken."""
+    caller, case = Caller(), cases.largest(('set', 1, 0, 5))
+    caller.read(case.book, plain.Register())
+    caller.write_register(case.register)
+    for events in (case.events, [('set', 1 + 64 * 33, 0, 500)]):
+        caller.events(events)
+        caller.text()
+        caller.check()
+        caller.full()
+    return caller
+
+
 def callers():
-    drawn = [list(draw.drawn(number, 5, **how)) for number in range(40) for how in ({}, {'floored': True}, {'specials': True}, {'near': False})]
+    kinds = {}, {'floored': True}, {'specials': True}, {'near': False}
+    drawn = [list(draw.drawn(number, 5, **kind)) for number in range(40) for kind in kinds]
     drawn += [list(draw.inspected(number, 3)) for number in range(40)]
     plain.OBJECT_ROWS, plain.LINK_ROWS, plain.LIST_WORDS = cases.LARGEST['objects'], cases.LARGEST['links'], ROOM
     yield from map(visits, drawn)
-    yield from (refused(), most_objects(), most_links(), most_events(), most_of_a_book(), every_pair(31), every_pair(30), longest_text())
+    yield from (refused(), most_objects(), most_links(), most_events(), most_of_a_book(), every_pair(31), every_pair(30), longest_text(),
+                largest())
 
 
 def main():

@@ -6,7 +6,7 @@
 #include <stdlib.h>
 #include <string.h>
 
-enum { END, READ, EVENT, NEW_BATCH, CHECK, FULL, EVENTS, TEXT };
+enum { END, READ, REGISTER, EVENT, NEW_BATCH, CHECK, FULL, EVENTS, TEXT };
 #define SOIL 7u
 
 struct block {
@@ -76,6 +76,15 @@ static void test_read(const struct call *call) {
     else agree("the list of a read park", park.pairs == 0);
 }
 
+/* Rows and counts as a caller may write them into the park itself. */
+static void write_register(const struct call *call) {
+    const uint32_t *objects = call->given.words + 2;
+    park.objects_used = call->given.words[0];
+    park.links_used = call->given.words[1];
+    memcpy(park.objects, objects, park.objects_used * CHECKER_OBJECT_WORDS * sizeof *objects);
+    memcpy(park.links, objects + park.objects_used * CHECKER_OBJECT_WORDS, park.links_used * CHECKER_LINK_WORDS * sizeof *objects);
+}
+
 static void test_event(const struct call *call) {
     const uint32_t *row = call->given.words;
     uint32_t x = row[1], y = row[2], z = row[3];
@@ -120,6 +129,7 @@ static void test_call(uint32_t code) {
     calls++;
     switch (code) {
         case READ: test_read(&call); break;
+        case REGISTER: write_register(&call); break;
         case EVENT: test_event(&call); break;
         case NEW_BATCH: park_new_batch(&park); break;
         case CHECK: test_check(&call); break;
