@@ -1,20 +1,66 @@
-//! The register checker as a safe Rust module: put `mod checker;` into a program and give the archive to the linker.
+//! Checks the register of a wind park, its objects and links, against the park's rules. The checker itself is the proved library
+//! `libexports.a`; this is its safe side: put `mod checker;` into a program and give the archive to the linker, or name this folder as a
+//! dependency of a Cargo package.
 //!
-//! A `Park` owns its tables, scratch and list, and keeps the counts in step with them, so no call can be given a wrong one. A call takes
-//! little more than a third of `STACK` bytes of its thread's stack. A `Park` can be sent to another thread.
+//! A [`Park`] is made of a text and owns its tables, so no call can be given a wrong one. Whatever a call is given, it does not panic: it
+//! answers, or refuses with a [`Refusal`] that says what is wrong and where.
+//!
+//! ```
+//! use checker::{Event, Park, Refusal, Verdict};
+//!
+//! fn main() -> Result<(), Refusal> {
+//!     // a cabinet of 30 A that feeds a drive, and the rule that its drives draw no more than it gives
+//!     let text = b"(type 0 - 1)\n(type 1 - 1)\n(rel 0 0 1)\n\
+//!                  (rule 0 0 (le (sum (role 0 0) 0) (cell 0 0)))\n\
+//!                  (ent 10 0 30)\n(ent 20 1 25)\n(link 0 10 20)\n";
+//!     let (mut park, _) = Park::read(text)?;
+//!     let set = |value| Event::Set { object: 20, cell: 0, value };
+//!     assert_eq!(park.check(&[set(31)])?, Verdict::Broken { rule: 0, object: 10 });
+//!     assert_eq!(park.check(&[set(30)])?, Verdict::Accepted);
+//!
+//!     let refusal = park.check(&[Event::Delete { object: 21 }]).unwrap_err();
+//!     assert_eq!(refusal.to_string(), "refused 8 at event 0: an event names an object that is not there");
+//!
+//!     let bodies: Vec<String> = park.rules().map(|rule| rule.body.to_string()).collect();
+//!     assert_eq!(bodies, ["(le (sum (role 0 0) 0) (cell 0 0))"]);
+//!     Ok(())
+//! }
+//! ```
+//!
+//! A call takes less than half of [`STACK`] bytes of its thread's stack. A park can be sent to another thread.
+
+// As `mod checker;` of a program this file has what the program does not use, which is no fault of either.
+#![allow(dead_code)]
+
+use std::fmt;
+
+/// The version of the entries that this module is written for. A program whose [`version`] is another was linked with a library that may
+/// take other parameters.
+pub const CHECKER_VERSION: u32 = 1;
 
 /// Bytes of stack that a thread should have for any call; the measured figures are in docs/EMBEDDING.md.
 pub const STACK: usize = 1 << 20;
+
+/// Bytes that a text can have; a longer one is refused.
+pub const MOST_TEXT: usize = 65_536;
 
 const BODY_ROWS: usize = 64;
 const MOST: usize = 32; // types, relationships and rules
 const MOST_FLOORS: usize = 256;
 const MOST_EVENTS: usize = 256;
-const MOST_TEXT: usize = 65_536;
 const MOST_EVENT_TYPES: usize = 14 * MOST; // a set has eight cells a type, six kinds have one
+const NO_PARENT: u32 = u32::MAX;
 
-/// Rows of objects and links that a park can have, and pairs that its list can hold.
-#[derive(Clone, Copy, Debug, PartialEq, Eq)]
+const OBJECT_WORDS: usize = 10;
+const LINK_WORDS: usize = 3;
+
+/// The version of the library's entries.
+pub fn version() -> u32 {
+    checker_version()
+}
+
+/// Rows of objects and links that a park can have, and pairs that its list can hold. More than [`Room::LARGEST`] is as good as that.
+#[derive(Clone, Copy, Debug, PartialEq, Eq, Hash)]
 pub struct Room {
     pub objects: usize,
     pub links: usize,
@@ -26,24 +72,117 @@ impl Room {
     pub const LARGEST: Room = Room { objects: 1024, links: 4096, pairs: MOST * 1024 };
 }
 
-/// What is wrong, as a number from 1 to 15, and where; the table is in docs/FITTER.md.
-#[derive(Clone, Copy, Debug, PartialEq, Eq)]
+/// Why a call was refused. What was given is then as it was.
+#[derive(Clone, Copy, Debug, PartialEq, Eq, Hash)]
 pub struct Refusal {
-    pub number: u32,
+    pub number: RefusalNumber,
+    /// Where; [`RefusalNumber::counted`] says of what. Lines count from 1, and 0 is no line; all else counts from 0.
     pub place: u32,
 }
 
-#[derive(Clone, Copy, Debug, PartialEq, Eq)]
-pub enum Answer {
-    Accepted,
-    Broken { rule: u32, object: u32 },
-    Refused { number: u32, place: u32 },
+impl Refusal {
+    fn of(number: u32, place: u32) -> Refusal {
+        Refusal { number: number.into(), place }
+    }
 }
 
-#[derive(Clone, Copy, Debug, PartialEq, Eq)]
+impl fmt::Display for Refusal {
+    fn fmt(&self, f: &mut fmt::Formatter<'_>) -> fmt::Result {
+        let Refusal { number, place } = *self;
+        write!(f, "refused {}", number.code())?;
+        match number.counted() {
+            Some("line") if place == 0 => (), // lines count from 1
+            Some(counted) => write!(f, " at {counted} {place}")?,
+            None => (),
+        }
+        write!(f, ": {}", number.sentence())
+    }
+}
+
+impl std::error::Error for Refusal {}
+
+// Each refusal once: its name, its number, what its place counts and its sentence; the last three are those of bin/refusals.txt.
+macro_rules! refusals {
+    ($($name:ident = $code:literal, $counted:expr, $sentence:literal;)+) => {
+        /// What is wrong. More is said of each in docs/FITTER.md.
+        #[derive(Clone, Copy, Debug, PartialEq, Eq, Hash)]
+        #[non_exhaustive]
+        pub enum RefusalNumber {
+            $(#[doc = concat!($code, ": ", $sentence, ".")] $name,)+
+            /// A number that has no name here. The library of [`CHECKER_VERSION`] has none; a later one may.
+            Other(u32),
+        }
+
+        impl From<u32> for RefusalNumber {
+            fn from(code: u32) -> RefusalNumber {
+                match code {
+                    $($code => RefusalNumber::$name,)+
+                    _ => RefusalNumber::Other(code),
+                }
+            }
+        }
+
+        impl RefusalNumber {
+            /// The number itself.
+            pub fn code(self) -> u32 {
+                match self {
+                    $(RefusalNumber::$name => $code,)+
+                    RefusalNumber::Other(code) => code,
+                }
+            }
+
+            /// What the place of such a refusal counts; `None` where it has none.
+            pub fn counted(self) -> Option<&'static str> {
+                match self {
+                    $(RefusalNumber::$name => $counted,)+
+                    RefusalNumber::Other(_) => Some("place"),
+                }
+            }
+
+            /// What is wrong, in words.
+            pub fn sentence(self) -> &'static str {
+                match self {
+                    $(RefusalNumber::$name => $sentence,)+
+                    RefusalNumber::Other(_) => "the library says why by a number that this module does not know",
+                }
+            }
+        }
+    };
+}
+
+refusals! {
+    Form = 1, Some("line"), "a line of the text is not in its form";
+    TooMany = 2, Some("line"), "there is more than a limit or the lent rows allow";
+    Schema = 3, Some("item"), "a type, a floor or a relationship is wrong";
+    Rule = 4, Some("rule"), "a rule does not fit the schema, or there is no such rule";
+    Register = 5, Some("row"), "an object or a link of the register is wrong";
+    Tables = 6, None, "a lent table is not whole rows, or a scratch is shorter than its table";
+    Unknown = 7, Some("event"), "an event names a kind, type, relationship, cell or id that there cannot be";
+    Absent = 8, Some("event"), "an event names an object that is not there";
+    Present = 9, Some("event"), "an inserted object or a joined link is there already";
+    NoLink = 10, Some("event"), "a parted link is not there";
+    NoFit = 11, Some("event"), "a cell, an end or a new type does not fit the object's type";
+    Linked = 12, Some("event"), "a link needs the type that a general would leave";
+    Full = 13, Some("event"), "no row is left for another object or link";
+    TooShort = 14, None, "the list or the text needs more room than is lent";
+    Below = 15, Some("event"), "a cell with a floor would go below 0";
+}
+
+/// What a check says of the rules.
+#[derive(Clone, Copy, Debug, PartialEq, Eq, Hash)]
+#[must_use = "it says whether a rule is broken"]
+pub enum Verdict {
+    Accepted,
+    /// The first pair that is broken.
+    Broken { rule: u32, object: u32 },
+}
+
+/// A change to the register.
+#[derive(Clone, Copy, Debug, PartialEq, Eq, Hash)]
 pub enum Event {
     Insert { object: u32, type_number: u32 },
-    Delete { object: u32 }, // with its links
+    /// With its links.
+    Delete { object: u32 },
     Set { object: u32, cell: u32, value: i32 },
     Join { relationship: u32, source: u32, target: u32 },
     Part { relationship: u32, source: u32, target: u32 },
@@ -52,7 +191,7 @@ pub enum Event {
 }
 
 /// What can break a rule: an event of this kind that counts for this type, cell or relationship.
-#[derive(Clone, Copy, Debug, PartialEq, Eq)]
+#[derive(Clone, Copy, Debug, PartialEq, Eq, Hash)]
 pub enum EventType {
     Insert { type_number: u32 },
     Delete { type_number: u32 },
@@ -64,27 +203,145 @@ pub enum EventType {
 }
 
 /// A rule at an object, which a check looked at.
-#[derive(Clone, Copy, Debug, PartialEq, Eq)]
+#[derive(Clone, Copy, Debug, PartialEq, Eq, PartialOrd, Ord, Hash)]
 pub struct Pair {
     pub rule: u32,
     pub object: u32,
 }
 
+/// A type of objects: the type above it, and how many cells its objects have.
+#[derive(Clone, Copy, Debug, PartialEq, Eq, Hash)]
+pub struct Type {
+    pub parent: Option<u32>,
+    pub cells: u32,
+}
+
 /// A cell that is at least 0 in every object of a type and of the types below it.
-#[derive(Clone, Copy, Debug, PartialEq, Eq)]
+#[derive(Clone, Copy, Debug, PartialEq, Eq, PartialOrd, Ord, Hash)]
 pub struct Floor {
     pub type_number: u32,
     pub cell: u32,
 }
 
-#[derive(Clone, Copy, Debug, PartialEq, Eq)]
+/// The types that a relationship leads from and to.
+#[derive(Clone, Copy, Debug, PartialEq, Eq, Hash)]
+pub struct Relationship {
+    pub source: u32,
+    pub target: u32,
+}
+
+/// A rule: its body holds for each object of the context type.
+#[derive(Clone, Debug, PartialEq, Eq, Hash)]
+pub struct Rule {
+    pub context: u32,
+    pub body: Body,
+}
+
+/// The forms of a body, each after its parts; the last one is the body itself. It is shown as in a text, in brackets.
+#[derive(Clone, Debug, PartialEq, Eq, Hash)]
+pub struct Body {
+    pub forms: Vec<Form>,
+}
+
+impl fmt::Display for Body {
+    fn fmt(&self, f: &mut fmt::Formatter<'_>) -> fmt::Result {
+        let mut whole: Vec<String> = vec![]; // the forms that are not yet part of another
+        for form in &self.forms {
+            let parts = whole.split_off(whole.len().saturating_sub(form.parts()));
+            let mut text = format!("({}", form.name());
+            parts.into_iter().chain(form.numbers()).for_each(|word| text.extend([" ", &word]));
+            whole.push(text + ")");
+        }
+        whole.iter().try_for_each(|text| f.write_str(text))
+    }
+}
+
+// Each form once: its code, its name in a text, how many parts it has, and its own numbers, which stand after the parts in a text.
+macro_rules! forms {
+    ($($code:literal $name:literal $parts:literal $form:ident $({ $($number:ident: $type:ty),+ })?;)+) => {
+        /// One form of a body, without its parts.
+        #[derive(Clone, Copy, Debug, PartialEq, Eq, Hash)]
+        #[non_exhaustive]
+        pub enum Form {
+            $(#[doc = concat!("`", $name, "`")] $form $({ $($number: $type),+ })?,)+
+            /// A row whose code has no name here. The library of [`CHECKER_VERSION`] reads none; a later one may.
+            Other { row: [u32; 4] },
+        }
+
+        impl Form {
+            fn of(row: [u32; 4]) -> Form {
+                let [code, numbers @ ..] = row;
+                let mut numbers = numbers.into_iter();
+                match code {
+                    $($code => Form::$form $({ $($number: numbers.next().unwrap_or_default() as $type),+ })?,)+
+                    _ => Form::Other { row },
+                }
+            }
+
+            /// Its name in a text.
+            pub fn name(self) -> &'static str {
+                match self {
+                    $(Form::$form { .. } => $name,)+
+                    Form::Other { .. } => "?",
+                }
+            }
+
+            /// How many of the forms before it are its parts.
+            pub fn parts(self) -> usize {
+                match self {
+                    $(Form::$form { .. } => $parts,)+
+                    Form::Other { .. } => 0,
+                }
+            }
+
+            // Its own numbers as in a text, where each has a sign.
+            fn numbers(self) -> Vec<String> {
+                let numbers: Vec<i32> = match self {
+                    $(Form::$form $({ $($number),+ })? => vec![$($($number as i32),+)?],)+
+                    Form::Other { row } => row.map(|word| word as i32).into(),
+                };
+                numbers.iter().map(i32::to_string).collect()
+            }
+        }
+    };
+}
+
+forms! {
+    0 "le" 2 Le;
+    1 "lt" 2 Lt;
+    2 "eq" 2 Eq;
+    3 "ne" 2 Ne;
+    4 "ge" 2 Ge;
+    5 "gt" 2 Gt;
+    6 "not" 1 Not;
+    7 "and" 2 And;
+    8 "or" 2 Or;
+    9 "xor" 2 Xor;
+    10 "implies" 2 Implies;
+    11 "forall" 2 Forall;
+    12 "exists" 2 Exists;
+    13 "kind" 0 Kind { variable: u32, type_number: u32 };
+    14 "num" 0 Num { value: i32 };
+    15 "cell" 0 Cell { variable: u32, cell: u32 };
+    16 "size" 1 Size;
+    17 "sum" 1 Sum { cell: u32 };
+    18 "add" 2 Add;
+    19 "sub" 2 Sub;
+    20 "role" 0 Role { variable: u32, role: u32 };
+    21 "all" 0 All { type_number: u32 };
+    22 "select" 2 Select;
+}
+
+/// An object of the register. Cells that its type lacks are 0.
+#[derive(Clone, Copy, Debug, PartialEq, Eq, PartialOrd, Ord, Hash)]
 pub struct Object {
     pub id: u32,
     pub type_number: u32,
     pub cells: [i32; 8],
 }
 
-#[derive(Clone, Copy, Debug, PartialEq, Eq)]
+/// A link of the register, from an object to an object.
+#[derive(Clone, Copy, Debug, PartialEq, Eq, PartialOrd, Ord, Hash)]
 pub struct Link {
     pub relationship: u32,
     pub source: u32,
@@ -105,10 +362,10 @@ pub struct Park {
     scratch_objects: Vec<u32>,
     scratch_links: Vec<u32>,
     list: Vec<u32>,
-    listed: usize,
+    listed: u32,
 }
 
-#[derive(Clone, Copy, Default)]
+#[derive(Clone, Copy, Debug, Default)]
 struct Used {
     types: u32,
     floors: u32,
@@ -118,14 +375,21 @@ struct Used {
     links: u32,
 }
 
+// The counts alone: the tables are hundreds of KB.
+impl fmt::Debug for Park {
+    fn fmt(&self, f: &mut fmt::Formatter<'_>) -> fmt::Result {
+        f.debug_struct("Park").field("used", &self.used).field("listed", &self.listed).finish_non_exhaustive()
+    }
+}
+
 impl Park {
     /// The park of a text, with room for the largest, and the events of its batch, which are not yet checked.
     pub fn read(text: &[u8]) -> Result<(Park, Vec<Event>), Refusal> {
-        Park::read_into(text, Room::LARGEST)
+        Park::read_with(text, Room::LARGEST)
     }
 
     /// The same with the room that is given.
-    pub fn read_into(text: &[u8], room: Room) -> Result<(Park, Vec<Event>), Refusal> {
+    pub fn read_with(text: &[u8], room: Room) -> Result<(Park, Vec<Event>), Refusal> {
         let mut park = Park::empty(room);
         let mut events = vec![0; 4 * MOST_EVENTS];
         let mut answer = [0; 8];
@@ -144,9 +408,9 @@ impl Park {
         match answer {
             [0, types, floors, relationships, rules, objects, links, count] => {
                 park.used = Used { types, floors, relationships, rules, objects, links };
-                Ok((park, events.chunks(4).take(count as usize).map(event).collect()))
+                Ok((park, all_known(rows(&events, count).map(event))?))
             }
-            [_, number, place, ..] => Err(Refusal { number, place }),
+            [_, number, place, ..] => Err(Refusal::of(number, place)),
         }
     }
 
@@ -160,12 +424,12 @@ impl Park {
             relationships: vec![0; 2 * MOST],
             rules: vec![0; 2 * MOST],
             bodies: vec![0; 4 * BODY_ROWS * MOST],
-            objects: words(room.objects, objects, 10),
-            links: words(room.links, links, 3),
+            objects: words(room.objects, objects, OBJECT_WORDS),
+            links: words(room.links, links, LINK_WORDS),
             used: Used::default(),
-            scratch_objects: words(room.objects, objects, 10),
-            scratch_links: words(room.links, links, 3),
-            list: vec![0; 2 * room.pairs.min(pairs)],
+            scratch_objects: words(room.objects, objects, OBJECT_WORDS),
+            scratch_links: words(room.links, links, LINK_WORDS),
+            list: words(room.pairs, pairs, 2),
             listed: 0,
         }
     }
@@ -173,17 +437,11 @@ impl Park {
     /// Puts other objects and links in the place of the park's, for registers that are kept elsewhere or are too long for a text.
     /// A refusal leaves the park as it was.
     pub fn set_register(&mut self, objects: &[Object], links: &[Link]) -> Result<(), Refusal> {
-        if 10 * objects.len() > self.objects.len() || 3 * links.len() > self.links.len() {
-            return Err(Refusal { number: 2, place: 0 });
-        }
-        let new_objects: Vec<u32> = objects.iter().flat_map(|o| [o.id, o.type_number].into_iter().chain(o.cells.map(|c| c as u32))).collect();
-        let new_links: Vec<u32> = links.iter().flat_map(|l| [l.relationship, l.source, l.target]).collect();
-        let used = Used { objects: objects.len() as u32, links: links.len() as u32, ..self.used };
+        let new_objects = table(objects.iter().map(object_row), self.objects.len());
+        let new_links = table(links.iter().map(link_row), self.links.len());
+        let used = Used { objects: count(objects.len()), links: count(links.len()), ..self.used };
         self.look_through(used, &new_objects, &new_links)?;
-        put(&mut self.objects, new_objects);
-        put(&mut self.links, new_links);
-        self.used = used;
-        self.listed = 0;
+        (self.objects, self.links, self.used, self.listed) = (new_objects, new_links, used, 0);
         Ok(())
     }
 
@@ -198,13 +456,13 @@ impl Park {
                 objects.as_ptr(), objects.len(), links.as_ptr(), links.len(),
             )
         };
-        if coded == 0 { Ok(()) } else { Err(Refusal { number: (coded >> 32) as u32, place: coded as u32 }) }
+        if coded == 0 { Ok(()) } else { Err(Refusal::of((coded >> 32) as u32, coded as u32)) }
     }
 
-    /// The batch check. An accepted batch is in the register afterwards; a broken or refused one leaves it as it was. No event at all is an inspection: every
-    /// rule at every object of its type, so the answer is that of `full`.
-    pub fn check(&mut self, events: &[Event]) -> Answer {
-        let rows: Vec<u32> = events.iter().flat_map(words).collect();
+    /// The batch check. An accepted batch is in the register afterwards; a broken or refused one leaves it as it was. No event at all is an
+    /// inspection: every rule at every object of its type, so the answer is that of [`Park::full`].
+    pub fn check(&mut self, events: &[Event]) -> Result<Verdict, Refusal> {
+        let rows = event_rows(events);
         let mut answer = [0; 6];
         let n = self.used;
         // SAFETY: each address and length is of a slice that lives through the call, and no two that are written overlap.
@@ -222,16 +480,16 @@ impl Park {
             );
         }
         let [kind, x, y, pairs, objects, links] = answer;
-        self.listed = pairs as usize;
+        self.listed = pairs;
         if kind == 0 {
             self.used = Used { objects, links, ..n };
         }
-        said([kind, x, y])
+        verdict([kind, x, y])
     }
 
     /// The register as the events would leave it, whatever the rules say; the park stays as it is.
     pub fn run(&mut self, events: &[Event]) -> Result<(Vec<Object>, Vec<Link>), Refusal> {
-        let rows: Vec<u32> = events.iter().flat_map(words).collect();
+        let rows_of_events = event_rows(events);
         let mut answer = [0; 3];
         let n = self.used;
         // SAFETY: each address and length is of a slice that lives through the call, and no two that are written overlap.
@@ -243,23 +501,25 @@ impl Park {
                 self.bodies.as_ptr(), self.bodies.len(),
                 self.objects.as_ptr(), self.objects.len(), self.links.as_ptr(), self.links.len(),
                 self.scratch_objects.as_mut_ptr(), self.scratch_objects.len(), self.scratch_links.as_mut_ptr(), self.scratch_links.len(),
-                count(events.len()), rows.as_ptr(), rows.len(),
+                count(events.len()), rows_of_events.as_ptr(), rows_of_events.len(),
                 &mut answer,
             );
         }
         match answer {
-            [0, objects, links] => Ok((object_rows(&self.scratch_objects, objects).collect(), link_rows(&self.scratch_links, links).collect())),
-            [_, number, place] => Err(Refusal { number, place }),
+            [0, objects, links] => {
+                Ok((rows(&self.scratch_objects, objects).map(object).collect(), rows(&self.scratch_links, links).map(link).collect()))
+            }
+            [_, number, place] => Err(Refusal::of(number, place)),
         }
     }
 
     /// The pairs that the last batch check looked at, by rule and then by id; none after a refusal.
     pub fn pairs(&self) -> impl Iterator<Item = Pair> + '_ {
-        self.list.chunks(2).take(self.listed).map(|p| Pair { rule: p[0], object: p[1] })
+        rows(&self.list, self.listed).map(|[rule, object]| Pair { rule, object })
     }
 
     /// The full check: every rule at every object.
-    pub fn full(&self) -> Answer {
+    pub fn full(&self) -> Result<Verdict, Refusal> {
         let mut answer = [0; 3];
         let n = self.used;
         // SAFETY: each address and length is of a slice that lives through the call; only the answer is written.
@@ -273,7 +533,7 @@ impl Park {
                 &mut answer,
             );
         }
-        said(answer)
+        verdict(answer)
     }
 
     /// The event types that can break a rule.
@@ -292,13 +552,12 @@ impl Park {
                 &mut answer,
             );
         }
-        let size = done(answer)?;
-        Ok(list.chunks(3).take(size).map(event_type).collect())
+        all_known(rows(&list, done(answer)?).map(event_type))
     }
 
     /// The text of the book and the register, with these events after them.
     pub fn text(&self, events: &[Event]) -> Result<Vec<u8>, Refusal> {
-        let rows: Vec<u32> = events.iter().flat_map(words).collect();
+        let rows = event_rows(events);
         let mut out = vec![0; MOST_TEXT];
         let mut answer = [0; 3];
         let n = self.used;
@@ -315,40 +574,54 @@ impl Park {
                 &mut answer,
             );
         }
-        out.truncate(done(answer)?);
+        out.truncate(done(answer)? as usize);
         Ok(out)
     }
 
-    /// The floors of the book, by type and cell: cell k of t and of types under it is at least 0.
+    /// The types of the book; a type's number is its place.
+    pub fn types(&self) -> impl Iterator<Item = Type> + '_ {
+        let parent = |word| if word == NO_PARENT { None } else { Some(word) };
+        rows(&self.types, self.used.types).map(move |[above, cells]| Type { parent: parent(above), cells })
+    }
+
+    /// The floors of the book, by type and cell.
     pub fn floors(&self) -> impl Iterator<Item = Floor> + '_ {
-        self.floors.chunks(2).take(self.used.floors as usize).map(|row| Floor { type_number: row[0], cell: row[1] })
+        rows(&self.floors, self.used.floors).map(|[type_number, cell]| Floor { type_number, cell })
+    }
+
+    /// The relationships of the book; a relationship's number is its place.
+    pub fn relationships(&self) -> impl Iterator<Item = Relationship> + '_ {
+        rows(&self.relationships, self.used.relationships).map(|[source, target]| Relationship { source, target })
+    }
+
+    /// The rules of the book; a rule's number is its place.
+    pub fn rules(&self) -> impl Iterator<Item = Rule> + '_ {
+        let bodies = self.bodies.chunks_exact(4 * BODY_ROWS);
+        let body = |slot, used| Body { forms: rows(slot, used).map(Form::of).collect() };
+        rows(&self.rules, self.used.rules).zip(bodies).map(move |([context, forms], slot)| Rule { context, body: body(slot, forms) })
     }
 
     /// The objects, by id.
     pub fn objects(&self) -> impl Iterator<Item = Object> + '_ {
-        object_rows(&self.objects, self.used.objects)
+        rows(&self.objects, self.used.objects).map(object)
     }
 
     /// The links, by relationship, source and target.
     pub fn links(&self) -> impl Iterator<Item = Link> + '_ {
-        link_rows(&self.links, self.used.links)
+        rows(&self.links, self.used.links).map(link)
     }
 }
 
-fn object_rows(table: &[u32], used: u32) -> impl Iterator<Item = Object> + '_ {
-    let cells = |row: &[u32]| std::array::from_fn(|k| row[2 + k] as i32);
-    table.chunks(10).take(used as usize).map(move |row| Object { id: row[0], type_number: row[1], cells: cells(row) })
+// The used rows of a table, or as many as it has; a chunk of a row's length is always a row.
+fn rows<T: Copy, const WIDTH: usize>(table: &[T], used: u32) -> impl Iterator<Item = [T; WIDTH]> + '_ {
+    table.chunks_exact(WIDTH).take(used as usize).filter_map(|row| row.try_into().ok())
 }
 
-fn link_rows(table: &[u32], used: u32) -> impl Iterator<Item = Link> + '_ {
-    table.chunks(3).take(used as usize).map(|row| Link { relationship: row[0], source: row[1], target: row[2] })
-}
-
-// Rows into the front of a table, and zeros after them.
-fn put(table: &mut [u32], rows: Vec<u32>) {
-    let (front, rest) = table.split_at_mut(rows.len());
-    front.copy_from_slice(&rows);
-    rest.fill(0);
+// A table of so many words: the rows, and zeros after them. Rows that it has no room for are left out; their count is refused.
+fn table<const WIDTH: usize>(rows: impl Iterator<Item = [u32; WIDTH]>, words: usize) -> Vec<u32> {
+    let mut table: Vec<u32> = rows.flatten().take(words).collect();
+    table.resize(words, 0);
+    table
 }
 
 // A count for the library; one that no word holds is above every limit.
@@ -356,19 +629,47 @@ fn count(n: usize) -> u32 {
     u32::try_from(n).unwrap_or(u32::MAX)
 }
 
-fn said([kind, x, y]: [u32; 3]) -> Answer {
+fn verdict([kind, x, y]: [u32; 3]) -> Result<Verdict, Refusal> {
     match kind {
-        0 => Answer::Accepted,
-        1 => Answer::Broken { rule: x, object: y },
-        _ => Answer::Refused { number: x, place: y },
+        0 => Ok(Verdict::Accepted),
+        1 => Ok(Verdict::Broken { rule: x, object: y }),
+        _ => Err(Refusal::of(x, y)),
     }
 }
 
-fn done([kind, x, y]: [u32; 3]) -> Result<usize, Refusal> {
-    if kind == 0 { Ok(x as usize) } else { Err(Refusal { number: x, place: y }) }
+fn done([kind, x, y]: [u32; 3]) -> Result<u32, Refusal> {
+    if kind == 0 { Ok(x) } else { Err(Refusal::of(x, y)) }
 }
 
-fn words(event: &Event) -> [u32; 4] {
+// The library of this version writes rows of the seven kinds only. A row of another kind is refused as an event of that kind would be.
+fn all_known<T>(rows: impl Iterator<Item = Option<T>>) -> Result<Vec<T>, Refusal> {
+    let known = |(place, row): (usize, Option<T>)| row.ok_or(Refusal { number: RefusalNumber::Unknown, place: count(place) });
+    rows.enumerate().map(known).collect()
+}
+
+fn object([id, type_number, cells @ ..]: [u32; OBJECT_WORDS]) -> Object {
+    Object { id, type_number, cells: cells.map(|cell| cell as i32) }
+}
+
+fn object_row(object: &Object) -> [u32; OBJECT_WORDS] {
+    let [a, b, c, d, e, f, g, h] = object.cells.map(|cell| cell as u32);
+    [object.id, object.type_number, a, b, c, d, e, f, g, h]
+}
+
+fn link([relationship, source, target]: [u32; LINK_WORDS]) -> Link {
+    Link { relationship, source, target }
+}
+
+fn link_row(link: &Link) -> [u32; LINK_WORDS] {
+    [link.relationship, link.source, link.target]
+}
+
+// No more rows than a batch can have: with more it is refused by its count alone.
+fn event_rows(events: &[Event]) -> Vec<u32> {
+    events.iter().take(MOST_EVENTS).flat_map(event_row).collect()
+}
+
+fn event_row(event: &Event) -> [u32; 4] {
     match *event {
         Event::Insert { object, type_number } => [0, object, type_number, 0],
         Event::Delete { object } => [1, object, 0, 0],
@@ -380,9 +681,8 @@ fn words(event: &Event) -> [u32; 4] {
     }
 }
 
-// A row that the reader wrote, and so one of the seven kinds.
-fn event(row: &[u32]) -> Event {
-    match *row {
+fn event(row: [u32; 4]) -> Option<Event> {
+    Some(match row {
         [0, object, type_number, _] => Event::Insert { object, type_number },
         [1, object, ..] => Event::Delete { object },
         [2, object, cell, value] => Event::Set { object, cell, value: value as i32 },
@@ -390,13 +690,13 @@ fn event(row: &[u32]) -> Event {
         [4, relationship, source, target] => Event::Part { relationship, source, target },
         [5, object, type_number, _] => Event::Special { object, type_number },
         [6, object, type_number, _] => Event::General { object, type_number },
-        _ => unreachable!("the reader writes the seven kinds only"),
-    }
+        _ => return None,
+    })
 }
 
-fn event_type(row: &[u16]) -> EventType {
-    let (of, cell) = (row[1].into(), row[2].into());
-    match row[0] {
+fn event_type([kind, of, cell]: [u16; 3]) -> Option<EventType> {
+    let (of, cell) = (of.into(), cell.into());
+    Some(match kind {
         0 => EventType::Insert { type_number: of },
         1 => EventType::Delete { type_number: of },
         2 => EventType::Set { type_number: of, cell },
@@ -404,12 +704,14 @@ fn event_type(row: &[u16]) -> EventType {
         4 => EventType::Part { relationship: of },
         5 => EventType::Special { type_number: of },
         6 => EventType::General { type_number: of },
-        _ => unreachable!("an event list has the seven kinds only"),
-    }
+        _ => return None,
+    })
 }
 
 // The entries as embed/checker.h has them.
-extern "C" {
+unsafe extern "C" {
+    safe fn checker_version() -> u32;
+
     fn checker_check(
         types_used: u32, floors_used: u32, relationships_used: u32, rules_used: u32, objects_used: u32, links_used: u32,
         types: *const u32, types_len: usize, floors: *const u32, floors_len: usize,

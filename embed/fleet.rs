@@ -1,5 +1,4 @@
 // Visits to a fleet of parks, on one core and on all of them. Each thread has parks of its own, and nothing is shared.
-#[allow(dead_code)]
 mod checker;
 #[path = "../bench/fitters.rs"]
 mod fitters;
@@ -15,7 +14,7 @@ mod spelling;
 #[path = "../bench/visits.rs"]
 mod visits;
 
-use checker::{Answer, Event, Park, STACK};
+use checker::{Event, Park, Refusal, Verdict, STACK};
 use std::thread::{self, Builder};
 use std::time::{Duration, Instant};
 
@@ -26,7 +25,7 @@ const TIME: Duration = Duration::from_secs(1);
 struct Repeated {
     name: &'static str,
     events: Vec<Event>,
-    answer: Answer,
+    answer: Result<Verdict, Refusal>,
 }
 
 // Cells that are set again; and visits that are broken or refused, and so leave the park as it was.

@@ -1,5 +1,5 @@
 // The wrapper of `checker.rs` beside document 01 taken by the letter (`bench/literal.rs`) and a plain full check (`bench/plain.rs`).
-#[allow(dead_code)]
+mod anything;
 mod checker;
 #[path = "../bench/drawn.rs"]
 mod drawn;
@@ -23,11 +23,17 @@ mod spelling;
 #[path = "../bench/visits.rs"]
 mod visits;
 
-use checker::{Answer, Event, EventType, Park, Refusal, Room};
+use checker::{Event, EventType, Park, Refusal, RefusalNumber, Room, Verdict};
 use park::Park as Plain;
 
 const DRAWN: u32 = 5_000;
 const DRAWN_ROOM: Room = Room { objects: drawn::ROOM.0, links: drawn::ROOM.1, pairs: 256 };
+
+type Answer = Result<Verdict, Refusal>;
+
+fn refused(number: u32, place: u32) -> Refusal {
+    Refusal { number: number.into(), place }
+}
 
 #[derive(Default)]
 struct Tally {
@@ -42,9 +48,9 @@ impl Tally {
     fn count(&mut self, answer: Answer) {
         self.cases += 1;
         *match answer {
-            Answer::Accepted => &mut self.accepted,
-            Answer::Broken { .. } => &mut self.broken,
-            Answer::Refused { .. } => &mut self.refused,
+            Ok(Verdict::Accepted) => &mut self.accepted,
+            Ok(Verdict::Broken { .. }) => &mut self.broken,
+            Err(_) => &mut self.refused,
         } += 1;
     }
 
@@ -57,8 +63,8 @@ impl Tally {
 
     // A text or a register that is refused.
     fn refusal<T>(&mut self, what: &str, found: Result<T, Refusal>, (number, place): (u32, u32)) {
-        self.count(Answer::Refused { number, place });
-        self.agree(what, found.err() == Some(Refusal { number, place }));
+        self.count(Err(refused(number, place)));
+        self.agree(what, found.err() == Some(refused(number, place)));
     }
 
     fn tell(&self, what: &str) {
@@ -69,26 +75,40 @@ impl Tally {
 
 fn told(answer: incremental::Answer) -> Answer {
     match answer {
-        incremental::Answer::Accepted => Answer::Accepted,
-        incremental::Answer::Broken(rule, object) => Answer::Broken { rule, object },
-        incremental::Answer::Refused(number, place) => Answer::Refused { number, place },
+        incremental::Answer::Accepted => Ok(Verdict::Accepted),
+        incremental::Answer::Broken(rule, object) => Ok(Verdict::Broken { rule, object }),
+        incremental::Answer::Refused(number, place) => Err(refused(number, place)),
     }
 }
 
-// The park's register and text are the plain one's.
+// The rules of a park as lines of a text, whose numbers have signs.
+fn rule_lines(park: &Park) -> String {
+    park.rules().enumerate().map(|(n, rule)| format!("(rule {n} {} {})\n", rule.context as i32, rule.body)).collect()
+}
+
+fn rule_lines_in(text: &[u8]) -> String {
+    let lines = text.split_inclusive(|byte| *byte == b'\n').filter(|line| line.starts_with(b"(rule "));
+    lines.map(String::from_utf8_lossy).collect()
+}
+
+// The park's book, register and text are the plain one's.
 fn same_park(t: &mut Tally, lent: &Park, plain: &Plain) {
+    t.agree("the types", lent.types().map(|of| (of.parent, of.cells)).eq(plain.types.iter().copied()));
+    t.agree("the relationships", lent.relationships().map(|of| (of.source, of.target)).eq(plain.relationships.iter().copied()));
+    t.agree("the rules", lent.rules().eq(lent::rules(plain)));
     t.agree("the floors", lent.floors().map(|f| (f.type_number, f.cell)).eq(plain.floors.iter().copied()));
     t.agree("the objects", lent.objects().eq(lent::objects(plain)));
     t.agree("the links", lent.links().eq(lent::links(plain)));
     let text = spelling::text(plain).into_bytes();
-    let expected = if text.len() > 65_536 { Err(Refusal { number: 2, place: 0 }) } else { Ok(text) };
+    t.agree("the rules in brackets", rule_lines(lent) == rule_lines_in(&text));
+    let expected = if text.len() > 65_536 { Err(refused(2, 0)) } else { Ok(text) };
     t.agree("the text", lent.text(&[]) == expected);
 }
 
 // The register that the events leave, by a plain run of them, unless an event is refused.
-fn ran(plain: &Plain, refused: incremental::Answer, rows: &[[u32; 4]]) -> Result<(Vec<checker::Object>, Vec<checker::Link>), Refusal> {
-    match refused {
-        incremental::Answer::Refused(number, place) if number != 14 => Err(Refusal { number, place }),
+fn ran(plain: &Plain, answer: incremental::Answer, rows: &[[u32; 4]]) -> Result<(Vec<checker::Object>, Vec<checker::Link>), Refusal> {
+    match answer {
+        incremental::Answer::Refused(number, place) if number != 14 => Err(refused(number, place)),
         _ => {
             let end = rows.iter().fold(literal::copy(plain), |now, row| literal::done(&now, *row));
             Ok((lent::objects(&end), lent::links(&end)))
@@ -109,7 +129,7 @@ fn visit(t: &mut Tally, lent: &mut Park, plain: &Plain, room: Room, rows: &[[u32
     let after = Plain { rules: plain.rules.clone(), ..expected.register };
     same_park(t, lent, &after);
     let full = plain::Plain::new(&after).full_check(&after);
-    t.agree("the full check", lent.full() == full.map_or(Answer::Accepted, |(rule, object)| Answer::Broken { rule, object }));
+    t.agree("the full check", lent.full() == Ok(full.map_or(Verdict::Accepted, |(rule, object)| Verdict::Broken { rule, object })));
     after
 }
 
@@ -120,7 +140,7 @@ fn inspection(t: &mut Tally, lent: &mut Park, plain: &Plain, room: Room) {
     let full = lent.full();
     visit(t, lent, plain, room, &[]);
     let (answer, listed) = (lent.check(&[]), lent.pairs().count());
-    let expected = if every > room.pairs { (Answer::Refused { number: 14, place: 0 }, 0) } else { (full, every) };
+    let expected = if every > room.pairs { (Err(refused(14, 0)), 0) } else { (full, every) };
     t.agree("an inspection", (answer, listed) == expected);
     same_park(t, lent, plain);
 }
@@ -166,7 +186,7 @@ fn drawn_parks() -> Tally {
         let room = Room { pairs: if seed % 16 == 0 { 2 } else { 256 }, ..DRAWN_ROOM };
         let rows = drawn::batch(&plain, seed + 1_000_000);
         let text = spelling::text(&plain) + &spelled(&rows);
-        let (mut lent, events) = Park::read_into(text.as_bytes(), room).expect("a drawn text");
+        let (mut lent, events) = Park::read_with(text.as_bytes(), room).expect("a drawn text");
         t.agree("the events that are read", events == lent::events(&rows));
         let unknown = rows.iter().any(|row| literal::refusal(&plain, drawn::ROOM, *row) == Some(7));
         t.agree("the text with its events", unknown || lent.text(&events) == Ok(text.into_bytes()));
@@ -187,7 +207,7 @@ fn largest() -> Tally {
     let mut t = Tally::default();
     for (sections, room) in [(&visits::SMALL[..], Room { objects: 256, links: 1024, pairs: 4096 }), (&visits::LARGE, Room::LARGEST)] {
         let plain = visits::wind_park(sections);
-        let (mut empty, _) = Park::read_into(lent::book_text(&plain).as_bytes(), room).expect("a book");
+        let (mut empty, _) = Park::read_with(lent::book_text(&plain).as_bytes(), room).expect("a book");
         empty.set_register(&lent::objects(&plain), &lent::links(&plain)).expect("a register");
         inspection(&mut t, &mut empty.clone(), &plain, room);
         for v in visits::broken() {
@@ -271,14 +291,14 @@ fn too_many() -> Tally {
     }
     let text = head + &objects(4) + &lines(3, |n| format!("(link 0 1 {})", n + 1));
     let room = |objects, links| Room { objects, links, pairs: 0 };
-    t.refusal("too few rows for objects", Park::read_into(text.as_bytes(), room(3, 9)), (2, 6));
-    t.refusal("too few rows for links", Park::read_into(text.as_bytes(), room(9, 2)), (2, 9));
-    let (mut park, _) = Park::read_into(text.as_bytes(), room(4, 3)).expect("a text that fits");
+    t.refusal("too few rows for objects", Park::read_with(text.as_bytes(), room(3, 9)), (2, 6));
+    t.refusal("too few rows for links", Park::read_with(text.as_bytes(), room(9, 2)), (2, 9));
+    let (mut park, _) = Park::read_with(text.as_bytes(), room(4, 3)).expect("a text that fits");
     let five: Vec<_> = (1..=5).map(|id| checker::Object { id, type_number: 0, cells: [0; 8] }).collect();
     t.refusal("too few rows for a register", park.set_register(&five, &[]), (2, 0));
     let many = vec![Event::Delete { object: 4 }; 257];
     t.count(park.check(&many));
-    t.agree("too many events", park.check(&many) == Answer::Refused { number: 2, place: 0 } && park.objects().count() == 4);
+    t.agree("too many events", park.check(&many) == Err(refused(2, 0)) && park.objects().count() == 4);
     t
 }
 
@@ -309,7 +329,7 @@ fn floors() -> Tally {
     let below = [1, 0].map(|cell| Event::Set { object: 11, cell, value: -1 });
     t.refusal("the run of a set below a floor", park.run(&below), (15, 1));
     t.count(park.check(&below));
-    t.agree("a set below a floor", park.check(&below) == Answer::Refused { number: 15, place: 1 });
+    t.agree("a set below a floor", park.check(&below) == Err(refused(15, 1)));
     let lowered = |o: checker::Object| checker::Object { cells: std::array::from_fn(|k| if k == 0 { -1 } else { o.cells[k] }), ..o };
     let (objects, links): (Vec<_>, Vec<_>) = (park.objects().map(lowered).collect(), park.links().collect());
     let drive = objects.iter().position(|o| [1, 2].contains(&o.type_number)).expect("a drive");
@@ -319,14 +339,49 @@ fn floors() -> Tally {
     t
 }
 
+// The name of a refusal in the header: CHECKER_TOO_MANY for TooMany.
+fn header_name(number: RefusalNumber) -> String {
+    let letters = |letter: char| if letter.is_uppercase() { format!("_{letter}") } else { letter.to_uppercase().to_string() };
+    format!("CHECKER{}", format!("{number:?}").chars().map(letters).collect::<String>())
+}
+
+// What each refusal says, beside the one list of the sentences; and the versions, of which a program can tell that they differ.
+fn refusals() -> Tally {
+    let mut t = Tally::default();
+    t.agree("the version", checker::version() == checker::CHECKER_VERSION);
+    let table: Vec<Vec<&str>> = include_str!("../bin/refusals.txt").lines().map(|line| line.split('\t').collect()).collect();
+    for row in &table {
+        let [code, counted, sentence] = row[..] else { panic!("three columns") };
+        let number = RefusalNumber::from(code.parse::<u32>().expect("a number"));
+        t.agree("a refusal's name", include_str!("checker.h").contains(&format!("{} = {code}", header_name(number))));
+        for place in [0, 1, 70_000, u32::MAX] {
+            let refusal = Refusal { number, place };
+            let at = if counted == "-" || counted == "line" && place == 0 { String::new() } else { format!(" at {counted} {place}") };
+            let said: Box<dyn std::error::Error> = refusal.into();
+            t.count(Err(refusal));
+            t.agree("what a refusal says", said.to_string() == format!("refused {code}{at}: {sentence}"));
+        }
+    }
+    let named = |code: &u32| RefusalNumber::from(*code) != RefusalNumber::Other(*code);
+    t.agree("the named refusals", (0..100).chain([u32::MAX]).filter(named).eq(1..=table.len() as u32));
+    t.agree("the numbers of refusals", (0..100).chain([u32::MAX]).all(|code| RefusalNumber::from(code).code() == code));
+    t.agree("a number without a name", refused(99, 3).to_string().starts_with("refused 99 at place 3: "));
+    t
+}
+
 fn tests() -> usize {
-    let groups: [(&str, fn() -> Tally); 6] = [
+    let groups: [(&str, fn() -> Tally); 11] = [
         ("visits to drawn parks", drawn_parks),
         ("visits to the largest parks", largest),
         ("damaged texts", damaged_texts),
         ("texts, registers and batches with too much", too_many),
         ("event lists", event_lists),
         ("visits, lists and registers with a floor", floors),
+        ("refusals in words", refusals),
+        ("texts of any bytes", anything::texts),
+        ("registers of any numbers", anything::registers),
+        ("batches of any numbers", anything::batches),
+        ("rooms of any size, and more than any room", anything::rooms),
     ];
     let tallies = groups.map(|(name, group)| {
         let t = group();
