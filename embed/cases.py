@@ -415,14 +415,19 @@ def all_cases():
     yield reading(long_text(65537), refusal=(2, 0))
 
 
-def main():
+def store(name, parts):
+    """A file of words, with a 0 after the last part."""
     out = array.array('I')
     assert out.itemsize == 4
-    for case in all_cases():
-        out.extend(case)
+    for part in parts:
+        out.extend(part)
     out.append(0)
-    with open(sys.argv[1], 'wb') as file:
+    with open(name, 'wb') as file:
         out.tofile(file)
+
+
+def main():
+    store(sys.argv[1], all_cases())
 
 
 if __name__ == '__main__':

@@ -1,4 +1,4 @@
-/* The register checker's entries, for C and C++.
+/* The register checker's entries, for C and C++. park.h has them with all tables in one struct.
  *
  * Every table is the caller's: an array of 32-bit words, rows of a fixed width one after the other, given by its address and its length in
  * words. How many of its rows are used is given beside it; rows past those are not looked at. The columns are in docs/TABLES.md.
@@ -19,8 +19,12 @@
 extern "C" {
 #endif
 
-/* Words of one row. */
-enum {
+/* The version of these entries. Where checker_version() answers another, the archive is not this header's, and nothing else may be called. */
+#define CHECKER_VERSION 1
+uint32_t checker_version(void);
+
+enum { /* one for all, since C++20 has no products of constants of two */
+    /* Words of one row. */
     CHECKER_TYPE_WORDS = 2,
     CHECKER_FLOOR_WORDS = 2, /* type, cell: the cell is at least 0 in objects of the type and of those below it */
     CHECKER_RELATIONSHIP_WORDS = 2,
@@ -29,12 +33,10 @@ enum {
     CHECKER_OBJECT_WORDS = 10,
     CHECKER_LINK_WORDS = 3,
     CHECKER_EVENT_WORDS = 4,
-    CHECKER_PAIR_WORDS = 2,      /* 32-bit words: rule, id */
-    CHECKER_EVENT_TYPE_WORDS = 3 /* 16-bit words: kind, type or relationship, cell or 0 */
-};
+    CHECKER_PAIR_WORDS = 2,       /* 32-bit words: rule, id */
+    CHECKER_EVENT_TYPE_WORDS = 3, /* 16-bit words: kind, type or relationship, cell or 0 */
 
-/* The most rows that can be used. A longer table is lent in vain; a shorter one is refused only where it is too short. */
-enum {
+    /* The most rows that can be used. A longer table is lent in vain; a shorter one is refused only where it is too short. */
     CHECKER_MOST_TYPES = 32,
     CHECKER_MOST_FLOORS = 256,
     CHECKER_MOST_RELATIONSHIPS = 32,
@@ -43,9 +45,22 @@ enum {
     CHECKER_MOST_OBJECTS = 1024,
     CHECKER_MOST_LINKS = 4096,
     CHECKER_MOST_EVENTS = 256,
-    CHECKER_MOST_TEXT = 65536,                                      /* bytes */
-    CHECKER_MOST_PAIRS = CHECKER_MOST_RULES * CHECKER_MOST_OBJECTS, /* so a list of twice as many 32-bit words is never too short */
-    CHECKER_MOST_EVENT_TYPES = 4 * 32 + 32 * 8 + 2 * 32
+    CHECKER_MOST_TEXT = 65536, /* bytes */
+    CHECKER_MOST_PAIRS = CHECKER_MOST_RULES * CHECKER_MOST_OBJECTS,
+    CHECKER_MOST_EVENT_TYPES = 4 * 32 + 32 * 8 + 2 * 32,
+
+    /* The lengths of the largest tables, of lists that are never too short, and of the longest text. */
+    CHECKER_TYPES_LEN = CHECKER_MOST_TYPES * CHECKER_TYPE_WORDS,
+    CHECKER_FLOORS_LEN = CHECKER_MOST_FLOORS * CHECKER_FLOOR_WORDS,
+    CHECKER_RELATIONSHIPS_LEN = CHECKER_MOST_RELATIONSHIPS * CHECKER_RELATIONSHIP_WORDS,
+    CHECKER_RULES_LEN = CHECKER_MOST_RULES * CHECKER_RULE_WORDS,
+    CHECKER_BODIES_LEN = CHECKER_MOST_RULES * CHECKER_BODY_ROWS * CHECKER_BODY_WORDS,
+    CHECKER_OBJECTS_LEN = CHECKER_MOST_OBJECTS * CHECKER_OBJECT_WORDS, /* of its scratch too */
+    CHECKER_LINKS_LEN = CHECKER_MOST_LINKS * CHECKER_LINK_WORDS,       /* of its scratch too */
+    CHECKER_EVENTS_LEN = CHECKER_MOST_EVENTS * CHECKER_EVENT_WORDS,
+    CHECKER_LIST_LEN = CHECKER_MOST_PAIRS * CHECKER_PAIR_WORDS,
+    CHECKER_EVENT_LIST_LEN = CHECKER_MOST_EVENT_TYPES * CHECKER_EVENT_TYPE_WORDS, /* 16-bit words */
+    CHECKER_TEXT_LEN = CHECKER_MOST_TEXT                                          /* bytes */
 };
 
 #define CHECKER_NO_PARENT UINT32_C(0xffffffff) /* the parent of a type that has none */
@@ -85,6 +100,28 @@ enum checker_refusal {
     CHECKER_TOO_SHORT = 14, /* the list or the written text needs more than is lent: 0 */
     CHECKER_BELOW = 15      /* a set puts a cell below its floor, or a special an object: event; checked after 11 */
 };
+
+/* What is wrong, as a sentence without a full stop; those of bin/refusals.txt. Never NULL. */
+static inline const char *checker_refusal_text(uint32_t number) {
+    switch (number) {
+        case CHECKER_FORM: return "a line of the text is not in its form";
+        case CHECKER_TOO_MANY: return "there is more than a limit or the lent rows allow";
+        case CHECKER_SCHEMA: return "a type, a floor or a relationship is wrong";
+        case CHECKER_RULE: return "a rule does not fit the schema, or there is no such rule";
+        case CHECKER_REGISTER: return "an object or a link of the register is wrong";
+        case CHECKER_TABLES: return "a lent table is not whole rows, or a scratch is shorter than its table";
+        case CHECKER_UNKNOWN: return "an event names a kind, type, relationship, cell or id that there cannot be";
+        case CHECKER_ABSENT: return "an event names an object that is not there";
+        case CHECKER_PRESENT: return "an inserted object or a joined link is there already";
+        case CHECKER_NO_LINK: return "a parted link is not there";
+        case CHECKER_NO_FIT: return "a cell, an end or a new type does not fit the object's type";
+        case CHECKER_LINKED: return "a link needs the type that a general would leave";
+        case CHECKER_FULL: return "no row is left for another object or link";
+        case CHECKER_TOO_SHORT: return "the list or the text needs more room than is lent";
+        case CHECKER_BELOW: return "a cell with a floor would go below 0";
+        default: return "no refusal has this number";
+    }
+}
 
 /* Refusals 2, 6, 3, 4 and 5 of a book and a register. Returns a refusal's number times 2^32 plus its place, or 0. */
 uint64_t checker_check(

@@ -1,24 +1,25 @@
-/* Reads a text from standard input, checks its batch and prints the answer. */
-#include "checker.h"
+/* Reads a text from standard input, checks its batch, and prints the answer and the pairs that were looked at. */
+#include "park.h"
 #include <stdio.h>
 
-static uint32_t types[64], floors[512], relationships[64], rules[64], bodies[8192], objects[10240], links[12288], events[1024];
-static uint32_t scratch_objects[10240], scratch_links[12288];
-static uint32_t list[65536];
-static uint8_t text[65537];
-
-#define TABLE(t) t, sizeof t / sizeof *t
+static struct park park;
+static uint8_t text[CHECKER_TEXT_LEN + 1]; /* with a byte more, a text that is too long is refused and not cut */
 
 int main(void) {
-    uint32_t n[8], a[6];
     size_t bytes = fread(text, 1, sizeof text, stdin);
-    checker_read(text, bytes, TABLE(types), TABLE(floors), TABLE(relationships), TABLE(rules), TABLE(bodies), TABLE(objects), TABLE(links),
-                 TABLE(events), n);
-    if (n[0] != CHECKER_DONE) return printf("answer refused %u %u\n", n[1], n[2]), CHECKER_REFUSED;
-    checker_batch(n[1], n[2], n[3], n[4], n[5], n[6], n[7], TABLE(types), TABLE(floors), TABLE(relationships), TABLE(rules), TABLE(bodies),
-                  TABLE(objects), TABLE(links), TABLE(events), TABLE(scratch_objects), TABLE(scratch_links), TABLE(list), a);
-    if (a[0] == CHECKER_ACCEPTED) puts("answer accepted");
-    else printf("answer %s %u %u\n", a[0] == CHECKER_BROKEN ? "broken" : "refused", a[1], a[2]);
-    for (uint32_t i = 0; i < a[3]; i++) printf("pair %u %u\n", list[2 * i], list[2 * i + 1]);
-    return (int)a[0];
+    if (ferror(stdin)) return fputs("standard input cannot be read\n", stderr), 66;
+    if (bytes == 0) return fputs("standard input is empty: nothing to check\n", stderr), 65;
+
+    struct park_answer answer = park_read(&park, text, bytes);
+    if (answer.kind == PARK_DONE) answer = park_check(&park);
+
+    if (answer.kind == PARK_ACCEPTED) puts("answer accepted");
+    else if (answer.kind == PARK_BROKEN) printf("answer broken %u %u\n", answer.rule, answer.object);
+    else {
+        printf("answer refused %u %u\n", answer.number, answer.place);
+        fprintf(stderr, "refused: %s\n", checker_refusal_text(answer.number));
+    }
+    for (uint32_t i = 0; i < park.pairs; i++) printf("pair %u %u\n", park.list[2 * i], park.list[2 * i + 1]);
+    if (fflush(stdout) || ferror(stdout)) return fputs("the answer cannot be written\n", stderr), 74;
+    return (int)answer.kind;
 }

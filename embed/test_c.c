@@ -1,4 +1,5 @@
-/* The entries as a C program calls them, beside a plain reading: test_c FILE runs the cases that cases.py wrote to FILE.
+/* The entries as a C program calls them, beside a plain reading: test_c FILE REFUSALS runs the cases that cases.py wrote to FILE, and
+ * compares the refusals' sentences with those of REFUSALS, which is bin/refusals.txt.
  * Every table that a call may write has exactly the words that are lent, with a guard word after them. */
 #include "checker.h"
 #include <stdio.h>
@@ -183,7 +184,7 @@ static void test_read(void) {
     int refused = expected.words[0] != CHECKER_DONE;
     for (int i = 0; i < TABLES; i++) agree_read(s->t[i], refused);
     readings++;
-    readings_refused += refused;
+    if (refused) readings_refused++;
     free(bytes);
 }
 
@@ -198,8 +199,29 @@ static uint32_t *file_words(const char *name) {
     return out;
 }
 
+/* Each line of the file is a number, what its place counts, and the sentence; every other number has the sentence of none. */
+static void test_refusal_texts(const char *name) {
+    FILE *file = fopen(name, "r");
+    if (!file) exit(2);
+    char line[256];
+    uint32_t number = 0;
+    const char *none = checker_refusal_text(number);
+    while (fgets(line, sizeof line, file)) {
+        line[strcspn(line, "\n")] = '\0';
+        const char *sentence = strrchr(line, '\t');
+        int same = sentence && strtoul(line, NULL, 10) == ++number && strcmp(checker_refusal_text(number), sentence + 1) == 0;
+        agree("the sentence of a refusal", same && strcmp(sentence + 1, none) != 0);
+    }
+    fclose(file);
+    agree("how many refusals have a sentence", number == CHECKER_BELOW);
+    for (uint32_t other = number + 1; other != 0; other = other < 1000 ? other + 1 : 2 * other)
+        agree("the sentence of no refusal", strcmp(checker_refusal_text(other), none) == 0);
+}
+
 int main(int count, char **arguments) {
-    if (count != 2) return 2;
+    if (count != 3) return 2;
+    agree("the version", checker_version() == CHECKER_VERSION);
+    test_refusal_texts(arguments[2]);
     uint32_t *file = at = file_words(arguments[1]);
     for (uint32_t kind; (kind = next()) != 0; cases++) {
         if (kind == 1) test_tables();
@@ -209,6 +231,6 @@ int main(int count, char **arguments) {
     printf("%u cases from C\n", cases);
     printf("  %u of tables: %u accepted, %u broken, %u refused\n", cases - readings, answers[0], answers[1], answers[2]);
     printf("  %u of texts: %u read, %u refused\n", readings, readings - readings_refused, readings_refused);
-    printf("  disagreements in answers, lists, tables or texts: %u\n", disagreements);
+    printf("  disagreements in version, sentences, answers, lists, tables or texts: %u\n", disagreements);
     return disagreements ? 1 : 0;
 }
