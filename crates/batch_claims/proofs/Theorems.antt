@@ -32,7 +32,7 @@ use Rattle.events.specs.Runs.{lentBy}
 use Rattle.full.specs.Answers.{lentAnswer}
 use Rattle.pair_list.specs.Pairs.{pairWords}
 use Rattle.batch.specs.Checked.{lentOutcome, tableAfter}
-use Rattle.batch_claims.specs.Claims.{Call, Promised, InspectionIsNoEvents, NotRefused, bookIn, before, end, change, listed, AsLent, ListNamesSelected, InspectionListsEveryPair, UntouchedHasNoPair, BrokenIsFirstListed, ElseAccepted, AgreesWithFullCheck, InspectionAgreesWithFullCheck, NothingPassedOver, AcceptedLeavesEnd, BrokenLeavesBefore, RefusedLeavesAll}
+use Rattle.batch_claims.specs.Claims.{Call, Promised, Demand3, InspectionIsNoEvents, NotRefused, bookIn, before, end, change, listed, AsLent, ListNamesSelected, InspectionListsEveryPair, UntouchedHasNoPair, BrokenIsFirstListed, ElseAccepted, AgreesWithFullCheck, InspectionAgreesWithFullCheck, NothingPassedOver, AcceptedLeavesEnd, BrokenLeavesBefore, RefusedLeavesAll}
 
 module _ (d : Call) where
   abbrev lent : Lent
@@ -227,3 +227,21 @@ refused-leaves-all d p number place e =
       p .list-is ∙ ap (λ ps. inFront (pairWords ps) (d .list)) (left .0),
       p .pairs-are ∙ ap length (left .0),
     )
+
+-- ---- all of it
+
+pub demand-3 : (d : Call) → Promised d → Demand3 d
+demand-3 d p =
+    record {
+      list-names-selected = list-names-selected d p;
+      inspection-lists-every-pair = inspection-lists-every-pair d p;
+      untouched-has-no-pair = untouched-has-no-pair d p;
+      broken-is-first-listed = broken-is-first-listed d p;
+      else-accepted = else-accepted d p;
+      agrees-with-full-check = agrees-with-full-check d p;
+      inspection-agrees-with-full-check = inspection-agrees-with-full-check d p;
+      nothing-passed-over = nothing-passed-over d p;
+      accepted-leaves-end = accepted-leaves-end d p;
+      broken-leaves-before = broken-leaves-before d p;
+      refused-leaves-all = refused-leaves-all d p;
+    }

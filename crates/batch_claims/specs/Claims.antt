@@ -1,5 +1,5 @@
 -- Demand 3, sentence by sentence, and what demand 1 says of a refusal, of a call of `batch::check`: for every lent table, by what the call says (r) and leaves
--- (list′, objects′, links′). `proofs/Theorems` has one proof for each claim. They rest on the function's promise alone.
+-- (list′, objects′, links′). `proofs/Theorems` has one proof for each claim. They rest on the function's promise alone, and `check` here calls it and promises them.
 use Prim.Native.Nat.{ℕ}
 use mathlib.Core.Path.{_≡_}
 use mathlib.Core.Logic.{_↔_}
@@ -78,82 +78,127 @@ ForEach claim = (d : Call) → Promised d → NotRefused d → claim d
 
 -- "the batch check's list names a pair exactly when document 01's reach rules select it, each once, ascending": the words at the front of the lent list are
 -- those of these pairs, the others are as they were, and the call says how many pairs there are.
-abbrev pub ListNamesSelected : Type 0
-ListNamesSelected =
-    ForEach
-    (λ d. (d .list′ ≡ inFront (pairWords (listed d)) (d .list))
+abbrev pub NamesSelected : Call → Type 0
+NamesSelected d =
+    (d .list′ ≡ inFront (pairWords (listed d)) (d .list))
     × (d .r .pairs ≡ length (listed d))
     × Ascending (Before pairKey) (listed d)
-    × ((p : Pair) → (p ∈ listed d) ↔ T (pairSelected (bookIn d) (change d) p)))
+    × ((p : Pair) → (p ∈ listed d) ↔ T (pairSelected (bookIn d) (change d) p))
+
+abbrev pub ListNamesSelected : Type 0
+ListNamesSelected = ForEach NamesSelected
 
 -- Req 08: "A batch without events selects every pair of rule and object of its context type."
+abbrev pub InspectionNamesAll : Call → Type 0
+InspectionNamesAll d =
+    T (inspection (change d)) → listed d ≡ contextPairs (bookIn d) (before d)
+
 abbrev pub InspectionListsEveryPair : Type 0
-InspectionListsEveryPair = ForEach (λ d. T (inspection (change d)) → listed d ≡ contextPairs (bookIn d) (before d))
+InspectionListsEveryPair = ForEach InspectionNamesAll
 
 -- "a rule none of whose listed event types occurs has no pair"; Req 08: "only for other batches" than an inspection
+abbrev pub NoneUntouched : Call → Type 0
+NoneUntouched d =
+    T (not (inspection (change d))) → (n : ℕ) (r : Rule) → getElem? ((bookIn d) .rules) n ≡ some r → T (not (touched (change d) r)) → (p : Pair) → p ∈ listed d → p .rule ≡ n → ⊥
+
 abbrev pub UntouchedHasNoPair : Type 0
-UntouchedHasNoPair =
-    ForEach (λ d. T (not (inspection (change d))) → (n : ℕ) (r : Rule) → getElem? ((bookIn d) .rules) n ≡ some r → T (not (touched (change d) r)) → (p : Pair) → p ∈ listed d → p .rule ≡ n → ⊥)
+UntouchedHasNoPair = ForEach NoneUntouched
 
 -- ---- the answer
 
 -- "The batch check's answer comes from the listed pairs alone, the first of them broken after the batch": a pair exactly when it is listed and broken
 -- there, and none listed before it is.
-abbrev pub BrokenIsFirstListed : Type 0
-BrokenIsFirstListed =
-    ForEach
-    (λ d. (p : Pair)
+abbrev pub FirstListed : Call → Type 0
+FirstListed d =
+    (p : Pair)
     → (d .r .answer ≡ Broken (p .rule) (p .id))
-    ↔ (p ∈ listed d × T (pairBroken (bookIn d) (end d) p) × ((q : Pair) → q ∈ listed d → Before pairKey q p → T (not (pairBroken (bookIn d) (end d) q)))))
+    ↔ (p ∈ listed d × T (pairBroken (bookIn d) (end d) p) × ((q : Pair) → q ∈ listed d → Before pairKey q p → T (not (pairBroken (bookIn d) (end d) q))))
+
+abbrev pub BrokenIsFirstListed : Type 0
+BrokenIsFirstListed = ForEach FirstListed
 
 -- "else accepted, whatever held before"
+abbrev pub AcceptedElse : Call → Type 0
+AcceptedElse d =
+    (d .r .answer ≡ Accepted) ↔ ((p : Pair) → p ∈ listed d → T (not (pairBroken (bookIn d) (end d) p)))
+
 abbrev pub ElseAccepted : Type 0
-ElseAccepted = ForEach (λ d. (d .r .answer ≡ Accepted) ↔ ((p : Pair) → p ∈ listed d → T (not (pairBroken (bookIn d) (end d) p))))
+ElseAccepted = ForEach AcceptedElse
 
 -- "If every rule holds in the register before the batch, the batch check's answer is that of a full check of the register after the batch": of whatever
 -- tables that hold the same book and that register, and are not refused as tables; by the promise of `full::check`.
-abbrev pub AgreesWithFullCheck : Type 0
-AgreesWithFullCheck =
-    ForEach
-    (λ d. T (bookHolds (bookIn d) (before d))
+abbrev pub Agrees : Call → Type 0
+Agrees d =
+    T (bookHolds (bookIn d) (before d))
     → (n : Counts) (s : Sheet) → bookOf n s ≡ bookIn d → registerIn n s ≡ end d → tableRefusal bookTables n s false ≡ none
-    → d .r .answer ≡ answerOf (lentAnswer n s))
+    → d .r .answer ≡ answerOf (lentAnswer n s)
+
+abbrev pub AgreesWithFullCheck : Type 0
+AgreesWithFullCheck = ForEach Agrees
 
 -- Req 08: for an inspection "the agreement with the full check needs no earlier good state": of whatever tables that hold the same book and the register as it
 -- was lent, the same tables among them.
-abbrev pub InspectionAgreesWithFullCheck : Type 0
-InspectionAgreesWithFullCheck =
-    ForEach
-    (λ d. T (inspection (change d))
+abbrev pub InspectionAgrees : Call → Type 0
+InspectionAgrees d =
+    T (inspection (change d))
     → (n : Counts) (s : Sheet) → bookOf n s ≡ bookIn d → registerIn n s ≡ before d → tableRefusal bookTables n s false ≡ none
-    → d .r .answer ≡ answerOf (lentAnswer n s))
+    → d .r .answer ≡ answerOf (lentAnswer n s)
+
+abbrev pub InspectionAgreesWithFullCheck : Type 0
+InspectionAgreesWithFullCheck = ForEach InspectionAgrees
 
 -- What is passed over was broken before: a pair that is broken at the end and not listed.
+abbrev pub NonePassedOver : Call → Type 0
+NonePassedOver d =
+    (p : Pair) → T (pairBroken (bookIn d) (end d) p) → (p ∈ listed d → ⊥) → T (pairBroken (bookIn d) (before d) p)
+
 abbrev pub NothingPassedOver : Type 0
-NothingPassedOver =
-    ForEach (λ d. (p : Pair) → T (pairBroken (bookIn d) (end d) p) → (p ∈ listed d → ⊥) → T (pairBroken (bookIn d) (before d) p))
+NothingPassedOver = ForEach NonePassedOver
 
 -- ---- what is left
 
 -- "An accepted batch leaves that register": the words of its objects and links, and zeros past them, and its counts.
-abbrev pub AcceptedLeavesEnd : Type 0
-AcceptedLeavesEnd =
-    ForEach
-    (λ d. d .r .answer ≡ Accepted
+abbrev pub LeavesEnd : Call → Type 0
+LeavesEnd d =
+    d .r .answer ≡ Accepted
     → (d .objects′ ≡ padded (length (d .s .objects)) (flatMap objectWords ((end d) .objects)))
     × (d .links′ ≡ padded (length (d .s .links)) (flatMap linkWords ((end d) .links)))
     × (d .r .objects ≡ length ((end d) .objects))
-    × (d .r .links ≡ length ((end d) .links)))
+    × (d .r .links ≡ length ((end d) .links))
+
+abbrev pub AcceptedLeavesEnd : Type 0
+AcceptedLeavesEnd = ForEach LeavesEnd
 
 -- the register's tables and their counts as they were lent
 abbrev pub AsLent : Call → Type 0
 AsLent d = (d .objects′ ≡ d .s .objects) × (d .links′ ≡ d .s .links) × (d .r .objects ≡ d .n .objects) × (d .r .links ≡ d .n .links)
 
 -- "a broken one leaves the register as before it"
+abbrev pub LeavesBefore : Call → Type 0
+LeavesBefore d =
+    (rule id : ℕ) → d .r .answer ≡ Broken rule id → AsLent d
+
 abbrev pub BrokenLeavesBefore : Type 0
-BrokenLeavesBefore = ForEach (λ d. (rule id : ℕ) → d .r .answer ≡ Broken rule id → AsLent d)
+BrokenLeavesBefore = ForEach LeavesBefore
 
 -- Demand 1: "the register and the list untouched by a refusal"
+abbrev pub LeavesAll : Call → Type 0
+LeavesAll d = (number place : ℕ) → d .r .answer ≡ Refused number place → AsLent d × (d .list′ ≡ d .list) × (d .r .pairs ≡ 0)
+
 abbrev pub RefusedLeavesAll : Type 0
-RefusedLeavesAll =
-    (d : Call) → Promised d → (number place : ℕ) → d .r .answer ≡ Refused number place → AsLent d × (d .list′ ≡ d .list) × (d .r .pairs ≡ 0)
+RefusedLeavesAll = (d : Call) → Promised d → LeavesAll d
+
+-- ---- all of it, of one call: what `check` promises
+
+pub record Demand3 (d : Call) : Type 0 where
+  pub list-names-selected : NotRefused d → NamesSelected d
+  pub inspection-lists-every-pair : NotRefused d → InspectionNamesAll d
+  pub untouched-has-no-pair : NotRefused d → NoneUntouched d
+  pub broken-is-first-listed : NotRefused d → FirstListed d
+  pub else-accepted : NotRefused d → AcceptedElse d
+  pub agrees-with-full-check : NotRefused d → Agrees d
+  pub inspection-agrees-with-full-check : NotRefused d → InspectionAgrees d
+  pub nothing-passed-over : NotRefused d → NonePassedOver d
+  pub accepted-leaves-end : NotRefused d → LeavesEnd d
+  pub broken-leaves-before : NotRefused d → LeavesBefore d
+  pub refused-leaves-all : LeavesAll d
