@@ -1,8 +1,8 @@
 -- What a run answers: its verdict, and of a batch that is not refused the type at each event's place, and what its losses say.
-use Prim.Native.Nat.{ℕ, suc, _+_, _*_, _-_, _≤_, _<_}
+use Prim.Native.Nat.{ℕ, _+_, _*_, _-_, _≤_, _<_}
 use mathlib.Core.Path.{_≡_, refl, sym, ap, ap₂, subst, _∙_}
-use mathlib.Core.Bool.{Bool, _||_}
-use mathlib.Core.List.{List, [], _∷_, _++_, map, flatMap, List·Memᴰ·head, List·Memᴰ·tail}
+use mathlib.Core.Bool.{_||_}
+use mathlib.Core.List.{List, [], _∷_, map, flatMap, List·Memᴰ·head, List·Memᴰ·tail}
 use mathlib.Core.Option.{Option, none, some}
 use native.Mathlib.Nat.{zero-add}
 use native.Mathlib.Omega.{arith}
@@ -14,7 +14,7 @@ use Rattle.meaning.specs.Lists.{any, every, _∈_}
 use Rattle.meaning.specs.Limits.{maxEvents, maxRelationships}
 use Rattle.meaning.specs.Schema.{Schema, knownRelationship}
 use Rattle.meaning.specs.Register.{Link, Register}
-use Rattle.meaning.specs.Events.{Event, Lent, Refusal, after, batchRefusal}
+use Rattle.meaning.specs.Events.{Event, Lent, Refusal, batchRefusal}
 use Rattle.meaning.specs.Reach.{Step, stepsOf, taken}
 use Rattle.meaning.proofs.Lists.{every-append}
 use Rattle.meaning.proofs.Schemas.{TypesFit}
@@ -24,7 +24,7 @@ use Rattle.tables.specs.Losses.{lostIn, LossesLow}
 use Rattle.tables.specs.Met.{noType, metBy}
 use Rattle.tables.specs.Refusals.{verdictOf}
 use Rattle.tables.specs.declared.Verdict.{Verdict}
-use Rattle.tables.specs.declared.Verdict.the-variants.{Clear, Refused}
+use Rattle.tables.specs.declared.Verdict.the-variants.{Refused}
 use Rattle.event_effects.specs.Losses.{Loss, lossWords, lostAt, lossesBy}
 use Rattle.event_effects.specs.Effects.{lossRows}
 use Rattle.event_effects.proofs.Losses.{isLoss, lowLoss, any-append, lost-taken, low-taken, words-long, table-lost, table-low}

@@ -1,17 +1,17 @@
 -- The losses of a batch before each of its events: those of the deletes before it are written, those of the others are still to come.
 use Prim.Native.Nat.{ℕ, suc, _+_, _*_, _-_, _≤_, _<_}
-use mathlib.Core.Path.{_≡_, refl, sym, ap, subst, _∙_}
+use mathlib.Core.Path.{_≡_, sym, ap, _∙_}
 use mathlib.Core.List.{List, [], _∷_, _++_, flatMap, append-assoc, append-nil}
 use native.Mathlib.Nat.{zero-add, sub-zero}
 use native.Mathlib.Numerals.{add-one}
 use native.Mathlib.Omega.{arith}
-use lib.ListN.{length, take, drop, replicate, length-replicate, replicate-append-replicate}
+use lib.ListN.{length, drop, replicate, length-replicate, replicate-append-replicate}
 use lib.Seq.{sets, sets-eq, drop-at}
 use Rattle.meaning.specs.Limits.{maxLinks, maxEvents}
 use Rattle.meaning.specs.Schema.{Schema}
 use Rattle.meaning.specs.Register.{Register}
 use Rattle.meaning.specs.Events.{Event, apply}
-use Rattle.meaning.specs.Reach.{stepAt, stepsOf}
+use Rattle.meaning.specs.Reach.{stepsOf}
 use Rattle.rows.specs.Rows.{rowsFrom, readRows, padded}
 use Rattle.tables.specs.Columns.{registerOf}
 use Rattle.event_effects.specs.Losses.{Loss, lossWords, lostAt, lossesBy}

@@ -1,5 +1,5 @@
 -- The words of a run, and the two tables that it leaves, are what their definitions say.
-use Prim.Native.Nat.{ℕ, _*_, _-_, _≤_, _<_}
+use Prim.Native.Nat.{ℕ, _*_, _-_, _≤_}
 use mathlib.Core.Path.{_≡_, refl, sym, ap, ap₂, _∙_}
 use mathlib.Core.List.{List, _++_, flatMap}
 use mathlib.Core.Option.{Option, none, some}
@@ -15,7 +15,6 @@ use Rattle.tables.specs.Columns.{objectRow, linkRow, bookOf, registerIn, batchI
 use Rattle.tables.specs.Refusals.{verdictOf}
 use Rattle.tables.specs.Words.{objectWords, linkWords}
 use Rattle.tables.specs.declared.Counts.{Counts}
-use Rattle.tables.specs.declared.Verdict.the-variants.{Clear}
 use Rattle.tables.proofs.Determined.{Words, object-back, link-back}
 use Rattle.events.specs.declared.Ran.{Ran}
 use Rattle.events.specs.Runs.{lentBy, ranOver, ranBy, RunLeft}
