@@ -7,6 +7,7 @@ use mathlib.Core.Option.{none}
 use native.Mathlib.Omega.{arith}
 use lib.Dec.{T}
 use lib.ListN.{length}
+use Rattle.meaning.specs.Lists.{firstOf}
 use Rattle.meaning.specs.Limits.{maxTypes}
 use Rattle.meaning.specs.Register.{Register}
 use Rattle.meaning.specs.Forms.{Book}
@@ -24,9 +25,11 @@ use Rattle.tables.specs.Refusals.{refusalOf}
 use Rattle.tables.specs.declared.Counts.{Counts}
 use Rattle.checks.specs.Given.{Given, EventsLent}
 use Rattle.checks.proofs.Given.{given-all, typed, cells}
-use Rattle.events.specs.Runs.{lentBy, RunLeft}
-use Rattle.lent_run.specs.Lent.{scratchShort}
-use Rattle.trace.proofs.Runs.{seen, met-low, lost-by}
+use Rattle.events.specs.declared.Ran.{Ran}
+use Rattle.events.specs.Runs.{lentBy, ranBy, RunLeft}
+use Rattle.events.proofs.Answers.{losses-few}
+use Rattle.lent_run.specs.Lent.{scratchShort, eventsMeet, runRefusal}
+use Rattle.trace.proofs.Runs.{seen, met-low, low-losses, lost-by}
 use Rattle.batch_selection.specs.Ended.{Ended}
 use Rattle.batch.proofs.Outcomes.{Unrefused, batch-same}
 
@@ -39,8 +42,8 @@ countsWith n objects links =
 abbrev pub sheetWith : Sheet → List ℕ → List ℕ → List ℕ → Sheet
 sheetWith s objects links events = sheetOf (s .types) (s .floors) (s .relationships) (s .rules) (s .bodies) objects links events
 
-module _ (n : Counts) (s : Sheet) (scratchObjects scratchLinks : List ℕ) (words : ℕ) (u : Unrefused n s scratchObjects scratchLinks words) {m l : ℕ} {objects links met losses : List ℕ} {lost : ℕ}
-    (left : RunLeft ((bookOf n s) .schema) (lentBy (s .objects) (s .links) 0) (registerIn n s) (batchIn n s) m objects l links met lost losses) where
+module _ (n : Counts) (s : Sheet) (scratchObjects scratchLinks : List ℕ) (words : ℕ) (u : Unrefused n s scratchObjects scratchLinks words) {m l : ℕ} {objects links : List ℕ}
+    (left : RunLeft ((bookOf n s) .schema) (lentBy (s .objects) (s .links) 0) (registerIn n s) (batchIn n s) m objects l links) where
   abbrev k : Book
   k = bookOf n s
 
@@ -94,15 +97,18 @@ module _ (n : Counts) (s : Sheet) (scratchObjects scratchLinks : List ℕ) (word
   fits : RegisterFits (k .schema) g
   fits = checked k g (u .contents) .register
 
-  pub ended : Ended c (countsWith n m l) (sheetWith s objects links (s .events)) met lost losses
-  ended =
+  pub ended : {ran : Ran} → ran ≡ ranBy (runRefusal n s scratchObjects scratchLinks) (k .schema) g (batchIn n s)
+      → Ended c (countsWith n m l) (sheetWith s objects links (s .events)) (ran .met) (ran .held .losses) (ran .losses)
+  unfolding runRefusal
+  ended ran-is =
+      let is = ran-is ∙ ap (λ o. ranBy o (k .schema) g (batchIn n s)) (ap (λ o. firstOf o (eventsMeet n s)) lower ∙ taken) in
       record {
-        seen = seen (countsWith n m l) (s .types) objects links (s .events) met lost losses left fits taken few-types refl refl (known .1 .few-events);
+        seen = seen (countsWith n m l) (s .types) objects links (s .events) is left fits taken few-types refl refl (known .1 .few-events);
         schema-is = refl;
-        met-low = met-low (countsWith n m l) (s .types) objects links (s .events) met lost losses left fits taken few-types refl refl (known .1 .few-events);
-        losses-few = left .losses-few;
-        losses-low = left .losses-low;
-        lost = lost-by (countsWith n m l) (s .types) objects links (s .events) met lost losses left fits taken few-types refl refl (known .1 .few-events);
+        met-low = met-low (countsWith n m l) (s .types) objects links (s .events) is left fits taken few-types refl refl (known .1 .few-events);
+        losses-few = losses-few (k .schema) g (batchIn n s) is (left .losses-few);
+        losses-low = low-losses (countsWith n m l) (s .types) objects links (s .events) is left fits taken few-types refl refl (known .1 .few-events);
+        lost = lost-by (countsWith n m l) (s .types) objects links (s .events) is left fits taken few-types refl refl (known .1 .few-events);
         untouched = λ i h e id.
             let r = ruleRow (s .rules) (s .bodies) i in
             so-false (eventsSelect c r id)

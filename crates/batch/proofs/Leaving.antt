@@ -89,8 +89,8 @@ unfolding outcomeUnless outcomeOf registerLeft
 register-is k g c none = refl
 register-is k g c (some r) = refl
 
-module _ (n : Counts) (s : Sheet) (scratchObjects scratchLinks list : List ℕ) (u : Unrefused n s scratchObjects scratchLinks (length list)) (now : Counts) {objects links met losses : List ℕ} {lost : ℕ}
-    (left : RunLeft ((bookOf n s) .schema) (lentBy (s .objects) (s .links) 0) (registerIn n s) (batchIn n s) (now .objects) objects (now .links) links met lost losses) (words : Words objects) where
+module _ (n : Counts) (s : Sheet) (scratchObjects scratchLinks list : List ℕ) (u : Unrefused n s scratchObjects scratchLinks (length list)) (now : Counts) {objects links : List ℕ}
+    (left : RunLeft ((bookOf n s) .schema) (lentBy (s .objects) (s .links) 0) (registerIn n s) (batchIn n s) (now .objects) objects (now .links) links) (words : Words objects) where
   abbrev k : Book
   k = bookOf n s
 

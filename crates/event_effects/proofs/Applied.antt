@@ -2,7 +2,7 @@
 use Prim.Native.Nat.{ℕ, suc, _+_, _*_, _-_, _≤_, _<_}
 use mathlib.Core.Path.{_≡_, refl, sym, ap, subst, _∙_}
 use mathlib.Core.Logic.{⊎-elim}
-use mathlib.Core.Bool.{Bool, false, not, cond}
+use mathlib.Core.Bool.{Bool, not, cond}
 use mathlib.Core.List.{List, [], _∷_, _++_, map}
 use mathlib.Core.Option.{some}
 use native.Mathlib.Nat.{le-trans, zero-add}
@@ -17,7 +17,6 @@ use Rattle.meaning.specs.Limits.{cellCount}
 use Rattle.meaning.specs.Schema.{Schema, cellsOf}
 use Rattle.meaning.specs.Register.{Object, Link, Register, objectKey, linkKey, sameLink}
 use Rattle.meaning.specs.Events.{Event, amended, insert, delete, set, join, part, special, general, linkOf, newObject, withCell, withType, withHigherType, apply}
-use Rattle.meaning.specs.Reach.{stepAt, taken}
 use Rattle.meaning.proofs.Lists.{decide, length-keep}
 use Rattle.meaning.proofs.Order.{same-list-eq, same-list-refl, length-put}
 use Rattle.rows.specs.Rows.{wordAt, readRows, signed, zeroPast, withWord, withoutColumns, withoutRow}
@@ -30,7 +29,8 @@ use Rattle.schema.proofs.Rows.{length-rows}
 use Rattle.register.specs.Tables.{objectsWith, linksWith, objectPlace, linkPlace}
 use Rattle.register.proofs.Hits.{hit-some}
 use Rattle.register.proofs.Changes.{ByWords, row-put-in, row-taken-out, row-changed, missed-all}
-use Rattle.event_effects.specs.Effects.{Applied, ObjectsApplied, LinksApplied, LossesKept, CanInsert, CanChange, CanJoin, CanPart}
+use Rattle.event_effects.specs.Losses.{lostAt}
+use Rattle.event_effects.specs.Effects.{Applied, ObjectsApplied, LinksApplied, LossesAdded, LossesKept, CanInsert, CanChange, CanJoin, CanPart}
 use Rattle.event_effects.proofs.Losses.{none-added}
 
 -- ---- rows by their words
@@ -319,8 +319,8 @@ unfolding apply
 parted-few {x = x} {y = y} {z = z} {m = m} {links = links} done =
     omega (arith, links-after done, length-keep (λ l. not (sameLink (linkOf x y z) l)) (readRows (linkRow links) m), length-rows (linkRow links) m)
 
-pub losses-stay : (g : Register) (e : Event) {m k : ℕ} {losses : List ℕ} {m′ : ℕ} → ((r u : ℕ) → taken r u (stepAt g e) ≡ false) → m′ ≤ m + 1 → LossesKept g e m k losses m′ k losses
-losses-stay g e nothing few = record { added = none-added nothing; grown = omega arith }
+pub losses-stay : (g : Register) (e : Event) {m k : ℕ} {losses : List ℕ} {m′ : ℕ} → lostAt g e ≡ [] → m′ ≤ m + 1 → LossesKept g e m k losses m′ k losses
+losses-stay g e {k = k} {losses = losses} nothing few = record { added = subst (λ more. LossesAdded more k losses k losses) (sym nothing) none-added; grown = omega arith }
 
 -- the same of an event that is another's name
 pub as-applied : {S : Schema} {n : ℕ} {objects : List ℕ} {m : ℕ} {links : List ℕ} {n′ : ℕ} {objects′ : List ℕ} {m′ : ℕ} {links′ : List ℕ} {e d : Event}

@@ -2,8 +2,8 @@
 use Prim.Native.Nat.{ℕ, zero, suc, _+_, _*_, _-_, _≤_, _<_}
 use mathlib.Core.Path.{_≡_, refl, sym, ap, ap₂, subst, _∙_}
 use mathlib.Core.Logic.{⊎-elim}
-use mathlib.Core.Bool.{Bool, true, false, _||_, not, cond, or-false, or-assoc}
-use mathlib.Core.List.{List, [], _∷_, _++_, append-nil}
+use mathlib.Core.Bool.{Bool, true, false, not, cond}
+use mathlib.Core.List.{List, [], _∷_, _++_, flatMap, append-nil}
 use native.Mathlib.Nat.{add-zero, zero-add, add-suc, suc-add, sub-zero, le-refl}
 use native.Mathlib.Numerals.{add-one}
 use native.Mathlib.Omega.{arith}
@@ -11,11 +11,10 @@ use lib.Dec.{T, ltb}
 use lib.ListN.{length, getD, take, drop, replicate, length-replicate, getD-replicate, take-append-drop}
 use lib.Seq.{take-add}
 use mir.Facts.{ltb-yes, ltb-no}
-use Rattle.meaning.specs.Lists.{any, keep}
+use Rattle.meaning.specs.Lists.{keep}
 use Rattle.meaning.specs.Schema.{Schema}
 use Rattle.meaning.specs.Register.{Link, linkKey}
 use Rattle.meaning.specs.Events.{delete, endsAt, apply}
-use Rattle.meaning.specs.Reach.{leadsTo}
 use Rattle.meaning.proofs.Lists.{decide}
 use Rattle.rows.specs.Rows.{rowsFrom, readRows, withRow, zeroPast, clearedPast}
 use Rattle.rows.proofs.Fronts.{row-put, words-from}
@@ -24,9 +23,10 @@ use Rattle.rows.proofs.Moves.{framed, framed-length, framed-front, framed-first
 use Rattle.rows.proofs.Offsets.{row-before}
 use Rattle.rows.proofs.Zeros.{zero-past, past-zero}
 use Rattle.tables.specs.Columns.{linkRow}
+use Rattle.event_effects.specs.Losses.{Loss, lossOf, lossesOf}
 use Rattle.event_effects.specs.Effects.{LinksApplied, LossesAdded, CanLose, CanTake}
 use Rattle.event_effects.proofs.Applied.{link-by-words}
-use Rattle.event_effects.proofs.Losses.{none-added, both-added, as-added, stays-unlost}
+use Rattle.event_effects.proofs.Losses.{loss-few, flat-append, none-added, both-added, added-long}
 
 -- ---- a list with one element more
 
@@ -38,10 +38,6 @@ module _ {A : Type 0} where
 
   row-more : (read : ℕ → A) (n : ℕ) → readRows read (n + 1) ≡ readRows read n ++ read n ∷ []
   row-more read n = ap (readRows read) (add-one n) ∙ rows-last read 0 n ∙ ap (λ k. readRows read n ++ read k ∷ []) (zero-add n)
-
-  any-last : (p : A → Bool) (l : List A) (x : A) → any p (l ++ x ∷ []) ≡ (any p l || p x)
-  any-last p [] x = or-false (p x)
-  any-last p (y ∷ l) x = ap (λ b. p y || b) (any-last p l x) ∙ sym (or-assoc (p y) (any p l) (p x))
 
   keep-last : (p : A → Bool) (l : List A) (x : A) → keep p (l ++ x ∷ []) ≡ keep p l ++ cond (p x) (x ∷ []) []
   keep-last p [] x = refl
@@ -107,9 +103,6 @@ module _ (id count : ℕ) (links : List ℕ) (k : ℕ) (losses : List ℕ) where
   abbrev stays : Link → Bool
   stays l = not (endsAt id l)
 
-  abbrev lostOf : List Link → ℕ → ℕ → Bool
-  lostOf ls r u = any (leadsTo r u id) ls
-
   -- Before a row: those before it that stay are in front, in their order, and those that go have left their losses.
   pub record Passing (links′ losses′ : List ℕ) (lost kept row : ℕ) : Type 0 where
     pub within : row ≤ count
@@ -117,10 +110,11 @@ module _ (id count : ℕ) (links : List ℕ) (k : ℕ) (losses : List ℕ) where
     pub front : readRows (linkRow links′) kept ≡ keep stays (readRows read row)
     pub rest : (i : ℕ) → row * 3 ≤ i → getD links′ i 0 ≡ getD links i 0
     pub long : length links′ ≡ length links
-    pub added : LossesAdded (lostOf (readRows read row)) k losses lost losses′
+    pub added : LossesAdded (lossesOf id (readRows read row)) k losses lost losses′
     pub few : lost + kept ≤ k + row
 
   pub passing-none : Passing links losses k 0 0
+  unfolding lossesOf flatMap
   passing-none =
       record {
         within = omega arith;
@@ -128,9 +122,12 @@ module _ (id count : ℕ) (links : List ℕ) (k : ℕ) (losses : List ℕ) where
         front = refl;
         rest = λ i h. refl;
         long = refl;
-        added = none-added (λ r u. refl);
+        added = none-added;
         few = omega arith;
       }
+
+  as-added : {a c : List Loss} {lost : ℕ} {losses′ : List ℕ} → a ≡ c → LossesAdded a k losses lost losses′ → LossesAdded c k losses lost losses′
+  as-added {lost = lost} {losses′ = losses′} e w = subst (λ a. LossesAdded a k losses lost losses′) e w
 
   -- the same in other words
   pub as-passing : {t u t′ u′ : List ℕ} {lost kept lost′ kept′ row : ℕ} → t′ ≡ t → u′ ≡ u → lost′ ≡ lost → kept′ ≡ kept → Passing t u lost kept row → Passing t′ u′ lost′ kept′ row
@@ -146,30 +143,37 @@ module _ (id count : ℕ) (links : List ℕ) (k : ℕ) (losses : List ℕ) where
     more-kept : keep stays (readRows read (row + 1)) ≡ keep stays (readRows read row) ++ cond (stays (read row)) (read row ∷ []) []
     more-kept = ap (keep stays) (row-more read row) ∙ keep-last stays (readRows read row) (read row)
 
-    more-lost : (r u : ℕ) → (lostOf (readRows read row) r u || leadsTo r u id (read row)) ≡ lostOf (readRows read (row + 1)) r u
-    more-lost r u = sym (ap (any (leadsTo r u id)) (row-more read row) ∙ any-last (leadsTo r u id) (readRows read row) (read row))
+    -- one that goes leaves its loss behind the others
+    more-lost : (q : Bool) → endsAt id (read row) ≡ q → lossesOf id (readRows read (row + 1)) ≡ lossesOf id (readRows read row) ++ cond q (lossOf id (read row)) []
+    unfolding lossesOf flatMap
+    more-lost q e =
+        ap (λ ls. flatMap (lossOf id) (keep (endsAt id) ls)) (row-more read row) ∙ ap (flatMap (lossOf id)) (keep-last (endsAt id) (readRows read row) (read row))
+        ∙ ap (λ b. flatMap (lossOf id) (keep (endsAt id) (readRows read row) ++ cond b (read row ∷ []) [])) e
+        ∙ flat-append (lossOf id) (keep (endsAt id) (readRows read row)) (cond q (read row ∷ []) []) ∙ ap (λ l. flatMap (lossOf id) (keep (endsAt id) (readRows read row)) ++ l) (last q)
+      where
+        last : (b : Bool) → flatMap (lossOf id) (cond b (read row ∷ []) []) ≡ cond b (lossOf id (read row)) []
+        last true = append-nil (lossOf id (read row))
+        last false = refl
 
     module _ (goes : endsAt id (linkRow links′ row) ≡ true) where
-      pub can-lose : CanLose id (linkRow links′ row) lost losses′
+      pub can-lose : CanLose (linkRow links′ row) lost losses′
       can-lose =
           record {
-            ends = subst T (sym goes) tt;
             low = subst (λ l. l .relationship < 32) (sym same-row) (can .low row b);
             room = omega (arith, p .few, p .behind, can .left .room);
-            long = p .added .lengths ∙ can .left .long;
+            long = added-long (p .added) ∙ can .left .long;
           }
 
-      pub row-gone : {lost′ : ℕ} {losses″ : List ℕ} → LossesAdded (λ r u. leadsTo r u id (linkRow links′ row)) lost losses′ lost′ losses″ → lost′ ≤ lost + 1
-          → Passing links′ losses″ lost′ kept (row + 1)
-      row-gone a f =
+      pub row-gone : {lost′ : ℕ} {losses″ : List ℕ} → LossesAdded (lossOf id (linkRow links′ row)) lost losses′ lost′ losses″ → Passing links′ losses″ lost′ kept (row + 1)
+      row-gone a =
           record {
             within = omega arith;
             behind = omega (arith, p .behind);
             front = p .front ∙ sym (more-kept ∙ ap (λ q. keep stays (readRows read row) ++ cond (not q) (read row ∷ []) []) (ap (endsAt id) (sym same-row) ∙ goes) ∙ append-nil (keep stays (readRows read row)));
             rest = λ i h. p .rest i (omega arith);
             long = p .long;
-            added = as-added more-lost (both-added (p .added) (as-added (λ r u. ap (leadsTo r u id) same-row) a));
-            few = omega (arith, p .few);
+            added = as-added (ap (λ l. lossesOf id (readRows read row) ++ lossOf id l) same-row ∙ sym (more-lost true (ap (endsAt id) (sym same-row) ∙ goes))) (both-added (p .added) a);
+            few = omega (arith, p .few, a .count-is, loss-few id (linkRow links′ row));
           }
 
     pub row-kept : endsAt id (linkRow links′ row) ≡ false → Passing (withRow links′ 3 kept (linkKey (linkRow links′ row))) losses′ lost (kept + 1) (row + 1)
@@ -185,12 +189,7 @@ module _ (id count : ℕ) (links : List ℕ) (k : ℕ) (losses : List ℕ) where
               ∙ sym (more-kept ∙ ap (λ q. keep stays (readRows read row) ++ cond (not q) (read row ∷ []) []) (ap (endsAt id) (sym same-row) ∙ stay));
           rest = λ i h. put-past links′ kept (linkRow links′ row) room i (omega (arith, p .behind)) ∙ p .rest i (omega arith);
           long = put-long links′ kept (linkRow links′ row) room ∙ p .long;
-          added =
-              as-added
-              (λ r u.
-              sym (ap (λ x. lostOf (readRows read row) r u || x) (ap (leadsTo r u id) (sym same-row) ∙ stays-unlost id (linkRow links′ row) r u stay) ∙ or-false (lostOf (readRows read row) r u))
-              ∙ more-lost r u)
-              (p .added);
+          added = as-added (sym (more-lost false (ap (endsAt id) (sym same-row) ∙ stay) ∙ append-nil (lossesOf id (readRows read row)))) (p .added);
           few = omega (arith, p .few);
         }
       where
@@ -251,8 +250,8 @@ module _ (id count : ℕ) (links : List ℕ) (k : ℕ) (losses : List ℕ) where
             framed-past links′ zeroed [] (kept * 3) (count * 3) sum (used-lent .1) i high ∙ p .rest i (omega (arith, all)) ∙ zero-past links 3 count i z high)
             (decide (ltb i (count * 3)))
 
-    pub losses-taken : LossesAdded (lostOf (readRows read count)) k losses lost losses′
-    losses-taken = as-added (λ r u. ap (λ n. lostOf (readRows read n) r u) all) (p .added)
+    pub losses-taken : LossesAdded (lossesOf id (readRows read count)) k losses lost losses′
+    losses-taken = as-added (ap (λ n. lossesOf id (readRows read n)) all) (p .added)
 
     pub few-taken : lost + kept ≤ k + count
     few-taken = omega (arith, p .few, all)

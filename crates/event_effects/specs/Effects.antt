@@ -1,20 +1,19 @@
 -- Document 01, "Events": an event's effect on the table of objects or of links, and what no refusal gives an event.
 use Prim.Native.Nat.{ℕ, _+_, _*_, _≤_, _<_}
 use mathlib.Core.Path.{_≡_}
-use mathlib.Core.Bool.{Bool, _||_}
-use mathlib.Core.List.{List}
+use mathlib.Core.List.{List, flatMap}
 use mathlib.Core.Option.{none}
 use lib.Dec.{T}
 use lib.ListN.{length}
+use lib.Seq.{sets}
 use Rattle.meaning.specs.Limits.{maxRelationships, maxObjects, maxLinks, maxEvents, cellCount}
 use Rattle.meaning.specs.Schema.{ObjectType, Schema, cellsOf}
 use Rattle.meaning.specs.Register.{Object, Link, Register}
-use Rattle.meaning.specs.Events.{Event, insert, delete, set, join, part, special, general, linkOf, endsAt, apply}
-use Rattle.meaning.specs.Reach.{stepAt, taken}
+use Rattle.meaning.specs.Events.{Event, insert, delete, set, join, part, special, general, linkOf, apply}
 use Rattle.rows.specs.Rows.{readRows, zeroPast}
 use Rattle.tables.specs.Columns.{objectRow, linkRow, registerOf}
-use Rattle.tables.specs.Losses.{lostIn, LossesLow}
 use Rattle.register.specs.Tables.{objectsWith, linksWith, ObjectsAscend, LinksAscend, objectPlace, linkPlace}
+use Rattle.event_effects.specs.Losses.{Loss, lossWords, lostAt}
 
 -- the table of objects, with n used rows, is m used rows of `now` after the event; "rows past the used ones are 0"
 pub record ObjectsApplied (S : Schema) (e : Event) (n : ℕ) (objects : List ℕ) (m : ℕ) (now : List ℕ) : Type 0 where
@@ -34,15 +33,13 @@ pub record LinksApplied (S : Schema) (e : Event) (n : ℕ) (links : List ℕ) (m
 abbrev pub lossRows : ℕ
 lossRows = maxLinks + maxEvents
 
--- The losses of k′ used rows are those that k rows had, and the ones that were found: from object u by role r.
-pub record LossesAdded (found : ℕ → ℕ → Bool) (k : ℕ) (losses : List ℕ) (k′ : ℕ) (losses′ : List ℕ) : Type 0 where
-  pub lost : (r u : ℕ) → lostIn losses′ k′ r u ≡ (lostIn losses k r u || found r u)
-  pub low : LossesLow losses k → LossesLow losses′ k′
-  pub lengths : length losses′ ≡ length losses
+-- The losses of k′ used rows are those that k rows had, and more behind them.
+pub record LossesAdded (more : List Loss) (k : ℕ) (losses : List ℕ) (k′ : ℕ) (losses′ : List ℕ) : Type 0 where
+  pub count-is : k′ ≡ k + length more
+  pub losses-are : losses′ ≡ sets losses (k * 2) (flatMap lossWords more)
 
--- A loss can be written of a link that has the object at an end.
-pub record CanLose (id : ℕ) (l : Link) (k : ℕ) (losses : List ℕ) : Type 0 where
-  pub ends : T (endsAt id l)
+-- A loss can be written of a link.
+pub record CanLose (l : Link) (k : ℕ) (losses : List ℕ) : Type 0 where
   pub low : l .relationship < maxRelationships
   pub room : k < lossRows
   pub long : length losses ≡ lossRows * 2
@@ -117,5 +114,5 @@ pub record Applied (S : Schema) (e : Event) (n : ℕ) (objects : List ℕ) (m : 
 -- The losses after the event, where m links and k losses were used before it: those that were there, and those of the links that a delete took along. Of links
 -- and losses together there is at most one more.
 pub record LossesKept (g : Register) (e : Event) (m k : ℕ) (losses : List ℕ) (m′ k′ : ℕ) (losses′ : List ℕ) : Type 0 where
-  pub added : LossesAdded (λ r u. taken r u (stepAt g e)) k losses k′ losses′
+  pub added : LossesAdded (lostAt g e) k losses k′ losses′
   pub grown : k′ + m′ ≤ k + m + 1

@@ -1,17 +1,16 @@
 // What a delete does to the links: those of the object go with it, and each is a loss for the object at its other end.
 use crate::Held;
 use register::columns;
-ghost use Prim.Native.Nat.{ℕ, _+_, _*_, _-_, _≤_};
+ghost use Prim.Native.Nat.{_+_, _*_, _-_, _≤_};
 ghost use mathlib.Core.Path.{_≡_};
 ghost use mathlib.Core.List.{_++_};
 ghost use lib.ListN.{length, take, drop, replicate};
-ghost use Rattle.meaning.specs.Lists.{any};
 ghost use Rattle.meaning.specs.Schema.{Schema};
 ghost use Rattle.meaning.specs.Register.{linkKey};
 ghost use Rattle.meaning.specs.Events.{delete, endsAt};
-ghost use Rattle.meaning.specs.Reach.{leadsTo};
 ghost use Rattle.rows.specs.Rows.{readRows, withRow};
 ghost use Rattle.tables.specs.Columns.{linkRow};
+ghost use Rattle.event_effects.specs.Losses.{lossOf, lossesOf};
 ghost use Rattle.event_effects.specs.Effects.{LinksApplied, LossesAdded, CanLose, CanTake};
 
 // Whether the object is at an end of the link in a row, or at both.
@@ -29,9 +28,8 @@ fn ends_at(links: &[u32], row: u32, id: u32) -> bool
 // The loss of a link that goes with the object: of the role that led to it, from the object at the other end. A link of the object to itself is nobody's
 // loss. It answers how many losses there are then.
 fn put_loss(links: &[u32], row: u32, id: u32, count: u32, losses: &mut [u32; 8704]) -> u32
-    requires { ⌜ CanLose id (linkRow (now links) row) count (now losses) ⌝ }
-    ensures { λ k. ⌜ (LossesAdded (λ (r u : ℕ). leadsTo r u id (linkRow (now (links .entry)) row))
-        count (now (losses .entry)) k (now (losses .exit))) × (k ≤ count + 1) ⌝ }
+    requires { ⌜ CanLose (linkRow (now links) row) count (now losses) ⌝ }
+    ensures { λ k. ⌜ LossesAdded (lossOf id (linkRow (now (links .entry)) row)) count (now (losses .entry)) k (now (losses .exit)) ⌝ }
 {
     let mut role = 2 * columns::relationship_of(links, row);
     let source = columns::source_of(links, row);
@@ -79,7 +77,7 @@ fn clear_rows(links: &mut [u32], kept: u32, used: u32)
 pub fn take_links(held: Held, links: &mut [u32], losses: &mut [u32; 8704], id: u32) -> Held
     requires { ⌜ CanTake (held .links) (now links) (held .losses) (now losses) ⌝ }
     ensures { λ h. ⌜ ((S : Schema) → LinksApplied S (delete id) (held .links) (now (links .entry)) (h .links) (now (links .exit)))
-        × (LossesAdded (λ (r u : ℕ). any (leadsTo r u id) (readRows (linkRow (now (links .entry))) (held .links)))
+        × (LossesAdded (lossesOf id (readRows (linkRow (now (links .entry))) (held .links)))
         (held .losses) (now (losses .entry)) (h .losses) (now (losses .exit)))
         × (h .losses + h .links ≤ held .losses + held .links) ⌝ }
 {

@@ -3,13 +3,12 @@ use Prim.Native.Nat.{ℕ, zero, suc, _≤_, _<_}
 use mathlib.Core.Path.{_≡_, refl, sym, ap, subst, _∙_}
 use mathlib.Core.Logic.{_⊎_, inl, inr, ⊎-elim}
 use mathlib.Core.Bool.{_&&_}
-use mathlib.Core.List.{List, [], _∷_, map, List·Memᴰ·not-nil, List·Memᴰ·cases-cons}
+use mathlib.Core.List.{List, [], _∷_, List·Memᴰ·not-nil, List·Memᴰ·cases-cons}
 use mathlib.Core.Option.{Option, none, some, Option·map}
 use native.Mathlib.Nat.{le-refl}
 use native.Mathlib.Omega.{arith}
 use lib.Dec.{ltb}
-use lib.ListN.{length, getD, length-map, List·getD-map}
-use lib.Seq.{getD-take}
+use lib.ListN.{length, getD}
 use mir.Facts.{ltb-yes}
 use borrow.Author.Tests.{lt-ltb}
 use Rattle.meaning.specs.Limits.{maxTypes}
@@ -26,7 +25,6 @@ use Rattle.tables.specs.Columns.{objectRow, noEvent, eventOf}
 use Rattle.register.specs.Tables.{objectsWith, objectPlace}
 use Rattle.register.proofs.Searches.{object-row}
 use Rattle.tables.specs.Met.{objectOf, noType, typeOf, typeIn, metType, metBy}
-use Rattle.events.specs.Runs.{RunLeft}
 use Rattle.event_refusals.proofs.Fields.{kind-unknown, kind-set, kind-join, kind-part, is-insert, is-delete, is-special, is-general}
 
 module _ (n : ℕ) (objects : List ℕ) (ls : List Link) (id : ℕ) where
@@ -102,24 +100,15 @@ module _ (S : Schema) (few : length (S .types) ≤ maxTypes) (g : Register) (fit
 
 -- ---- of a batch, step by step
 
-getD-default : (l : List ℕ) (i : ℕ) → i < length l → (d e : ℕ) → getD l i d ≡ getD l i e
+pub getD-default : (l : List ℕ) (i : ℕ) → i < length l → (d e : ℕ) → getD l i d ≡ getD l i e
 getD-default [] i h d e = absurd (omega arith)
 getD-default (x ∷ xs) zero h d e = refl
 getD-default (x ∷ xs) (suc i) h d e = getD-default xs i (omega arith) d e
 
-length-steps : (S : Schema) (g : Register) (es : List Event) → length (stepsOf S g es) ≡ length es
+pub length-steps : (S : Schema) (g : Register) (es : List Event) → length (stepsOf S g es) ≡ length es
 unfolding stepsOf
 length-steps S g [] = refl
 length-steps S g (e ∷ es) = ap suc (length-steps S (apply S e g) es)
-
--- the type that stands at an event's number is the one that its step met
-pub met-at : {S : Schema} {lent : Lent} {g : Register} {es : List Event} {n : ℕ} {objects : List ℕ} {m : ℕ} {links met : List ℕ} {k : ℕ} {losses : List ℕ} → RunLeft S lent g es n objects m links met k losses
-    → (i : ℕ) → i < length es → (d : Step) → getD met i 0 ≡ metBy (getD (stepsOf S g es) i d)
-met-at {S} {g = g} {es = es} {met = met} left i h d =
-    let steps = stepsOf S g es in
-    let there : i < length (map metBy steps) = omega (arith, length-map steps metBy, length-steps S g es) in
-    sym (getD-take (length es) met i 0 h) ∙ ap (λ l. getD l i 0) (left .met-types)
-    ∙ getD-default (map metBy steps) i there 0 (metBy d) ∙ List·getD-map metBy steps i d
 
 module _ (S : Schema) (types-fit : TypesFit (S .types)) (lent : Lent) where
   -- every step of a batch that is not refused met a register that fits

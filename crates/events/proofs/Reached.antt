@@ -1,20 +1,20 @@
 -- The events of a batch one after the other: what is left of the batch before each event, and the copy that they work on.
 use Prim.Native.Nat.{ℕ, suc, _+_, _*_, _-_, _≤_, _<_, min, zero-le}
-use mathlib.Core.Path.{_≡_, refl, sym, ap, subst, _∙_}
+use mathlib.Core.Path.{_≡_, refl, sym, ap, ap₂, subst, _∙_}
 use mathlib.Core.List.{List, [], _∷_, _++_, map, append-assoc, append-nil}
 use mathlib.Core.Option.{Option, none, some, Option·map}
 use native.Mathlib.Nat.{sub-zero}
 use native.Mathlib.Numerals.{add-one}
 use native.Mathlib.Omega.{arith}
-use lib.ListN.{length, getD, take, drop, set as replaceAt, length-set, List·getD-append}
-use lib.Seq.{length-take-le, take-suc-set, getD-take}
+use lib.ListN.{length, getD, take, drop, set as replaceAt, replicate, length-set, length-replicate, take-append-drop, List·getD-append}
+use lib.Seq.{length-take-le, take-suc-set, drop-set-lt, drop-drop, getD-take}
 use borrow.Author.Tests.{le-leb}
 use Rattle.meaning.specs.Limits.{maxObjects, maxLinks, maxEvents}
 use Rattle.meaning.specs.Lists.{firstOf}
 use Rattle.meaning.specs.Schema.{Schema}
 use Rattle.meaning.specs.Register.{Register}
 use Rattle.meaning.specs.Events.{Event, insert, delete, set, join, part, special, general, Lent, apply, after, checks, eventRefusal, refusalFrom, batchRefusal}
-use Rattle.meaning.specs.Reach.{stepsOf}
+use Rattle.meaning.specs.Reach.{Step, stepsOf}
 use Rattle.meaning.proofs.Registers.{RegisterFits}
 use Rattle.rows.specs.Rows.{rowsFrom, readRows, rowsLent, copied}
 use Rattle.rows.proofs.Offsets.{row-before}
@@ -25,11 +25,13 @@ use Rattle.register.proofs.Changes.{ByWords}
 use Rattle.event_effects.specs.Effects.{Applied}
 use Rattle.events.specs.Steps.{Ready}
 use Rattle.events.specs.declared.Ran.{Ran}
-use Rattle.tables.specs.Met.{metType, metBy}
-use Rattle.events.specs.Runs.{lentBy, Fit, CanRun, RunLeft, RunDone}
+use Rattle.tables.specs.Met.{noType, metType, metBy}
+use Rattle.tables.specs.declared.Verdict.the-variants.{Clear}
+use Rattle.events.specs.Runs.{lentBy, Fit, CanRun, metTable, ranOver, ranBy, RunLeft, RunDone}
 use Rattle.event_effects.proofs.Applied.{object-by-words, link-by-words}
 use Rattle.events.proofs.Allowed.{ready-after}
-use Rattle.events.proofs.Lost.{Lost, lost-end}
+use Rattle.events.proofs.MetTypes.{length-steps}
+use Rattle.events.proofs.Lost.{Lost, lost-count, lost-few, lost-table}
 
 -- ---- copied rows
 
@@ -125,6 +127,7 @@ module _ (S : Schema) (lent : Lent) (start : Register) (read : ℕ → Event) (c
     pub within : row ≤ count
     pub fit : Fit S lent n objects m links
     pub met-length : length met ≡ maxEvents
+    pub met-past : drop row met ≡ replicate (maxEvents - row) noType
     pub refusal-left : batchRefusal S lent start (readRows read count) ≡ refusalFrom S lent row (registerOf n objects m links) (eventsFrom row)
     pub end-left : after S start (readRows read count) ≡ after S (registerOf n objects m links) (eventsFrom row)
     pub met-left : map metBy (stepsOf S start (readRows read count)) ≡ take row met ++ map metBy (stepsOf S (registerOf n objects m links) (eventsFrom row))
@@ -160,6 +163,9 @@ module _ (S : Schema) (lent : Lent) (start : Register) (read : ℕ → Event) (c
           within = h;
           fit = fit-after S lent n objects m links (r .fit) (read row) ok a;
           met-length = length-set met row seen ∙ r .met-length;
+          met-past =
+              drop-set-lt (suc row) met row seen (omega arith) ∙ ap (λ k. drop k met) (sym (add-one row)) ∙ sym (drop-drop 1 row met) ∙ ap (drop 1) (r .met-past)
+              ∙ ap (λ k. drop 1 (replicate k noType)) (let e : maxEvents - row ≡ suc (maxEvents - suc row) = omega (arith, r .few) in e);
           refusal-left = by-this h ok ∙ ap (λ g. refusalFrom S lent (suc row) g (eventsFrom (suc row))) (sym (a .effect));
           end-left =
               r .end-left ∙ ap (after S here) (next h) ∙ ap (λ g. after S g (eventsFrom (suc row))) (sym (a .effect));
@@ -175,40 +181,75 @@ module _ (S : Schema) (lent : Lent) (start : Register) (read : ℕ → Event) (c
         rest = map metBy (stepsOf S (registerOf n′ objects′ m′ links′) (eventsFrom (suc row)))
 
     -- past the last event
-    pub reached-end : count ≤ row → {k : ℕ} {losses : List ℕ} → Lost S start read count row n objects m links k losses
-        → (batchRefusal S lent start (readRows read count) ≡ none) × RunLeft S lent start (readRows read count) n objects m links met k losses
-    unfolding refusalFrom after stepsOf
-    reached-end h l = (
-      r .refusal-left ∙ ap (refusalFrom S lent row here) none-left,
-      record {
-        end = sym (r .end-left ∙ ap (after S here) none-left);
-        fit = r .fit;
-        met-types = ap (λ k. take k met) all ∙ sym (r .met-left ∙ ap (λ es. take row met ++ map metBy (stepsOf S here es)) none-left ∙ append-nil (take row met));
-        losses-few = omega (arith, l .room, r .within, r .few);
-        losses-low = l .low;
-        lost = lost-end S start read count l h;
-        losses-long = l .long;
-      },
-    )
-      where
-        none-left : eventsFrom row ≡ []
-        none-left = let e : count - row ≡ 0 = omega arith in ap (rowsFrom read row) e
+    module _ (h : count ≤ row) where
+      abbrev steps : List Step
+      steps = stepsOf S start (readRows read count)
 
-        all : length (readRows read count) ≡ row
-        all = omega (arith, length-rows read count, r .within)
+      none-left : eventsFrom row ≡ []
+      none-left = let e : count - row ≡ 0 = omega arith in ap (rowsFrom read row) e
+
+      pub reached-clear : batchRefusal S lent start (readRows read count) ≡ none
+      unfolding refusalFrom
+      reached-clear = r .refusal-left ∙ ap (refusalFrom S lent row here) none-left
+
+      pub reached-after : here ≡ after S start (readRows read count)
+      unfolding after
+      reached-after = sym (r .end-left ∙ ap (after S here) none-left)
+
+      pub reached-few : row ≤ maxEvents
+      reached-few = omega (arith, r .within, r .few)
+
+      pub reached-met : met ≡ metTable steps
+      unfolding stepsOf
+      reached-met =
+          sym (take-append-drop row met) ∙ ap₂ _++_ front (r .met-past ∙ ap (λ k. replicate (maxEvents - k) noType) (sym all))
+        where
+          front : take row met ≡ map metBy steps
+          front = sym (r .met-left ∙ ap (λ es. take row met ++ map metBy (stepsOf S here es)) none-left ∙ append-nil (take row met))
+
+          all : length steps ≡ row
+          all = omega (arith, length-steps S start (readRows read count), length-rows read count, r .within)
+
+      -- so the run answers that, and leaves the register after the batch
+      pub reached-left : {k : ℕ} {losses : List ℕ} → Lost S start read count row n objects m links k losses → RunLeft S lent start (readRows read count) n objects m links
+      reached-left l = record { end = reached-after; fit = r .fit; losses-few = lost-few S start read count l h reached-few }
+
+      pub reached-ran : {k : ℕ} {losses : List ℕ} → Lost S start read count row n objects m links k losses
+          → _≡_ {A = Ran} (record { verdict = Clear; held = record { objects = n; links = m; losses = k }; met = met; losses = losses }) (ranBy (batchRefusal S lent start (readRows read count)) S start (readRows read count))
+      unfolding ranBy ranOver
+      reached-ran l =
+          (λ i.
+          record {
+            verdict = Clear;
+            held = record { objects = objects-now i; links = links-now i; losses = lost-count S start read count l h i };
+            met = reached-met i;
+            losses = lost-table S start read count l h reached-few i;
+          })
+          ∙ ap (λ o. ranBy o S start (readRows read count)) (sym reached-clear)
+        where
+          objects-now : n ≡ length ((after S start (readRows read count)) .objects)
+          objects-now = sym (length-rows (objectRow objects) n) ∙ ap (λ (g : Register). length (g .objects)) reached-after
+
+          links-now : m ≡ length ((after S start (readRows read count)) .links)
+          links-now = sym (length-rows (linkRow links) m) ∙ ap (λ (g : Register). length (g .links)) reached-after
+
+-- no event has met a type
+abbrev pub noneMet : List ℕ
+noneMet = replicate maxEvents noType
 
 -- before the first event
 pub reached-none : (S : Schema) (lent : Lent) (read : ℕ → Event) (count : ℕ) → count ≤ maxEvents → {n : ℕ} {objects : List ℕ} {m : ℕ} {links : List ℕ}
-    → Fit S lent n objects m links → (met : List ℕ) → length met ≡ maxEvents → Reached S lent (registerOf n objects m links) read count 0 n objects m links met
+    → Fit S lent n objects m links → Reached S lent (registerOf n objects m links) read count 0 n objects m links noneMet
 unfolding batchRefusal
-reached-none S lent read count few {n} {objects} {m} {links} f met l =
+reached-none S lent read count few {n} {objects} {m} {links} f =
     let here = registerOf n objects m links in
     let all = sym (sub-zero count) in
     record {
       few = few;
       within = zero-le;
       fit = f;
-      met-length = l;
+      met-length = length-replicate {A = ℕ} maxEvents noType;
+      met-past = refl;
       refusal-left = ap (λ k. refusalFrom S lent 0 here (rowsFrom read 0 k)) all;
       end-left = ap (λ k. after S here (rowsFrom read 0 k)) all;
       met-left = ap (λ k. map metBy (stepsOf S here (rowsFrom read 0 k))) all;

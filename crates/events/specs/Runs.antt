@@ -1,21 +1,23 @@
 -- Document 01, "After a batch": a batch's events one after the other on a copy of the register, the type that each event's object had when it came, and
 -- the links that its deletes took along.
-use Prim.Native.Nat.{ℕ, _≤_}
+use Prim.Native.Nat.{ℕ, _*_, _-_, _≤_}
 use mathlib.Core.Path.{_≡_}
-use mathlib.Core.List.{List, map}
-use lib.ListN.{length, take}
-use Rattle.meaning.specs.Lists.{any}
+use mathlib.Core.List.{List, [], _++_, map, flatMap}
+use mathlib.Core.Option.{Option, none, some}
+use lib.ListN.{length, replicate}
 use Rattle.meaning.specs.Limits.{maxObjects, maxLinks, maxEvents}
 use Rattle.meaning.specs.Schema.{Schema}
 use Rattle.meaning.specs.Register.{Register}
-use Rattle.meaning.specs.Events.{Event, Lent, after, batchRefusal}
-use Rattle.meaning.specs.Reach.{stepsOf, taken}
-use Rattle.rows.specs.Rows.{rowsLent}
+use Rattle.meaning.specs.Events.{Event, Lent, Refusal, after, batchRefusal}
+use Rattle.meaning.specs.Reach.{Step, stepsOf}
+use Rattle.rows.specs.Rows.{rowsLent, padded}
 use Rattle.tables.specs.Columns.{registerOf}
-use Rattle.tables.specs.Losses.{lostIn, LossesLow}
-use Rattle.tables.specs.Met.{metBy}
+use Rattle.tables.specs.Met.{noType, metBy}
 use Rattle.tables.specs.Refusals.{verdictOf}
+use Rattle.tables.specs.declared.Verdict.{Verdict}
 use Rattle.tables.specs.declared.Verdict.the-variants.{Clear}
+use Rattle.event_effects.specs.Losses.{lossWords, lossesBy}
+use Rattle.event_effects.specs.Effects.{lossRows}
 use Rattle.events.specs.declared.Ran.{Ran}
 use Rattle.events.specs.Steps.{Ready}
 
@@ -38,19 +40,40 @@ pub record CanRun (S : Schema) (n : ℕ) (objects : List ℕ) (m : ℕ) (links s
   pub links-scratch : length links ≤ length scratchLinks
   pub events-few : count ≤ maxEvents
 
--- What a batch leaves that is not refused: the register after it, for each event the type that it met, and of the links that deletes took along a table of
--- losses. A link that was there or joined is lost at most once: 4,096 and 256.
-pub record RunLeft (S : Schema) (lent : Lent) (g : Register) (es : List Event) (n : ℕ) (objects : List ℕ) (m : ℕ) (links met : List ℕ) (k : ℕ) (losses : List ℕ) : Type 0 where
+-- ---- what a run answers
+
+-- for each event the type that its object had when it came, and past the events none
+abbrev pub metTable : List Step → List ℕ
+metTable steps = map metBy steps ++ replicate (maxEvents - length steps) noType
+
+-- Req 01: the losses of the links that deletes took along, two words each in the order in which they went, and zeros past them
+abbrev pub lossTable : List Step → List ℕ
+lossTable steps = padded (lossRows * 2) (flatMap lossWords (lossesBy steps))
+
+-- a verdict, the used rows of objects and links, and what is kept of the steps that were taken
+unfoldable pub ranOver : Verdict → ℕ → ℕ → List Step → Ran
+ranOver verdict objects links steps =
+    record {
+      verdict = verdict;
+      held = record { objects = objects; links = links; losses = length (lossesBy steps) };
+      met = metTable steps;
+      losses = lossTable steps;
+    }
+
+-- "A refusal changes nothing": the register as it was lent, and no step taken. Else the register after the batch, and the steps of its events.
+unfoldable pub ranBy : Option Refusal → Schema → Register → List Event → Ran
+ranBy (some r) S g es = ranOver (verdictOf (some r)) (length (g .objects)) (length (g .links)) []
+ranBy none S g es = ranOver (verdictOf none) (length ((after S g es) .objects)) (length ((after S g es) .links)) (stepsOf S g es)
+
+-- What a batch that is not refused leaves in the tables worked on: n and m used rows are the register after it. Its losses fit their table: a link that was
+-- there or joined is lost at most once, 4,096 and 256. Words past the used rows are the scratch's, and free.
+pub record RunLeft (S : Schema) (lent : Lent) (g : Register) (es : List Event) (n : ℕ) (objects : List ℕ) (m : ℕ) (links : List ℕ) : Type 0 where
   pub end : registerOf n objects m links ≡ after S g es
   pub fit : Fit S lent n objects m links
-  pub met-types : take (length es) met ≡ map metBy (stepsOf S g es)
-  pub losses-few : k ≤ 4352
-  pub losses-low : LossesLow losses k
-  pub lost : (r u : ℕ) → lostIn losses k r u ≡ any (taken r u) (stepsOf S g es)
-  pub losses-long : length losses ≡ 8704
+  pub losses-few : length (lossesBy (stepsOf S g es)) ≤ lossRows
 
--- A run of the events es from register g: the first refusal, "its refusals are met there"; where none is met, what the batch leaves. Where one is met, the
--- tables worked on are the scratch, "whose contents after a call are never stated", and the counts, met types and losses say nothing.
+-- A run of the events es from register g: the first refusal, "its refusals are met there", and what it answers; where none is met, what the batch leaves. Where
+-- one is met, the tables worked on are the scratch, "whose contents after a call are never stated".
 pub record RunDone (S : Schema) (lent : Lent) (g : Register) (es : List Event) (ran : Ran) (objects links : List ℕ) : Type 0 where
-  pub verdict-is : ran .verdict ≡ verdictOf (batchRefusal S lent g es)
-  pub left : ran .verdict ≡ Clear → RunLeft S lent g es (ran .held .objects) objects (ran .held .links) links (ran .met) (ran .held .losses) (ran .losses)
+  pub ran-is : ran ≡ ranBy (batchRefusal S lent g es) S g es
+  pub left : ran .verdict ≡ Clear → RunLeft S lent g es (ran .held .objects) objects (ran .held .links) links

@@ -4,6 +4,7 @@ mod runs;
 use event_effects::Held;
 use event_effects::row_effect;
 use event_refusals::refusal;
+pub use runs::refused;
 pub use runs::run;
 use tables::Found;
 use tables::Verdict;
@@ -18,8 +19,9 @@ pub struct Stepped {
     pub held: Held,
 }
 
-// The refusal that a batch met with its event's number, if it met one; else the used rows after it, for each event the type that its object had when the
-// event came, 32 for none, and the losses of the links that went with deleted objects.
+// What a run answers: a refusal with its place, and the used rows as they were lent; or the used rows after the batch, for each event the type that its object
+// had when the event came, and the losses of the links that went with deleted objects, two words each. 32 stands for no type, and past the events and after a
+// refusal; past the losses are zeros.
 pub struct Ran {
     pub verdict: Verdict,
     pub held: Held,

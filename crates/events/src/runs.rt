@@ -6,14 +6,15 @@ use register::columns;
 use tables::Found;
 use tables::Verdict;
 ghost use mathlib.Core.Path.{_≡_};
-ghost use mathlib.Core.List.{List};
+ghost use mathlib.Core.List.{List, []};
 ghost use Prim.Native.Nat.{ℕ, _≤_};
 ghost use Rattle.meaning.specs.Limits.{maxEvents};
 ghost use Rattle.meaning.specs.Register.{Link};
 ghost use Rattle.tables.specs.Columns.{floorsOf, schemaOf, registerOf, noEvent, eventRow, eventsOf};
 ghost use Rattle.register.specs.Tables.{objectsWith, ObjectsAscend};
 ghost use Rattle.tables.specs.Met.{typeIn, metType};
-ghost use Rattle.events.specs.Runs.{lentBy, Fit, CanRun, RunDone};
+ghost use Rattle.tables.specs.declared.Verdict.the-variants.{Refused};
+ghost use Rattle.events.specs.Runs.{lentBy, Fit, CanRun, ranOver, RunDone};
 
 // What stands for the type of an object that is not there.
 const NO_TYPE: u32 = 32;
@@ -49,6 +50,25 @@ fn met_type(count: u32, objects: &[u32], events: &[u32], row: u32) -> u32
     )
 }
 
+// What a run answers that meets a refusal: the used rows as they were lent, and nothing of its events.
+pub fn refused(number: u32, place: u32, objects: u32, links: u32) -> Ran
+    ensures { λ r. ⌜ r ≡ ranOver (Refused number place) objects links [] ⌝ }
+{
+    let held = Held {
+        objects,
+        links,
+        losses: 0,
+    };
+    let met = [NO_TYPE; 256];
+    let losses = [0u32; 8704];
+    Ran {
+        verdict: Verdict::Refused(number, place),
+        held,
+        met,
+        losses,
+    }
+}
+
 // The events on tables that fit, up to the first that is refused.
 fn run_on(
     type_count: u32,
@@ -75,7 +95,7 @@ fn run_on(
         (eventsOf «event_count» (now (events .entry))) r (now (objects .exit)) (now (links .exit))) ⌝ }
 {
     let mut used = from;
-    let mut met = [0u32; 256];
+    let mut met = [NO_TYPE; 256];
     let mut losses = [0u32; 8704];
     let mut row: u32 = 0;
     while row < event_count {
@@ -96,14 +116,9 @@ fn run_on(
             events,
             row,
         );
-        let refused = stepped.refused;
-        if let Found::At(number) = refused {
-            return Ran {
-                verdict: Verdict::Refused(number, row),
-                held: from,
-                met,
-                losses,
-            };
+        let refusal = stepped.refused;
+        if let Found::At(number) = refusal {
+            return refused(number, row, from.objects, from.links);
         }
         met[row as usize] = seen;
         used = stepped.held;

@@ -1,25 +1,30 @@
 -- A lent batch's run as numbers, for programs in other languages.
 use Prim.Native.Nat.{ℕ}
 use mathlib.Core.Path.{_≡_}
-use mathlib.Core.List.{List, [], _∷_}
-use mathlib.Core.Option.{none, some}
-use Rattle.meaning.specs.Events.{Refusal, after}
+use mathlib.Core.List.{List, flatMap}
+use mathlib.Core.Option.{none}
+use lib.ListN.{length}
+use Rattle.meaning.specs.Register.{Register}
+use Rattle.meaning.specs.Events.{after}
+use Rattle.rows.specs.Rows.{padded}
 use Rattle.tables.specs.Layouts.{Sheet}
-use Rattle.tables.specs.Columns.{registerOf, bookOf, registerIn, batchIn}
+use Rattle.tables.specs.Columns.{bookOf, registerIn, batchIn}
+use Rattle.tables.specs.Refusals.{verdictOf}
+use Rattle.tables.specs.Words.{objectWords, linkWords}
 use Rattle.tables.specs.declared.Counts.{Counts}
 use Rattle.lent_run.specs.Lent.{runRefusal}
+use Rattle.told.specs.Coded.{ranWords}
 
--- the scratch is the register after the batch, and the words are 0 and its used rows
-pub record Left (n : Counts) (s : Sheet) (words objects links : List ℕ) : Type 0 where
-  pub objectCount : ℕ
-  pub linkCount : ℕ
-  pub words-are : words ≡ 0 ∷ objectCount ∷ linkCount ∷ []
-  pub end : registerOf objectCount objects linkCount links ≡ after ((bookOf n s) .schema) (registerIn n s) (batchIn n s)
+-- "the register after the batch, *the end*"
+abbrev pub endOf : Counts → Sheet → Register
+endOf n s = after ((bookOf n s) .schema) (registerIn n s) (batchIn n s)
 
--- three words: 0 and the used rows of objects and links; or 1, a refusal's number and place
-pub record RunTold (n : Counts) (s : Sheet) (scratchObjects scratchLinks words objects links : List ℕ) : Type 0 where
-  pub refused : (r : Refusal) → runRefusal n s scratchObjects scratchLinks ≡ some r → words ≡ 1 ∷ r .number ∷ r .place ∷ []
-  pub left : runRefusal n s scratchObjects scratchLinks ≡ none → Left n s words objects links
+-- A run: its words, and in the two tables lent for the end the register after the batch, "all unused rows are 0". Only a refusal leaves these two free: the
+-- batch was run in them as in a scratch, "whose contents after a call are never stated".
+pub record RunTold (n : Counts) (s : Sheet) (endObjects endLinks words objects links : List ℕ) : Type 0 where
+  pub words-are : words ≡ ranWords (verdictOf (runRefusal n s endObjects endLinks)) (length ((endOf n s) .objects)) (length ((endOf n s) .links))
+  pub objects-are : runRefusal n s endObjects endLinks ≡ none → objects ≡ padded (length endObjects) (flatMap objectWords ((endOf n s) .objects))
+  pub links-are : runRefusal n s endObjects endLinks ≡ none → links ≡ padded (length endLinks) (flatMap linkWords ((endOf n s) .links))
 
 -- the used rows of a book, a register and a batch; and of a book and a register alone
 abbrev pub allUsed : ℕ → ℕ → ℕ → ℕ → ℕ → ℕ → ℕ → Counts

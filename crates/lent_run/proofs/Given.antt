@@ -1,8 +1,8 @@
 -- What no refusal of the lent tables gives a run, and the first refusal of all.
 use Prim.Native.Nat.{ℕ}
-use mathlib.Core.Path.{_≡_, refl, sym, ap, _∙_}
+use mathlib.Core.Path.{_≡_, refl, sym, ap, ap₂, _∙_}
 use mathlib.Core.Bool.{Bool, true, false, _||_, cond}
-use mathlib.Core.List.{List}
+use mathlib.Core.List.{List, []}
 use mathlib.Core.Option.{Option, none, some, Option·some-ne-none}
 use native.Mathlib.Omega.{arith}
 use lib.ListN.{length}
@@ -13,7 +13,7 @@ use Rattle.meaning.specs.Answers.{refusal}
 use Rattle.meaning.proofs.Lists.{first-of-none}
 use Rattle.meaning.proofs.Agreement.{Checked, checked}
 use Rattle.tables.specs.Layouts.{Sheet, layouts}
-use Rattle.tables.specs.Columns.{relationshipRow, bookOf, registerIn, batchIn}
+use Rattle.tables.specs.Columns.{relationshipRow, objectRow, linkRow, bookOf, registerIn, batchIn}
 use Rattle.tables.specs.Refusals.{verdictOf, anyOverfull, anyLong, notWhole, tableRefusal, refusalOf}
 use Rattle.tables.specs.declared.Counts.{Counts}
 use Rattle.tables.specs.declared.Verdict.the-variants.{Clear, Refused}
@@ -21,7 +21,8 @@ use Rattle.schema.proofs.Rows.{length-rows}
 use Rattle.checks.specs.Given.{Given, EventsLent}
 use Rattle.checks.proofs.Given.{given-all}
 use Rattle.events.specs.declared.Ran.{Ran}
-use Rattle.events.specs.Runs.{lentBy, CanRun, RunDone}
+use Rattle.events.specs.Runs.{lentBy, CanRun, ranOver, ranBy, RunDone}
+use Rattle.events.proofs.Answers.{verdict-over, ran-refused}
 use Rattle.lent_run.specs.Lent.{shorter, scratchShort, eventsMeet, runRefusal, LentRun}
 
 or-left : (a b : Bool) → (a || b) ≡ false → a ≡ false
@@ -40,20 +41,22 @@ module _ (n : Counts) (s : Sheet) (scratchObjects scratchLinks : List ℕ) where
   abbrev short : Bool
   short = scratchShort (s .objects) (s .links) scratchObjects scratchLinks
 
-  -- a refusal of the tables comes before those of the events
-  pub lent-refused : {number place : ℕ} → Refused number place ≡ verdictOf (refusalOf layouts n s short) → Refused number place ≡ verdictOf (runRefusal n s scratchObjects scratchLinks)
+  -- A refusal of the tables comes before those of the events; the run that it kept from beginning took no step.
+  pub never-ran : {number place : ℕ} → Refused number place ≡ verdictOf (refusalOf layouts n s short) → {ran : Ran} → ran ≡ ranOver (Refused number place) (n .objects) (n .links) []
+      → {o l : List ℕ} → LentRun n s scratchObjects scratchLinks ran o l
   unfolding runRefusal
-  lent-refused {number} {place} e = step (refusalOf layouts n s short) (eventsMeet n s) e
+  never-ran {number} {place} e {ran} is =
+      record {
+        ran-is = is
+            ∙ ran-refused (first (refusalOf layouts n s short) (eventsMeet n s) e) ((bookOf n s) .schema) (registerIn n s) (batchIn n s)
+            (length-rows (objectRow (s .objects)) (n .objects)) (length-rows (linkRow (s .links)) (n .links));
+        left = λ c. absurd (refused-clear (sym (ap (λ (r : Ran). r .verdict) is ∙ verdict-over (Refused number place) (n .objects) (n .links) []) ∙ c));
+      }
     where
-      step : (o rest : Option Refusal) → Refused number place ≡ verdictOf o → Refused number place ≡ verdictOf (firstOf o rest)
-      step none rest q = cc
-      step (some r) rest q = q
+      first : (o rest : Option Refusal) → Refused number place ≡ verdictOf o → firstOf o rest ≡ some (record { number = number; place = place })
+      first none rest q = cc
+      first (some r) rest q = let a : r .number ≡ number = cc in let b : r .place ≡ place = cc in ap₂ (λ x y. some (record { number = x; place = y })) a b
 
-  -- a run that a refusal kept from beginning
-  pub never-ran : {number place : ℕ} {ran : Ran} {o l : List ℕ} → ran .verdict ≡ Refused number place → Refused number place ≡ verdictOf (runRefusal n s scratchObjects scratchLinks)
-      → LentRun n s scratchObjects scratchLinks ran o l
-  never-ran {number} {place} e q = record { verdict-is = e ∙ q; left = λ c. absurd (refused-clear (sym e ∙ c)) }
-    where
       refused-clear : Refused number place ≡ Clear → ⊥
       refused-clear p = let z : _≡_ {A = ℕ} 0 1 = cc in omega arith
 
@@ -101,4 +104,8 @@ module _ (n : Counts) (s : Sheet) (scratchObjects scratchLinks : List ℕ) where
     pub lent-done : {ran : Ran} {o l : List ℕ} → RunDone ((bookOf n s) .schema) (lentBy (s .objects) (s .links) 0) (registerIn n s) (batchIn n s) ran o l
         → LentRun n s scratchObjects scratchLinks ran o l
     unfolding runRefusal
-    lent-done done = record { verdict-is = done .verdict-is ∙ sym (ap (λ o. verdictOf (firstOf o (eventsMeet n s))) clear); left = done .left }
+    lent-done done =
+        record {
+          ran-is = done .ran-is ∙ sym (ap (λ o. ranBy (firstOf o (eventsMeet n s)) ((bookOf n s) .schema) (registerIn n s) (batchIn n s)) clear);
+          left = done .left;
+        }

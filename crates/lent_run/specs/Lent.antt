@@ -10,11 +10,11 @@ use Rattle.meaning.specs.Lists.{firstOf}
 use Rattle.meaning.specs.Events.{Refusal, batchRefusal}
 use Rattle.tables.specs.Layouts.{Sheet, layouts}
 use Rattle.tables.specs.Columns.{bookOf, registerIn, batchIn}
-use Rattle.tables.specs.Refusals.{verdictOf, refusalOf}
+use Rattle.tables.specs.Refusals.{refusalOf}
 use Rattle.tables.specs.declared.Counts.{Counts}
 use Rattle.tables.specs.declared.Verdict.the-variants.{Clear}
 use Rattle.events.specs.declared.Ran.{Ran}
-use Rattle.events.specs.Runs.{lentBy, RunLeft}
+use Rattle.events.specs.Runs.{lentBy, ranBy, RunLeft}
 
 -- 6: "scratch shorter than the register's tables"
 abbrev pub shorter : List ℕ → List ℕ → Bool
@@ -32,8 +32,8 @@ unfoldable pub runRefusal : Counts → Sheet → List ℕ → List ℕ → Optio
 runRefusal n s scratchObjects scratchLinks =
     firstOf (refusalOf layouts n s (scratchShort (s .objects) (s .links) scratchObjects scratchLinks)) (eventsMeet n s)
 
--- A lent batch that was run: the first refusal, or what it leaves in the scratch. Where a refusal is met, the scratch, the counts, the met types and the losses are free.
+-- A lent batch that was run: what it answers, by the first refusal, and where none is met what it leaves in the scratch. A refusal leaves the scratch free.
 pub record LentRun (n : Counts) (s : Sheet) (scratchObjects scratchLinks : List ℕ) (ran : Ran) (objects links : List ℕ) : Type 0 where
-  pub verdict-is : ran .verdict ≡ verdictOf (runRefusal n s scratchObjects scratchLinks)
+  pub ran-is : ran ≡ ranBy (runRefusal n s scratchObjects scratchLinks) ((bookOf n s) .schema) (registerIn n s) (batchIn n s)
   pub left : ran .verdict ≡ Clear
-      → RunLeft ((bookOf n s) .schema) (lentBy (s .objects) (s .links) 0) (registerIn n s) (batchIn n s) (ran .held .objects) objects (ran .held .links) links (ran .met) (ran .held .losses) (ran .losses)
+      → RunLeft ((bookOf n s) .schema) (lentBy (s .objects) (s .links) 0) (registerIn n s) (batchIn n s) (ran .held .objects) objects (ran .held .links) links

@@ -1,31 +1,10 @@
 // A lent batch: every refusal of its tables and its events, each in its place, else the events on a copy of the register.
-use event_effects::Held;
 use events::Ran;
 use tables::Counts;
 use tables::Verdict;
 ghost use mathlib.Core.Path.{_≡_};
 ghost use Rattle.tables.specs.Layouts.{sheetOf};
-ghost use Rattle.tables.specs.declared.Verdict.the-variants.{Refused};
 ghost use Rattle.lent_run.specs.Lent.{scratchShort, LentRun};
-
-// A run that a refusal kept from beginning.
-fn refused(number: u32, place: u32) -> Ran
-    ensures { λ r. ⌜ r .verdict ≡ Refused number place ⌝ }
-{
-    let held = Held {
-        objects: 0,
-        links: 0,
-        losses: 0,
-    };
-    let met = [0u32; 256];
-    let losses = [0u32; 8704];
-    Ran {
-        verdict: Verdict::Refused(number, place),
-        held,
-        met,
-        losses,
-    }
-}
 
 // 6, of the scratch: shorter than the table that is copied to it.
 fn short(objects: &[u32], links: &[u32], scratch_objects: &[u32], scratch_links: &[u32]) -> bool
@@ -67,7 +46,7 @@ pub fn run(
         events,
         too_short,
     ) {
-        Verdict::Refused(number, place) => refused(number, place),
+        Verdict::Refused(number, place) => events::refused(number, place, n.objects, n.links),
         Verdict::Clear => events::run(
             n.types,
             types,

@@ -9,6 +9,7 @@ ghost use Rattle.meaning.specs.Register.{sameLink};
 ghost use Rattle.meaning.specs.Events.{linkOf};
 ghost use Rattle.tables.specs.Columns.{objectRow, linkRow};
 ghost use Rattle.tables.specs.Refusals.{foundOf};
+ghost use Rattle.register.specs.Guesses.{guessPlace, withGuess, withGuesses};
 ghost use Rattle.register.specs.Tables.{ObjectsAscend, LinksAscend, objectPlace, linkPlace};
 
 // The row of the object of an id.
@@ -67,13 +68,15 @@ pub fn link_row(
 // One of the two places that an id has in a table of guesses, by its last 12 bits and the next.
 fn place(id: u32, next: u32) -> usize
     requires { ⌜ next < 4096 ⌝ }
-    ensures { λ r. ⌜ r < 4096 ⌝ }
+    ensures { λ r. ⌜ r ≡ guessPlace id next ⌝ }
 {
     ((id % 4096 + next) % 4096) as usize
 }
 
 // Puts a row at the first place of its id, or at the second where the first has another row. The row 0 counts as none.
-fn put_guess(table: &mut [u16; 4096], id: u32, row: u32) {
+fn put_guess(table: &mut [u16; 4096], id: u32, row: u32)
+    ensures { λ _. ⌜ now (table .exit) ≡ withGuess (now (table .entry)) id row ⌝ }
+{
     let guess = (row % 65536) as u16;
     let first = place(id, 0);
     if table[first] == 0 {
@@ -83,8 +86,10 @@ fn put_guess(table: &mut [u16; 4096], id: u32, row: u32) {
     }
 }
 
-// The rows that may have an id, by the id. Nothing is promised of them: a guess is tested before it is used.
-pub fn guesses(object_count: u32, objects: &[u32], table: &mut [u16; 4096]) {
+// The rows that may have an id, by the id: each used row put in its turn. A guess is tested before it is used.
+pub fn guesses(object_count: u32, objects: &[u32], table: &mut [u16; 4096])
+    ensures { λ _. ⌜ now (table .exit) ≡ withGuesses (now (table .entry)) (now (objects .entry)) 0 «object_count» ⌝ }
+{
     let mut row: u32 = 0;
     while row < object_count {
         put_guess(table, columns::id_of(objects, row), row);

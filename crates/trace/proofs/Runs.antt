@@ -21,9 +21,11 @@ use Rattle.tables.specs.declared.Counts.{Counts}
 use Rattle.tables.specs.declared.Verdict.the-variants.{Clear}
 use Rattle.schema.proofs.Rows.{length-rows}
 use Rattle.tables.specs.Met.{objectOf, metBy}
-use Rattle.tables.specs.Losses.{lostIn}
-use Rattle.events.specs.Runs.{RunLeft}
-use Rattle.events.proofs.MetTypes.{met-named, met-unnamed, type-low, met-at, step-fits, step-under}
+use Rattle.tables.specs.Losses.{lostIn, LossesLow}
+use Rattle.events.specs.declared.Ran.{Ran}
+use Rattle.events.specs.Runs.{ranBy, RunLeft}
+use Rattle.events.proofs.Answers.{met-at, lost, losses-few, losses-low}
+use Rattle.events.proofs.MetTypes.{met-named, met-unnamed, type-low, step-fits, step-under}
 use Rattle.trace_places.specs.Questions.{metUnder}
 use Rattle.trace_places.specs.Traces.{Seen}
 use Rattle.trace_places.specs.Making.{CanTrace}
@@ -44,8 +46,8 @@ unfolding stepsOf
 events-of S g [] = refl
 events-of S g (e ∷ es) = ap (λ l. e ∷ l) (events-of S (apply S e g) es)
 
-module _ {S : Schema} {lent : Lent} {g : Register} {es : List Event} (n : Counts) (types objects links events met : List ℕ) (count : ℕ) (losses : List ℕ)
-    (left : RunLeft S lent g es (n .objects) objects (n .links) links met count losses) (fits : RegisterFits S g) (taken : batchRefusal S lent g es ≡ none)
+module _ {S : Schema} {lent : Lent} {g : Register} {es : List Event} (n : Counts) (types objects links events : List ℕ) {ran : Ran} (is : ran ≡ ranBy none S g es)
+    (left : RunLeft S lent g es (n .objects) objects (n .links) links) (fits : RegisterFits S g) (taken : batchRefusal S lent g es ≡ none)
     (few-types : length (S .types) ≤ maxTypes) (types-are : S .types ≡ typesOf (n .types) types) (events-are : es ≡ eventsOf (n .events) events) (few : n .events ≤ maxEvents) where
   rows-are : map (λ (s : Step). s .event) (stepsOf S g es) ≡ eventsOf (n .events) events
   rows-are = events-of S g es ∙ events-are
@@ -54,12 +56,12 @@ module _ {S : Schema} {lent : Lent} {g : Register} {es : List Event} (n : Counts
   long = ap length events-are ∙ length-rows (eventRow events) (n .events)
 
   -- the type that stands at a step's place is the one that it met
-  met-is : (i : ℕ) (s : Step) → getElem? (stepsOf S g es) i ≡ some s → getD met i 0 ≡ metBy s
+  met-is : (i : ℕ) (s : Step) → getElem? (stepsOf S g es) i ≡ some s → getD (ran .met) i 0 ≡ metBy s
   met-is i s e =
       let h : i < n .events = some-within (λ (t : Step). t .event) (eventRow events) (stepsOf S g es) 0 (n .events) rows-are i s e in
-      met-at left i (omega (arith, long)) s ∙ ap metBy (getD-there (stepsOf S g es) i e)
+      met-at S g es is i (omega (arith, long)) s ∙ ap metBy (getD-there (stepsOf S g es) i e)
 
-  pub seen : Seen (changeBy S g es) n types objects links events (λ i. getD met i 0)
+  pub seen : Seen (changeBy S g es) n types objects links events (λ i. getD (ran .met) i 0)
   seen =
       record {
         few = few;
@@ -76,15 +78,18 @@ module _ {S : Schema} {lent : Lent} {g : Register} {es : List Event} (n : Counts
   low s f none q = subst (λ t. t ≤ maxTypes) (sym (met-unnamed (s .met) (s .event) q)) (le-refl maxTypes)
   low s f (some id) q = subst (λ t. t ≤ maxTypes) (sym (met-named (s .met) (s .event) id q)) (type-low S few-types (s .met) f id)
 
-  pub met-low : (i : ℕ) → i < n .events → getD met i 0 ≤ maxTypes
+  pub met-low : (i : ℕ) → i < n .events → getD (ran .met) i 0 ≤ maxTypes
   met-low i h =
       let r = step-at seen i h in
       let s = r .0 in
       let f = step-fits S (left .fit .ready .types-fit) lent g es fits (unrefused S lent g es taken) s (element-in (stepsOf S g es) i (r .1)) in
       subst (λ t. t ≤ maxTypes) (sym (met-is i s (r .1))) (low s f (objectOf (s .event)) refl)
 
+  pub low-losses : LossesLow (ran .losses) (ran .held .losses)
+  low-losses = losses-low S g es is (left .losses-few) (left .fit .ready .types-fit) (left .fit .ready .relationships-few) lent fits taken
+
   -- so a trace can be made in a table of zeros
-  pub can-trace : {trace : List ℕ} → ((k : ℕ) → getD trace k 0 ≡ 0) → CanTrace n objects links met count losses trace
+  pub can-trace : {trace : List ℕ} → ((k : ℕ) → getD trace k 0 ≡ 0) → CanTrace n objects links (ran .met) (ran .held .losses) (ran .losses) trace
   can-trace empty =
       record {
         objects-ascend = left .fit .ready .fits .objects-ascend;
@@ -92,12 +97,12 @@ module _ {S : Schema} {lent : Lent} {g : Register} {es : List Event} (n : Counts
         objects-few = left .fit .objects-few;
         events-few = few;
         met-low = met-low;
-        losses-few = left .losses-few;
-        losses-low = left .losses-low;
+        losses-few = losses-few S g es is (left .losses-few);
+        losses-low = low-losses;
         empty = empty;
       }
 
   -- and its losses are those of the batch's steps
-  pub lost-by : (r u : ℕ) → lostIn losses count r u ≡ someStep (changeBy S g es) (Reach.taken r u)
+  pub lost-by : (r u : ℕ) → lostIn (ran .losses) (ran .held .losses) r u ≡ someStep (changeBy S g es) (Reach.taken r u)
   unfolding someStep
-  lost-by = left .lost
+  lost-by = lost S g es is (left .losses-few)

@@ -1,10 +1,14 @@
 -- `batch::check` meets its contract.
-use mathlib.Core.Path.{_≡_, refl, sym, _∙_}
+use mathlib.Core.Path.{_≡_, refl, sym, ap, _∙_}
 use denote.Ref.{now}
 use lib.ListN.{length}
 use Rattle.tables.specs.Layouts.{Sheet, sheetOf}
 use Rattle.tables.specs.declared.Verdict.the-variants.{Clear}
+use Rattle.tables.specs.Refusals.{verdictOf}
 use Rattle.checks.proofs.Given.{clear-none}
+use Rattle.events.specs.declared.Ran.{Ran}
+use Rattle.events.proofs.Answers.{verdict-by}
+use Rattle.lent_run.specs.Lent.{runRefusal}
 use Rattle.batch.proofs.Outcomes.{Unrefused, unrefused}
 use Rattle.batch.proofs.Ending.{given-end, ended}
 use Rattle.batch.proofs.Leaving.{left-refused, left-end}
@@ -21,6 +25,10 @@ sheet s =
     let a = s .args in
     sheetOf (now (a .types)) (now (a .floors)) (now (a .relationships)) (now (a .rules)) (now (a .bodies)) (now (a .objects)) (now (a .links)) (now (a .events))
 
+-- what was refused, if anything
+verdict-is : (c : tie.After-run) → let s = entry c in c .run .result .verdict ≡ verdictOf (runRefusal (s .args .n) (sheet s) (now (s .args .scratch-objects)) (now (s .args .scratch-links)))
+verdict-is c = ap (λ (r : Ran). r .verdict) (c .run .ensures .ran-is) ∙ verdict-by _ _ _ _
+
 -- where the run is clear, nothing was refused
 ran : (c : tie.After-run) → c .run .result .verdict ≡ Clear
     → let s = entry c in
@@ -28,7 +36,7 @@ ran : (c : tie.After-run) → c .run .result .verdict ≡ Clear
 ran c told =
     let s = entry c in
     unrefused (s .args .n) (sheet s) (now (s .args .scratch-objects)) (now (s .args .scratch-links)) (length (now (s .args .list)))
-    (clear-none _ (sym told ∙ c .run .ensures .verdict-is))
+    (clear-none _ (sym told ∙ verdict-is c))
 
 run-requires : tie.Need-run-requires
 run-requires c κs = search needs
@@ -46,7 +54,7 @@ judge-requires c κs =
     let s = entry run in
     let is = told .enum-told .given .1 in
     let left = run .run .ensures .left is in
-    (given-end (s .args .n) (sheet s) _ _ _ (ran run is) left, (_, ended (s .args .n) (sheet s) _ _ _ (ran run is) left))
+    (given-end (s .args .n) (sheet s) _ _ _ (ran run is) left, (_, ended (s .args .n) (sheet s) _ _ _ (ran run is) left (run .run .ensures .ran-is)))
 
 settle-requires : tie.Need-settle-requires
 settle-requires c κs = search needs
@@ -68,7 +76,7 @@ returns c =
     let run = c .before .before .before .before .before .before .before in
     let s = entry run in
     left-refused (s .args .n) (sheet s) (now (s .args .scratch-objects)) (now (s .args .scratch-links)) (now (s .args .list))
-    (sym (c .before .verdict .given .1) ∙ run .run .ensures .verdict-is) refl refl refl refl
+    (sym (c .before .verdict .given .1) ∙ verdict-is run) refl refl refl refl
 
 same-length-5 : tie.Need-same-length-5
 same-length-5 c = search needs
@@ -104,7 +112,7 @@ returns-2 c =
     let is = told .enum-told .given .1 in
     let left = run .run .ensures .left is in
     left-end (s .args .n) (sheet s) (now (s .args .scratch-objects)) (now (s .args .scratch-links)) (now (s .args .list)) (ran run is) _ left (λ k. known .slice-known6 .given k .fits)
-    (judged .judge .ensures _ (ended (s .args .n) (sheet s) _ _ _ (ran run is) left) _ refl _) (settled .settle .ensures)
+    (judged .judge .ensures _ (ended (s .args .n) (sheet s) _ _ _ (ran run is) left (run .run .ensures .ran-is)) _ refl _) (settled .settle .ensures)
 
 pub check-spec : {M : Type 1} → statement M
 check-spec =

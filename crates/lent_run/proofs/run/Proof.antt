@@ -6,7 +6,7 @@ use Rattle.tables.specs.Layouts.{Sheet, sheetOf, layouts}
 use Rattle.tables.specs.Refusals.{verdictOf, refusalOf}
 use Rattle.checks.proofs.Given.{clear-none}
 use Rattle.lent_run.specs.Lent.{scratchShort}
-use Rattle.lent_run.proofs.Given.{lent-refused, never-ran, can-run, lent-done}
+use Rattle.lent_run.proofs.Given.{never-ran, can-run, lent-done}
 use Rattle.lent_run.proofs.run.Statement.{statement}
 use Rattle.lent_run.proofs.run.Tie as tie
 
@@ -62,8 +62,7 @@ returns c =
     let matched = c .before .before in
     let asked = matched .before .before in
     let x = start asked .args in
-    never-ran (x .n) (lent asked) (now (x .scratch-objects)) (now (x .scratch-links)) (c .refused .ensures)
-    (lent-refused (x .n) (lent asked) (now (x .scratch-objects)) (now (x .scratch-links)) (sym (matched .number .given .1) ∙ verdict-is asked))
+    never-ran (x .n) (lent asked) (now (x .scratch-objects)) (now (x .scratch-links)) (sym (matched .number .given .1) ∙ verdict-is asked) (c .refused .ensures)
 
 same-length-3 : tie.Need-same-length-3
 same-length-3 c = search needs

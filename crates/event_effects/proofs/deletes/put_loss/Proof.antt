@@ -1,16 +1,20 @@
 -- `event_effects::deletes::put_loss` meets its contract: whose loss the link is, its two ends tell.
-use Prim.Native.Nat.{_+_, _*_}
-use mathlib.Core.Path.{_≡_, sym, ap, _∙_}
+use Prim.Native.Nat.{ℕ, _+_, _*_}
+use mathlib.Core.Path.{_≡_, sym, ap, ap₂, subst, _∙_}
 use mathlib.Core.Logic.{⊎-elim}
-use native.Mathlib.Nat.{le-refl}
-use native.Mathlib.Omega.{arith}
+use mathlib.Core.List.{List}
 use denote.Ref.{now}
 use Rattle.meaning.specs.Register.{Link}
 use Rattle.tables.specs.Columns.{linkRow}
-use Rattle.event_effects.proofs.Losses.{self-unlost, none-added, LossIs, as-loss, loss-put, loss-of-source, loss-of-target}
+use Rattle.event_effects.specs.Losses.{Loss, loss, lossOf}
+use Rattle.event_effects.specs.Effects.{LossesAdded}
+use Rattle.event_effects.proofs.Losses.{loss-self, loss-source, loss-target, none-added, one-added}
 use borrow.Author.Needs.{needs}
 use Rattle.event_effects.proofs.deletes.put_loss.Statement.{statement}
 use Rattle.event_effects.proofs.deletes.put_loss.Tie as tie
+
+as-losses : {a b : List Loss} {k : ℕ} {losses : List ℕ} {k′ : ℕ} {losses′ : List ℕ} → a ≡ b → LossesAdded b k losses k′ losses′ → LossesAdded a k losses k′ losses′
+as-losses {k = k} {losses = losses} {k′ = k′} {losses′ = losses′} e w = subst (λ a. LossesAdded a k losses k′ losses′) (sym e) w
 
 -- ---- once the link is read
 
@@ -39,7 +43,7 @@ returns : tie.Need-returns
 returns c =
     let at = c .before in
     let same = sym (at .before .source-of .ensures) ∙ c .if1 .taken ∙ at .target-of .ensures in
-    (none-added (λ r u. self-unlost (start at .args .id) (link at) r u same), omega arith)
+    as-losses (loss-self (start at .args .id) (link at) same) none-added
 
 add-role : tie.Need-add-role
 add-role c = search needs
@@ -77,12 +81,12 @@ returns-2 c =
     let target = at .target-of .ensures in
     let two-ends : link at .source ≡ link at .target → ⊥ = λ e. apart .if1 .left (source ∙ e ∙ sym target) in
     let of = at .before .before .relationship-of .ensures in
-    let row : LossIs (x .id) (link at) (c .if2 .role) (c .if2 .other) =
+    let row : lossOf (x .id) (link at) ≡ loss (c .if2 .role) (c .if2 .other) =
     ⊎-elim
-    (λ w. as-loss (w .1 ∙ ap (λ n. 2 * n + 1) of) (w .2 ∙ target) (loss-of-target (x .id) (link at) (x .count) (now (x .losses)) (start at .pre) two-ends (sym source ∙ w .0 .taken)))
-    (λ w. as-loss (w .1 ∙ ap (λ n. 2 * n) of) (w .2 ∙ source) (loss-of-source (x .id) (link at) (x .count) (now (x .losses)) (start at .pre) two-ends (λ e. w .0 .left (source ∙ e))))
+    (λ w. loss-target (x .id) (link at) two-ends (sym source ∙ w .0 .taken) ∙ sym (ap₂ loss (w .1 ∙ ap (λ n. 2 * n + 1) of) (w .2 ∙ target)))
+    (λ w. loss-source (x .id) (link at) two-ends (λ e. w .0 .left (source ∙ e)) ∙ sym (ap₂ loss (w .1 ∙ ap (λ n. 2 * n) of) (w .2 ∙ source)))
     (c .if2 .came) in
-    (loss-put (x .id) (link at) (x .count) (now (x .losses)) (start at .pre) (c .if2 .role) (c .if2 .other) row, le-refl _)
+    as-losses row one-added
 
 pub put-loss-spec : {M : Type 1} → statement M
 put-loss-spec =

@@ -68,7 +68,7 @@ loop-again c =
     ⊎-elim
     (λ w.
     as-passing _ _ _ _ _ (w .4) (w .5) (w .6) (w .7)
-    (row-gone _ _ _ _ _ can inv below (sym (looked .ends-at .ensures) ∙ w .0 .taken) (w .3 .ensures .0) (w .3 .ensures .1)))
+    (row-gone _ _ _ _ _ can inv below (sym (looked .ends-at .ensures) ∙ w .0 .taken) (w .3 .ensures)))
     (λ w. as-passing _ _ _ _ _ (w .5 ∙ w .2 .ensures) (w .6) (w .7) (w .8) (row-kept _ _ _ _ _ can inv below (sym (looked .ends-at .ensures) ∙ w .0 .left)))
     (c .if1 .came)
 

@@ -1,16 +1,15 @@
 -- `event_effects::effects::effect` meets its contract: each kind has its own effect, and a row that is no event is refused.
 use Prim.Native.Nat.{ℕ, _+_, _≤_}
 use mathlib.Core.Path.{_≡_, refl, subst}
-use mathlib.Core.Bool.{false}
 use mathlib.Core.List.{List, []}
 use native.Mathlib.Omega.{arith}
 use denote.Ref.{now}
 use Rattle.meaning.specs.Schema.{Schema, Floor, Relationship}
 use Rattle.meaning.specs.Register.{Register}
 use Rattle.meaning.specs.Events.{Event, apply}
-use Rattle.meaning.specs.Reach.{stepAt, taken}
 use Rattle.tables.specs.Columns.{typesOf, registerOf, eventOf}
 use Rattle.event_effects.specs.declared.Held.{Held}
+use Rattle.event_effects.specs.Losses.{lostAt}
 use Rattle.event_effects.specs.Effects.{Can, Applied, ObjectsApplied, LinksApplied, LossesKept}
 use Rattle.event_effects.proofs.Applied.{objects-applied, links-applied, joined-few, parted-few, losses-stay, as-applied, as-kept}
 use Rattle.event_refusals.proofs.Fields.{kind-unknown, kind-set, kind-join, kind-part, is-insert, is-delete, is-special, is-general}
@@ -60,7 +59,7 @@ module _ (c : tie.After-slice-known2) where
 
   -- one that changes a table of the two, and takes no link along
   abbrev Alone : Event → Type 0
-  Alone e = (r u : ℕ) → taken r u (stepAt g e) ≡ false
+  Alone e = lostAt g e ≡ []
 
   on-objects : {e : Event} → event ≡ e → Alone e → ((fs : List Floor) (rs : List Relationship) (h : Register) → (apply (S fs rs) e h) .links ≡ h .links) → {n : ℕ} {objects′ : List ℕ}
       → ((fs : List Floor) (rs : List Relationship) → ObjectsApplied (S fs rs) e (held .objects) objects n objects′) → Done (record { objects = n; links = held .links; losses = held .losses }) objects′ links losses
@@ -131,12 +130,12 @@ same-length : tie.Need-same-length
 same-length c = search needs
 
 returns : tie.Need-returns
-unfolding apply
+unfolding apply lostAt
 returns c =
     let done = c .before .before in
     let at = done .before .before in
     let a = start (at .before) .args in
-    on-objects (at .before) (is-insert (a .x) (a .y) (a .z) (start (at .before) .pre .1) (at .match .keys1)) (λ r u. refl) (λ fs rs h. refl) (λ fs rs. done .put-object .ensures (S (at .before) fs rs))
+    on-objects (at .before) (is-insert (a .x) (a .y) (a .z) (start (at .before) .pre .1) (at .match .keys1)) refl (λ fs rs h. refl) (λ fs rs. done .put-object .ensures (S (at .before) fs rs))
 
 same-length-2 : tie.Need-same-length-2
 same-length-2 c = search needs
@@ -156,58 +155,58 @@ same-length-4 : tie.Need-same-length-4
 same-length-4 c = search needs
 
 returns-3 : tie.Need-returns-3
-unfolding apply
+unfolding apply lostAt
 returns-3 c =
     let done = c .before .before in
     let at = done .before .before in
     let a = start (at .before) .args in
-    on-objects (at .before) (kind-set (a .x) (a .y) (a .z) (at .match .keys3)) (λ r u. refl) (λ fs rs h. refl) (λ fs rs. done .put-cell .ensures (S (at .before) fs rs))
+    on-objects (at .before) (kind-set (a .x) (a .y) (a .z) (at .match .keys3)) refl (λ fs rs h. refl) (λ fs rs. done .put-cell .ensures (S (at .before) fs rs))
 
 same-length-5 : tie.Need-same-length-5
 same-length-5 c = search needs
 
 returns-4 : tie.Need-returns-4
-unfolding apply
+unfolding apply lostAt
 returns-4 c =
     let done = c .before .before in
     let at = done .before .before in
     let a = start (at .before) .args in
-    on-links (at .before) (kind-join (a .x) (a .y) (a .z) (at .match .keys4)) (λ r u. refl) (λ fs rs h. refl) (λ fs rs. done .put-link .ensures (S (at .before) fs rs))
+    on-links (at .before) (kind-join (a .x) (a .y) (a .z) (at .match .keys4)) refl (λ fs rs h. refl) (λ fs rs. done .put-link .ensures (S (at .before) fs rs))
     (joined-few (done .put-link .ensures (S (at .before) [] [])))
 
 same-length-6 : tie.Need-same-length-6
 same-length-6 c = search needs
 
 returns-5 : tie.Need-returns-5
-unfolding apply
+unfolding apply lostAt
 returns-5 c =
     let done = c .before .before in
     let at = done .before .before in
     let a = start (at .before) .args in
-    on-links (at .before) (kind-part (a .x) (a .y) (a .z) (at .match .keys5)) (λ r u. refl) (λ fs rs h. refl) (λ fs rs. done .take-link .ensures (S (at .before) fs rs))
+    on-links (at .before) (kind-part (a .x) (a .y) (a .z) (at .match .keys5)) refl (λ fs rs h. refl) (λ fs rs. done .take-link .ensures (S (at .before) fs rs))
     (parted-few (done .take-link .ensures (S (at .before) [] [])))
 
 same-length-7 : tie.Need-same-length-7
 same-length-7 c = search needs
 
 returns-6 : tie.Need-returns-6
-unfolding apply
+unfolding apply lostAt
 returns-6 c =
     let done = c .before .before in
     let at = done .before .before in
     let a = start (at .before) .args in
-    on-objects (at .before) (is-special (a .x) (a .y) (a .z) (start (at .before) .pre .1) (at .match .keys6)) (λ r u. refl) (λ fs rs h. refl) (λ fs rs. done .put-type .ensures (S (at .before) fs rs))
+    on-objects (at .before) (is-special (a .x) (a .y) (a .z) (start (at .before) .pre .1) (at .match .keys6)) refl (λ fs rs h. refl) (λ fs rs. done .put-type .ensures (S (at .before) fs rs))
 
 same-length-8 : tie.Need-same-length-8
 same-length-8 c = search needs
 
 returns-7 : tie.Need-returns-7
-unfolding apply
+unfolding apply lostAt
 returns-7 c =
     let done = c .before .before in
     let at = done .before .before in
     let a = start (at .before) .args in
-    on-objects (at .before) (is-general (a .x) (a .y) (a .z) (start (at .before) .pre .1) (at .match .keys7)) (λ r u. refl) (λ fs rs h. refl) (λ fs rs. done .put-higher-type .ensures fs rs)
+    on-objects (at .before) (is-general (a .x) (a .y) (a .z) (start (at .before) .pre .1) (at .match .keys7)) refl (λ fs rs h. refl) (λ fs rs. done .put-higher-type .ensures fs rs)
 
 returns-8 : tie.Need-returns-8
 returns-8 c =

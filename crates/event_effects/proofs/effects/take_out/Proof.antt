@@ -1,6 +1,7 @@
 -- `event_effects::effects::take_out` meets its contract: the object's row is gone from one table, and its links from the other.
 use native.Mathlib.Omega.{arith}
 use Rattle.meaning.specs.Events.{delete}
+use Rattle.event_effects.specs.Losses.{lostAt}
 use Rattle.event_effects.proofs.Applied.{both-applied}
 use borrow.Author.Needs.{needs}
 use Rattle.event_effects.proofs.effects.take_out.Statement.{statement}
@@ -19,6 +20,7 @@ same-length-2 : tie.Need-same-length-2
 same-length-2 c = search needs
 
 returns : tie.Need-returns
+unfolding lostAt
 returns c =
     let out = c .before .before in
     let links = out .before .before .before .before in

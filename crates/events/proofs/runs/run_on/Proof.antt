@@ -12,15 +12,17 @@ use Rattle.meaning.specs.Schema.{Schema}
 use Rattle.meaning.specs.Register.{Register}
 use Rattle.meaning.specs.Events.{Event, Lent, eventRefusal}
 use Rattle.rows.specs.Rows.{readRows}
-use Rattle.tables.specs.Columns.{linkRow, floorsOf, schemaOf, registerOf, eventRow}
-use Rattle.tables.specs.Refusals.{verdictOf}
+use Rattle.tables.specs.Columns.{objectRow, linkRow, floorsOf, schemaOf, registerOf, eventRow}
 use Rattle.tables.specs.declared.Found.the-variants.{Nothing}
 use Rattle.tables.specs.declared.Verdict.the-variants.{Clear, Refused}
 use Rattle.schema.proofs.Founds.{found-none, found-some}
 use Rattle.tables.specs.Met.{metType}
+use Rattle.schema.proofs.Rows.{length-rows}
+use Rattle.events.specs.declared.Ran.{Ran}
 use Rattle.events.proofs.Allowed.{some-event}
+use Rattle.events.proofs.Answers.{verdict-over, ran-refused}
 use Rattle.events.proofs.Lost.{Lost, lost-none, lost-room, lost-more}
-use Rattle.events.proofs.Reached.{Reached, reached-none, reached-refused, reached-more, reached-end, fit-words}
+use Rattle.events.proofs.Reached.{Reached, reached-none, reached-refused, reached-more, reached-left, reached-ran, fit-words}
 use Rattle.events.proofs.runs.run_on.Statement.{statement}
 use Rattle.events.proofs.runs.run_on.Tie as tie
 
@@ -88,7 +90,7 @@ module _ (c : Looked) where
 loop-holds : tie.Need-loop-holds Inv-loop μ-loop
 loop-holds c =
     let first = c .before .before .before .before .before .before in
-    (λ w. reached-none _ _ _ _ (first .pre .1) (fit-words (first .pre .0) w) _ refl, refl, refl, lost-none _ _ _ (first .pre .0 .links-few) (first .pre .2) _ refl)
+    (λ w. reached-none _ _ _ _ (first .pre .1) (fit-words (first .pre .0) w), refl, refl, lost-none _ _ _ (first .pre .0 .links-few) (first .pre .2))
 
 met-type-requires : tie.Need-met-type-requires Inv-loop μ-loop
 met-type-requires c κs = c .before .before .loop .inv .0 0 .fit .ready .fits .objects-ascend
@@ -99,8 +101,11 @@ step-requires c κs =
     let inv = turn .before .loop .inv in
     (inv .0 0 .fit .ready, lost-room _ _ _ _ (inv .3) (turn .loop-test .taken) (inv .0 0 .few))
 
-enum-known-refused : tie.Need-enum-known-refused Inv-loop μ-loop
-enum-known-refused c = search needs
+enum-known-refusal : tie.Need-enum-known-refusal Inv-loop μ-loop
+enum-known-refusal c = search needs
+
+refused-requires : tie.Need-refused-requires Inv-loop μ-loop
+refused-requires c κs = search needs
 
 same-length : tie.Need-same-length Inv-loop μ-loop
 same-length c = search needs
@@ -110,13 +115,15 @@ same-length-2 c = search needs
 
 returns : tie.Need-returns Inv-loop μ-loop
 returns c =
-    let matched = c .before in
+    let matched = c .before .before in
     let asked = looked (matched .before .before) in
+    let first = start asked .args in
     λ w.
-    let met = found-some _ (sym (matched .refused .given .1) ∙ asked .step .ensures w .refused-is) in
+    let met = found-some _ (sym (matched .refusal .given .1) ∙ asked .step .ensures w .refused-is) in
+    let refusal = reached-refused _ _ _ _ _ (at-loop asked .loop .inv .0 w) (turn asked .loop-test .taken) met in
     record {
-      verdict-is = sym (ap verdictOf (reached-refused _ _ _ _ _ (at-loop asked .loop .inv .0 w) (turn asked .loop-test .taken) met));
-      left = λ e. absurd (refused-clear e);
+      ran-is = c .refused .ensures ∙ ran-refused refusal _ _ _ (length-rows (objectRow (now (first .objects))) (first .from .objects)) (length-rows (linkRow (now (first .links))) (first .from .links));
+      left = λ e. absurd (refused-clear (sym (ap (λ (r : Ran). r .verdict) (c .refused .ensures) ∙ verdict-over _ _ _ _) ∙ e));
     }
 
 enum-told : tie.Need-enum-told Inv-loop μ-loop
@@ -158,9 +165,9 @@ same-length-4 c = search needs
 
 returns-2 : tie.Need-returns-2 Inv-loop μ-loop
 returns-2 c =
-    λ w.
-    let r = reached-end _ _ _ _ _ (c .before .loop .inv .0 w) (c .loop-test .left) (c .before .loop .inv .3) in
-    record { verdict-is = sym (ap verdictOf (r .0)); left = λ e. r .1 }
+    let left = c .loop-test .left in
+    let inv = c .before .loop .inv in
+    λ w. record { ran-is = reached-ran _ _ _ _ _ (inv .0 w) left (inv .3); left = λ e. reached-left _ _ _ _ _ (inv .0 w) left (inv .3) }
 
 pub run-on-spec : {M : Type 1} → statement M
 run-on-spec =
@@ -171,7 +178,8 @@ run-on-spec =
     loop-holds
     met-type-requires
     step-requires
-    enum-known-refused
+    enum-known-refusal
+    refused-requires
     same-length
     same-length-2
     returns
