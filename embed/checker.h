@@ -151,16 +151,16 @@ void checker_read(
     uint32_t *events, size_t events_len,
     uint32_t answer[8]);
 
-/* The events of a batch on a copy of the register, which stands in the scratch; no rule is looked at. The answer is 0 and the used rows of
- * the scratch's objects and links; or 1, number, place, and then nothing is known of the scratch. Each scratch is as long as its table or
- * longer. */
+/* The events of a batch on a copy of the register; no rule is looked at. The answer is 0 and the used rows of the register after them, which
+ * then stands in the two tables lent for the end, unused rows 0; or 1, number, place, and then nothing is known of these two. Each of them is as
+ * long as its table or longer, else 6. */
 void checker_run(
     uint32_t types_used, uint32_t floors_used, uint32_t relationships_used, uint32_t rules_used, uint32_t objects_used, uint32_t links_used,
     const uint32_t *types, size_t types_len, const uint32_t *floors, size_t floors_len,
     const uint32_t *relationships, size_t relationships_len, const uint32_t *rules, size_t rules_len,
     const uint32_t *bodies, size_t bodies_len,
     const uint32_t *objects, size_t objects_len, const uint32_t *links, size_t links_len,
-    uint32_t *scratch_objects, size_t scratch_objects_len, uint32_t *scratch_links, size_t scratch_links_len,
+    uint32_t *end_objects, size_t end_objects_len, uint32_t *end_links, size_t end_links_len,
     uint32_t events_used, const uint32_t *events, size_t events_len,
     uint32_t answer[3]);
 

@@ -745,7 +745,7 @@ unsafe extern "C" {
         relationships: *const u32, relationships_len: usize, rules: *const u32, rules_len: usize,
         bodies: *const u32, bodies_len: usize,
         objects: *const u32, objects_len: usize, links: *const u32, links_len: usize,
-        scratch_objects: *mut u32, scratch_objects_len: usize, scratch_links: *mut u32, scratch_links_len: usize,
+        end_objects: *mut u32, end_objects_len: usize, end_links: *mut u32, end_links_len: usize,
         events_used: u32, events: *const u32, events_len: usize,
         answer: &mut [u32; 3],
     );

@@ -88,6 +88,13 @@ static void test_full(const Sheet *s) {
     agree_words("full check", answer, words(3).words, 3);
 }
 
+/* A table lent for the end has these words, and zeros past them. */
+static void agree_end(const char *what, const uint32_t *found, size_t len, Table end) {
+    int same = end.len <= len;
+    for (size_t i = 0; same && i < len; i++) same = found[i] == (i < end.len ? end.words[i] : 0);
+    agree(what, same);
+}
+
 static void test_run(const Sheet *s, const uint32_t scratch_len[2]) {
     uint32_t answer[3], *objects = soiled(scratch_len[0]), *links = soiled(scratch_len[1]);
     checker_run(COUNTS(s), BOOK(s), REGISTER(s), objects, scratch_len[0], links, scratch_len[1], s->used[6], TABLE(s, EVENTS), answer);
@@ -95,8 +102,8 @@ static void test_run(const Sheet *s, const uint32_t scratch_len[2]) {
     agree_words("run", answer, expected.words, 3);
     if (expected.words[0] == CHECKER_DONE) {
         Table end_objects = block(), end_links = block();
-        agree_words("objects of the run", objects, end_objects.words, end_objects.len);
-        agree_words("links of the run", links, end_links.words, end_links.len);
+        agree_end("objects of the run", objects, scratch_len[0], end_objects);
+        agree_end("links of the run", links, scratch_len[1], end_links);
     } else words(2);
     agree("guards of the run", objects[scratch_len[0]] == SOIL && links[scratch_len[1]] == SOIL);
     free(objects);
