@@ -1,4 +1,4 @@
--- The bits of a word: none from 32 on, those from one on, and the first.
+-- The bits of a word: none from 32 on and none of 0, those from one on, and the first.
 use Prim.Native.Nat.{ℕ, zero, suc, _+_, _/_, _%_, _^_, _≤_, _<_}
 use mathlib.Core.Path.{_≡_, refl, sym, ap, _∙_}
 use mathlib.Core.Logic.{⊎-elim}
@@ -8,14 +8,20 @@ use native.Mathlib.Nat.{div-eq-of-lt, eq-or-lt-of-le}
 use native.Mathlib.Omega.{arith}
 use lib.Dec.{eqb}
 use lib.ListN.{getD}
-use lib.Pow.{pow-mono, shr-shr}
+use lib.Pow.{pow-pos, pow-mono, shr-shr}
 use Rattle.meaning.specs.Lists.{keep}
 use Rattle.bits.specs.Bits.{bitAt, numbersFrom, bitsIn, lowestIn}
 use Rattle.pair_marks.specs.Marks.{Next}
 
-pub high-bit : (word : ℕ) → word < 2 ^ 32 → (j : ℕ) → 32 ≤ j → bitAt word j ≡ false
+small : (word j : ℕ) → word < 2 ^ j → bitAt word j ≡ false
 unfolding bitAt
-high-bit word h j past = ap (λ v. eqb (v % 2) 1) (div-eq-of-lt {n = word} {m = 2 ^ j} (omega (arith, pow-mono past)))
+small word j h = ap (λ v. eqb (v % 2) 1) (div-eq-of-lt {n = word} {m = 2 ^ j} h)
+
+pub high-bit : (word : ℕ) → word < 2 ^ 32 → (j : ℕ) → 32 ≤ j → bitAt word j ≡ false
+high-bit word h j past = small word j (omega (arith, pow-mono past))
+
+pub zero-bit : (j : ℕ) → bitAt 0 j ≡ false
+zero-bit j = small 0 j (pow-pos j)
 
 -- the bits from one on
 pub shifted : (word i j : ℕ) → bitAt (word / 2 ^ i) j ≡ bitAt word (i + j)

@@ -17,6 +17,7 @@ use Rattle.meaning.proofs.Lists.{decide}
 use Rattle.rows.specs.Rows.{rowsFrom}
 use Rattle.bits.specs.Bits.{bitAt}
 use Rattle.pair_marks.specs.Marks.{marked, hasMark, Next}
+use Rattle.pair_marks.proofs.Bits.{zero-bit}
 
 -- ---- no mark, or one, among rows
 
@@ -37,6 +38,11 @@ any-one p x j (suc k) low less e =
     step false rest = rest
 
 module _ (marks : List ℕ) where
+  -- words of 0 mark nothing
+  pub no-marks : ((k : ℕ) → getD marks k 0 ≡ 0) → (rule row : ℕ) → marked marks rule row ≡ false
+  unfolding marked
+  no-marks zeros rule row = ap (λ w. bitAt w (row % 32)) (zeros (rule * 32 + row / 32)) ∙ zero-bit (row % 32)
+
   -- ---- the rows of a word
 
   module _ (rule row : ℕ) where
