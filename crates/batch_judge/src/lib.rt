@@ -44,7 +44,7 @@ pub fn judge(
 {
     let mut index = [0u16; 81920];
     link_index::index(n.objects, objects, n.links, links, &mut index);
-    let mut chosen = [0u16; 32768];
+    let mut marks = [0u32; 1024];
     let count = selected_pairs(
         n,
         types,
@@ -59,7 +59,7 @@ pub fn judge(
         met,
         loss_count,
         losses,
-        &mut chosen,
+        &mut marks,
     );
     if list.len() < (count as usize) * 2 {
         return Judged {
@@ -67,7 +67,7 @@ pub fn judge(
             pairs: 0,
         };
     }
-    pair_list::write(count, &chosen, objects, list);
+    pair_list::write(n, &marks, objects, list);
     let answer = pair_list::search(
         n,
         types,
@@ -78,8 +78,7 @@ pub fn judge(
         objects,
         links,
         &index,
-        count,
-        &chosen,
+        &marks,
     );
     Judged {
         answer,

@@ -1,3 +1,3 @@
 -- Laws behind the selected pairs.
---   Pairs    the codes of the touched rules are those of the selected pairs, and of rules and rows that are there
+--   Pairs    what an inspection marks, and what the touched rules' events mark, are the selected pairs
 pub mod Pairs

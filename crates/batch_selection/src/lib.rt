@@ -8,21 +8,21 @@ use trace::make;
 ghost use mathlib.Core.Path.{_≡_};
 ghost use mathlib.Core.List.{List, []};
 ghost use Prim.Native.Nat.{ℕ, _*_, _≤_};
-ghost use lib.ListN.{length, getD, take};
-ghost use Rattle.meaning.specs.Limits.{maxEvents};
+ghost use lib.ListN.{length, getD};
+ghost use Rattle.meaning.specs.Limits.{maxEvents, maxObjects, maxRules};
 ghost use Rattle.meaning.specs.Lists.{keep};
-ghost use Rattle.meaning.specs.Reach.{Change, selectedPairs};
+ghost use Rattle.meaning.specs.Reach.{Change};
 ghost use Rattle.meaning.specs.EventList.{touched};
 ghost use Rattle.rows.specs.Rows.{readRows};
-ghost use Rattle.tables.specs.Columns.{ruleRow, floorsOf, schemaOf, bookOf};
+ghost use Rattle.tables.specs.Columns.{ruleRow, floorsOf, schemaOf};
 ghost use Rattle.tables.specs.Layouts.{sheetOf};
 ghost use Rattle.register.specs.Tables.{ObjectsAscend};
 ghost use Rattle.trace_places.specs.Traces.{Seen};
 ghost use Rattle.bits.specs.Bits.{bitsIn};
 ghost use Rattle.touched.specs.Books.{BookGiven};
 ghost use Rattle.full_search.specs.Search.{Clear};
-ghost use Rattle.pair_list.specs.Pairs.{pairsOf, Chosen};
-ghost use Rattle.batch_selection.specs.Ended.{Ended, eventCodes};
+ghost use Rattle.selection.specs.Selected.{byEvents, Added};
+ghost use Rattle.batch_selection.specs.Ended.{Ended, touchedRules, Selects};
 
 // The rules that the batch touches, one bit each.
 fn touched_rules(
@@ -47,7 +47,7 @@ fn touched_rules(
     touched(n, types, floors, relationships, rules, bodies, &marks)
 }
 
-// The codes of the pairs that the events select, ascending; the answer is how many there are.
+// Marks the pairs that the events select; the answer is how many they are.
 fn by_events(
     n: Counts,
     types: &[u32],
@@ -62,14 +62,15 @@ fn by_events(
     met: &[u32; 256],
     loss_count: u32,
     losses: &[u32; 8704],
-    chosen: &mut [u16],
+    marks: &mut [u32; 1024],
 ) -> u32
     requires { ⌜ (Clear n (sheetOf (now types) (now floors) (now relationships) (now rules) (now bodies) (now objects) (now links) []) (now index))
         × ((c : Change) × Ended c n (sheetOf (now types) (now floors) (now relationships) (now rules) (now bodies) (now objects) (now links) (now events)) (now met) «loss_count» (now losses))
-        × (length (now chosen) ≡ 32768) ⌝ }
+        × (length (now marks) ≡ 1024) ⌝ }
     ensures { λ r. ⌜ (let s = sheetOf (now (types .entry)) (now (floors .entry)) (now (relationships .entry)) (now (rules .entry)) (now (bodies .entry)) (now (objects .entry)) (now (links .entry)) (now (events .entry)) in
-        (length (now (chosen .exit)) ≡ length (now (chosen .entry))) × (r ≤ n .rules * 1024)
-        × ((c : Change) → Ended c n s (now (met .entry)) «loss_count» (now (losses .entry)) → take r (now (chosen .exit)) ≡ eventCodes c n s)) ⌝ }
+        (r ≤ n .rules * maxObjects)
+        × ((c : Change) → Ended c n s (now (met .entry)) «loss_count» (now (losses .entry))
+        → Added (s .objects) (byEvents c (s .rules) (s .bodies) (s .objects)) (n .objects) (touchedRules c n s) (now (marks .entry)) (now (marks .exit)) r)) ⌝ }
 {
     let mut trace = [0u16; 16675];
     make(
@@ -107,12 +108,12 @@ fn by_events(
         events,
         &trace,
         rules_touched,
-        chosen,
+        marks,
     )
 }
 
-// The codes of the selected pairs, ascending; the answer is how many there are. A batch without events is an inspection: nothing is traced, and no rule asked
-// what may have moved.
+// Marks the selected pairs; the answer is how many they are. A batch without events is an inspection: nothing is traced, and no rule asked what may have
+// moved.
 pub fn selected_pairs(
     n: Counts,
     types: &[u32],
@@ -127,18 +128,17 @@ pub fn selected_pairs(
     met: &[u32; 256],
     loss_count: u32,
     losses: &[u32; 8704],
-    chosen: &mut [u16],
+    marks: &mut [u32; 1024],
 ) -> u32
     requires { ⌜ (Clear n (sheetOf (now types) (now floors) (now relationships) (now rules) (now bodies) (now objects) (now links) []) (now index))
         × ((c : Change) × Ended c n (sheetOf (now types) (now floors) (now relationships) (now rules) (now bodies) (now objects) (now links) (now events)) (now met) «loss_count» (now losses))
-        × (length (now chosen) ≡ 32768) ⌝ }
+        × (length (now marks) ≡ 1024) × ((k : ℕ) → getD (now marks) k 0 ≡ 0) ⌝ }
     ensures { λ r. ⌜ (let s = sheetOf (now (types .entry)) (now (floors .entry)) (now (relationships .entry)) (now (rules .entry)) (now (bodies .entry)) (now (objects .entry)) (now (links .entry)) (now (events .entry)) in
-        (length (now (chosen .exit)) ≡ length (now (chosen .entry)))
-        × (Chosen n (now (chosen .exit)) r)
-        × ((c : Change) → Ended c n s (now (met .entry)) «loss_count» (now (losses .entry)) → pairsOf (now (objects .entry)) (now (chosen .exit)) r ≡ selectedPairs (bookOf n s) c)) ⌝ }
+        (r ≤ maxRules * maxObjects)
+        × ((c : Change) → Ended c n s (now (met .entry)) «loss_count» (now (losses .entry)) → Selects c n s (now (marks .exit)) r)) ⌝ }
 {
     if n.events == 0 {
-        return every_pair(n, types, rules, objects, chosen);
+        return every_pair(n, types, rules, objects, marks);
     }
     by_events(
         n,
@@ -154,6 +154,6 @@ pub fn selected_pairs(
         met,
         loss_count,
         losses,
-        chosen,
+        marks,
     )
 }

@@ -1,5 +1,7 @@
--- Laws of the pairs that the code holds.
---   Words   the words of the pairs before a place, and of one more
---   Left    the first broken pair among those that are left
-pub mod Words
+-- Laws of the marked pairs.
+--   Left     the pairs that are left from a rule on, and from a row of a rule on
+--   Words    the words of the pairs that are written
+--   Found    the first broken pair among those that are left
 pub mod Left
+pub mod Words
+pub mod Found

@@ -1,17 +1,13 @@
--- The words of the pairs before a place, and of one more.
-use Prim.Native.Nat.{ℕ, _+_, _*_, _/_, _%_, _≤_, _<_}
-use mathlib.Core.Path.{_≡_, refl, sym, ap, _∙_}
-use mathlib.Core.List.{List, [], _∷_, _++_, map-append, flatMap}
+-- The words of the pairs that are written, and of one more.
+use Prim.Native.Nat.{ℕ, suc, _+_, _*_, _≤_, _<_}
+use mathlib.Core.Path.{_≡_, refl, sym, ap, subst, _∙_}
+use mathlib.Core.List.{List, [], _∷_, _++_, append-assoc, append-nil, flatMap}
 use native.Mathlib.Omega.{arith}
-use native.Mathlib.Numerals.{add-one}
-use lib.ListN.{length, getD, take, drop, length-map}
-use lib.Seq.{take-suc, length-take-le}
-use Rattle.meaning.specs.Limits.{maxObjects}
+use lib.ListN.{length, take, drop, length-append}
 use Rattle.meaning.specs.Reach.{Pair, pairOf, pairKey}
 use Rattle.rows.specs.Rows.{inFront, withRow}
 use Rattle.rows.proofs.Fronts.{row-put, front-more}
-use Rattle.walks.specs.Site.{idIn}
-use Rattle.pair_list.specs.Pairs.{pairAt, pairsOf, pairWords}
+use Rattle.pair_list.specs.Pairs.{pairWords}
 
 pub words-more : (ps qs : List Pair) → pairWords (ps ++ qs) ≡ pairWords ps ++ pairWords qs
 unfolding pairWords flatMap
@@ -23,39 +19,47 @@ unfolding pairWords flatMap
 words-length [] = refl
 words-length (p ∷ ps) = omega (arith, words-length ps)
 
-one-pair : {p q : Pair} → p ≡ q → pairWords (p ∷ []) ≡ pairKey q
+one-pair : (p : Pair) → pairWords (p ∷ []) ≡ pairKey p
 unfolding pairWords flatMap
-one-pair e = ap pairKey e
+one-pair p = refl
 
--- ---- the words of the pairs before a place are written
+-- ---- of all pairs those that come before some are written
 
-module _ (objects chosen list : List ℕ) where
-  pub record Written (at : ℕ) (now : List ℕ) : Type 0 where
+module _ (list : List ℕ) (all : List Pair) where
+  pub record Written (left : List Pair) (at : ℕ) (now : List ℕ) : Type 0 where
+    pub done : List Pair
+    pub parts : all ≡ done ++ left
+    pub reached : at ≡ length done
     pub long : length now ≡ length list
-    pub words : now ≡ inFront (pairWords (pairsOf objects chosen at)) list
+    pub words : now ≡ inFront (pairWords done) list
 
-  pub written-none : Written 0 list
+  pub written-none : Written all 0 list
   unfolding pairWords flatMap
-  written-none = record { long = refl; words = refl }
+  written-none = record { done = []; parts = refl; reached = refl; long = refl; words = refl }
 
-  one-more : (at : ℕ) → at < length chosen → pairsOf objects chosen (at + 1) ≡ pairsOf objects chosen at ++ pairAt objects (getD chosen at 0) ∷ []
-  one-more at h = rw (add-one, take-suc chosen at 0) (map-append (pairAt objects) (take at chosen) (getD chosen at 0 ∷ []))
+  pub written-all : {at : ℕ} {now : List ℕ} → Written [] at now → now ≡ inFront (pairWords all) list
+  written-all w = w .words ∙ ap (λ ps. inFront (pairWords ps) list) (sym (w .parts ∙ append-nil (w .done)))
 
-  pub written-one : {at rule id : ℕ} {now now' : List ℕ} → Written at now → at < length chosen
-      → rule ≡ getD chosen at 0 / maxObjects → id ≡ idIn objects (getD chosen at 0 % maxObjects)
-      → at * 2 + 2 ≤ length now → length now' ≡ length now → now' ≡ withRow now 2 at (rule ∷ id ∷ []) → Written (at + 1) now'
-  written-one {at} {rule} {id} {now} {now'} w h p q room same put =
-      let before : at * 2 ≡ length (pairWords (pairsOf objects chosen at)) =
-      omega (arith, words-length (pairsOf objects chosen at), length-map (take at chosen) (pairAt objects), length-take-le at chosen (omega arith)) in
-      let pair : pairAt objects (getD chosen at 0) ≡ pairOf rule id = sym (λ j. pairOf (p j) (q j)) in
-      let all : pairWords (pairsOf objects chosen (at + 1)) ≡ pairWords (pairsOf objects chosen at) ++ rule ∷ id ∷ [] =
-      ap pairWords (one-more at h) ∙ words-more (pairsOf objects chosen at) (pairAt objects (getD chosen at 0) ∷ []) ∙ ap (λ ws. pairWords (pairsOf objects chosen at) ++ ws) (one-pair pair) in
-      record {
-        long = same ∙ w .long;
-        words =
-            put
-            ∙ row-put now (rule ∷ id ∷ []) 2 at refl room
-            ∙ ap (λ l. take (at * 2) l ++ (rule ∷ id ∷ []) ++ drop (at * 2 + 2) l) (w .words)
-            ∙ front-more (pairWords (pairsOf objects chosen at)) (rule ∷ id ∷ []) list (at * 2) 2 before refl
-            ∙ ap (λ ws. inFront ws list) (sym all);
-      }
+  module _ {p : Pair} {left : List Pair} {at : ℕ} {now : List ℕ} (w : Written (p ∷ left) at now) where
+    -- it is one of them
+    pub before-end : at < length all
+    before-end = omega (arith, w .reached, ap length (w .parts), length-append (w .done) (p ∷ left))
+
+    pub written-one : 2 * length all ≤ length list → {now' : List ℕ} → length now' ≡ length now → now' ≡ withRow now 2 at (pairKey p) → Written left (at + 1) now'
+    written-one lent same put =
+        let before : at * 2 ≡ length (pairWords (w .done)) = omega (arith, w .reached, words-length (w .done)) in
+        record {
+          done = w .done ++ p ∷ [];
+          parts = w .parts ∙ sym (append-assoc (w .done) (p ∷ []) left);
+          reached = omega (arith, w .reached, length-append (w .done) (p ∷ []));
+          long = same ∙ w .long;
+          words =
+              put
+              ∙ row-put now (pairKey p) 2 at refl (omega (arith, before-end, w .long))
+              ∙ ap (λ l. take (at * 2) l ++ pairKey p ++ drop (at * 2 + 2) l) (w .words)
+              ∙ front-more (pairWords (w .done)) (pairKey p) list (at * 2) 2 before refl
+              ∙ ap (λ ws. inFront ws list) (sym (words-more (w .done) (p ∷ []) ∙ ap (λ ws. pairWords (w .done) ++ ws) (one-pair p)));
+        }
+
+  pub written-on : {left left' : List Pair} {at : ℕ} {now : List ℕ} → left ≡ left' → Written left at now → Written left' at now
+  written-on {at = at} {now = now} e w = subst (λ l. Written l at now) e w

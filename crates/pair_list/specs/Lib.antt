@@ -1,3 +1,3 @@
--- The selected pairs as the code holds them.
---   Pairs    pairs by their codes, and the words of a list of pairs
+-- The pairs that are marked.
+--   Pairs    the marked pairs, ascending, and the words of a list of pairs
 pub mod Pairs

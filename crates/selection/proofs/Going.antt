@@ -1,16 +1,13 @@
--- Rules one after the other, all or those that are touched: their codes follow each other, and there is room for each.
+-- The touched rules one after the other, and room for the number of their pairs.
 use Prim.Native.Nat.{ℕ, zero, suc, _+_, _*_, _≤_, _<_}
-use mathlib.Core.Path.{_≡_, refl, sym, ap, ap₂, subst, _∙_}
+use mathlib.Core.Path.{_≡_, refl, sym, ap, subst, _∙_}
 use mathlib.Core.Bool.{Bool, true, false, cond}
-use mathlib.Core.List.{List, [], _∷_, _++_, append-assoc, append-nil, flatMap}
-use native.Mathlib.Nat.{zero-add}
-use native.Mathlib.Numerals.{add-one}
+use mathlib.Core.List.{List, [], _∷_, _++_, append-assoc, append-nil}
 use native.Mathlib.Omega.{arith}
 use lib.ListN.{length, getD, drop}
 use Rattle.meaning.specs.Lists.{keep}
 use Rattle.meaning.specs.Limits.{maxObjects}
 use Rattle.rows.specs.Rows.{rowsFrom, readRows}
-use Rattle.selection.proofs.Chosen.{rows-snoc}
 
 -- numbers from `low` on, ascending, and below m
 abbrev pub Spaced : ℕ → ℕ → List ℕ → Type 0
@@ -30,28 +27,9 @@ spaced-from may j (suc q) = step (may j) (subst (λ m. Spaced (suc j) m (keep ma
     step true s = (omega arith, omega arith, s)
     step false s = sooner j (j + suc q) (keep may (rowsFrom (λ x. x) (suc j) q)) s
 
-flat-append : (f : ℕ → List ℕ) (l k : List ℕ) → flatMap f (l ++ k) ≡ flatMap f l ++ flatMap f k
-unfolding flatMap
-flat-append f [] k = refl
-flat-append f (i ∷ l) k = ap (λ m. f i ++ m) (flat-append f l k) ∙ sym (append-assoc (f i) (flatMap f l) (flatMap f k))
-
-flat-one : (f : ℕ → List ℕ) (i : ℕ) → flatMap f (i ∷ []) ≡ f i
-unfolding flatMap
-flat-one f i = append-nil (f i)
-
--- ---- every rule in turn
-
--- with the codes of one rule more
-pub rule-on : (f : ℕ → List ℕ) (rule : ℕ) {now now' : List ℕ} → now ≡ flatMap f (readRows (λ x. x) rule) → now' ≡ now ++ f rule → now' ≡ flatMap f (readRows (λ x. x) (rule + 1))
-rule-on f rule was put =
-    put
-    ∙ ap₂ _++_ was (sym (flat-one f rule))
-    ∙ sym (flat-append f (readRows (λ x. x) rule) (rule ∷ []))
-    ∙ ap (flatMap f) (ap (λ k. readRows (λ x. x) rule ++ k ∷ []) (sym (zero-add rule)) ∙ sym (rows-snoc (λ x. x) 0 rule) ∙ ap (readRows (λ x. x)) (sym (add-one rule)))
-
 -- ---- the touched rules
 
--- the rules that are left of all, the codes that are there, and how many rules remain
+-- the rules that are left of all, the pairs of those that are done, and how many rules remain
 pub record Going (m : ℕ) (all left : List ℕ) (count remaining : ℕ) : Type 0 where
   pub low : ℕ
   pub low-few : low ≤ m
@@ -97,11 +75,6 @@ module _ {m : ℕ} {all left : List ℕ} {count remaining : ℕ} (g : Going m al
         done = g .done ++ next ∷ [];
         parts = g .parts ∙ ap (λ l. g .done ++ l) (split ∙ ap (λ l. next ∷ l) (sym r)) ∙ sym (append-assoc (g .done) (next ∷ []) _);
       }
-
-  -- with the codes of one rule more
-  pub codes-on : (f : ℕ → List ℕ) {rule : ℕ} {now now' : List ℕ} → rule ≡ next → now ≡ flatMap f (g .done) → now' ≡ now ++ f rule → now' ≡ flatMap f (g .done ++ next ∷ [])
-  codes-on f e was put =
-      put ∙ ap₂ _++_ was (ap f e) ∙ sym (flat-append f (g .done) (next ∷ []) ∙ ap (λ l. flatMap f (g .done) ++ l) (flat-one f next))
 
 none-left : (l : List ℕ) → 0 ≡ length l → l ≡ []
 none-left [] e = refl

@@ -1,9 +1,9 @@
 -- Laws of the selection.
---   Codes    the codes of the rules are the selected pairs, of an inspection and of a batch with events
---   Chosen   the codes of a rule's rows one after the other
+--   Adding   what is marked of a rule's rows one after the other, and of rules one after the other
+--   Pairs    the pairs of the rules at whose rows a rule is selected are the selected pairs
 --   Given    what no refusal gives the selection of a rule
 --   Going    rules one after the other
-pub mod Codes
-pub mod Chosen
+pub mod Adding
+pub mod Pairs
 pub mod Given
 pub mod Going

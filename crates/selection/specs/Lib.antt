@@ -1,3 +1,3 @@
 -- The selection of a batch's pairs.
---   Selected   the codes of a rule's listed pairs
+--   Selected   at which rows a rule is selected, and what is marked
 pub mod Selected

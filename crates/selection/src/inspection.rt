@@ -1,34 +1,34 @@
 // The pairs of an inspection: every rule at every object of its context type.
-use crate::rule::put;
+use pair_marks::mark;
 use tables::Counts;
 ghost use mathlib.Core.Path.{_≡_};
-ghost use mathlib.Core.List.{_++_, flatMap};
-ghost use Prim.Native.Nat.{_+_, _*_, _≤_, _<_};
-ghost use lib.ListN.{length, take};
+ghost use mathlib.Core.List.{[], _∷_};
+ghost use Prim.Native.Nat.{_*_, _≤_, _<_};
+ghost use lib.ListN.{length};
+ghost use Rattle.meaning.specs.Limits.{maxObjects, maxRules};
 ghost use Rattle.rows.specs.Rows.{readRows};
 ghost use Rattle.tables.specs.Columns.{typesOf};
-ghost use Rattle.selection.specs.Selected.{contextCodes};
+ghost use Rattle.selection.specs.Selected.{inContext, Added};
 
-// Puts the codes of a rule and of the rows under its context type after those that are there; the answer is how many there are then.
-fn put_context(
+// Marks the rows under a rule's context type; the answer is how many they are.
+fn mark_context(
     n: Counts,
     types: &[u32],
     rules: &[u32],
     objects: &[u32],
     rule: u32,
-    at: u32,
-    chosen: &mut [u16],
+    marks: &mut [u32; 1024],
 ) -> u32
-    requires { ⌜ (n .objects ≤ 1024) × (rule < 32) × (at ≤ rule * 1024) × (length (now chosen) ≡ 32768) ⌝ }
-    ensures { λ r. ⌜ (length (now (chosen .exit)) ≡ length (now (chosen .entry))) × (r ≤ at + n .objects)
-        × (take r (now (chosen .exit)) ≡ take at (now (chosen .entry)) ++ contextCodes (typesOf (n .types) (now (types .entry))) (now (rules .entry)) (now (objects .entry)) (n .objects) rule) ⌝ }
+    requires { ⌜ (n .objects ≤ maxObjects) × (rule < maxRules) × (length (now marks) ≡ 1024) ⌝ }
+    ensures { λ r. ⌜ (length (now (marks .exit)) ≡ 1024) × (r ≤ n .objects)
+        × (Added (now (objects .entry)) (inContext (typesOf (n .types) (now (types .entry))) (now (rules .entry)) (now (objects .entry))) (n .objects) («rule» ∷ []) (now (marks .entry)) (now (marks .exit)) r) ⌝ }
 {
     let context = rows::word(rules, tables::RULE_WIDTH, rule, 0);
-    let mut count = at;
+    let mut count: u32 = 0;
     let mut row: u32 = 0;
     while row < n.objects {
         if schema::under(n.types, types, register::type_of(objects, row), context) {
-            put(chosen, count, rule * 1024 + row);
+            mark(marks, rule, row);
             count += 1;
         }
         row += 1;
@@ -36,22 +36,23 @@ fn put_context(
     count
 }
 
-// Req 08: the codes of every pair of a rule and an object of its context type; the answer is how many there are.
+// Req 08: marks every pair of a rule and an object of its context type; the answer is how many they are.
 pub fn every_pair(
     n: Counts,
     types: &[u32],
     rules: &[u32],
     objects: &[u32],
-    chosen: &mut [u16],
+    marks: &mut [u32; 1024],
 ) -> u32
-    requires { ⌜ (n .rules ≤ 32) × (n .objects ≤ 1024) × (length (now chosen) ≡ 32768) ⌝ }
-    ensures { λ r. ⌜ (length (now (chosen .exit)) ≡ length (now (chosen .entry))) × (r ≤ n .rules * 1024)
-        × (take r (now (chosen .exit)) ≡ flatMap (contextCodes (typesOf (n .types) (now (types .entry))) (now (rules .entry)) (now (objects .entry)) (n .objects)) (readRows (λ i. i) (n .rules))) ⌝ }
+    requires { ⌜ (n .rules ≤ maxRules) × (n .objects ≤ maxObjects) × (length (now marks) ≡ 1024) ⌝ }
+    ensures { λ r. ⌜ (length (now (marks .exit)) ≡ 1024) × (r ≤ n .rules * maxObjects)
+        × (Added (now (objects .entry)) (inContext (typesOf (n .types) (now (types .entry))) (now (rules .entry)) (now (objects .entry))) (n .objects) (readRows (λ i. i) (n .rules)) (now (marks .entry)) (now (marks .exit)) r) ⌝ }
 {
     let mut count: u32 = 0;
     let mut rule: u32 = 0;
     while rule < n.rules {
-        count = put_context(n, types, rules, objects, rule, count, chosen);
+        let found = mark_context(n, types, rules, objects, rule, marks);
+        count += found;
         rule += 1;
     }
     count

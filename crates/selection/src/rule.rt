@@ -1,6 +1,7 @@
 // The objects at which a rule is selected.
 use body_rows::body::scan;
 use candidates::candidates;
+use pair_marks::mark;
 use quietness::quiet::Still;
 use quietness::quiet::stillness;
 use selected::chosen_at;
@@ -8,27 +9,19 @@ use tables::Counts;
 use typing::Place;
 use typing::floored_rows;
 ghost use mathlib.Core.Path.{_≡_};
-ghost use mathlib.Core.List.{[], _++_};
-ghost use Prim.Native.Nat.{_+_, _*_, _≤_, _<_};
-ghost use lib.ListN.{length, take, set};
+ghost use mathlib.Core.List.{[], _∷_};
+ghost use Prim.Native.Nat.{_≤_, _<_};
+ghost use lib.ListN.{length};
+ghost use Rattle.meaning.specs.Limits.{maxObjects, maxRules};
 ghost use Rattle.meaning.specs.Reach.{Change};
 ghost use Rattle.tables.specs.Columns.{floorsOf, schemaOf};
 ghost use Rattle.tables.specs.Layouts.{sheetOf};
 ghost use Rattle.trace_places.specs.Traces.{Traced, Traces};
 ghost use Rattle.full_search.specs.Search.{Clear};
-ghost use Rattle.selection.specs.Selected.{ruleCodes};
+ghost use Rattle.selection.specs.Selected.{byEvents, Added};
 ghost use Rattle.selected.specs.Ready.{RuleReady, KnownBy, Marked};
 
-// A code at its place.
-pub fn put(chosen: &mut [u16], at: u32, code: u32)
-    requires { ⌜ (at < length (now chosen)) × (code < 65536) ⌝ }
-    ensures { λ _. ⌜ now (chosen .exit) ≡ set (now (chosen .entry)) at code ⌝ }
-{
-    let place = at as usize;
-    chosen[place] = code as u16;
-}
-
-// Puts the codes of the rows at which a rule is selected after those that are there; the answer is how many there are then.
+// Marks the rows at which a rule is selected; the answer is how many they are.
 fn choose(
     n: Counts,
     types: &[u32],
@@ -43,20 +36,19 @@ fn choose(
     trace: &[u16; 16675],
     rule: u32,
     still: Still,
-    marks: &[bool; 1024],
-    at: u32,
-    chosen: &mut [u16],
+    candidate: &[bool; 1024],
+    marks: &mut [u32; 1024],
 ) -> u32
     requires { ⌜ (RuleReady n (now types) (now objects) (now links) (now index) (now rules) (now bodies) (now spans) rule)
         × (Traces n (now types) (now objects) (now links) (now events) (now trace))
-        × (Marked n (now types) (now objects) (now links) (now events) (now trace) (now rules) (now bodies) rule (now floored) still (now marks))
-        × (rule < 32) × (at ≤ rule * 1024) × (length (now chosen) ≡ 32768) ⌝ }
-    ensures { λ r. ⌜ (length (now (chosen .exit)) ≡ length (now (chosen .entry))) × (r ≤ at + n .objects)
+        × (Marked n (now types) (now objects) (now links) (now events) (now trace) (now rules) (now bodies) rule (now floored) still (now candidate))
+        × (rule < maxRules) × (length (now marks) ≡ 1024) ⌝ }
+    ensures { λ r. ⌜ (length (now (marks .exit)) ≡ 1024) × (r ≤ n .objects)
         × ((c : Change) → Traced c n (now (types .entry)) (now (objects .entry)) (now (links .entry)) (now (events .entry)) (now (trace .entry))
         → KnownBy c (now (rules .entry)) (now (bodies .entry)) rule (now (floored .entry)) still
-        → take r (now (chosen .exit)) ≡ take at (now (chosen .entry)) ++ ruleCodes c (now (rules .entry)) (now (bodies .entry)) (now (objects .entry)) (n .objects) rule) ⌝ }
+        → Added (now (objects .entry)) (byEvents c (now (rules .entry)) (now (bodies .entry)) (now (objects .entry))) (n .objects) («rule» ∷ []) (now (marks .entry)) (now (marks .exit)) r) ⌝ }
 {
-    let mut count = at;
+    let mut count: u32 = 0;
     let mut row: u32 = 0;
     while row < n.objects {
         if chosen_at(
@@ -73,10 +65,10 @@ fn choose(
             trace,
             rule,
             still,
-            marks,
+            candidate,
             row,
         ) {
-            put(chosen, count, rule * 1024 + row);
+            mark(marks, rule, row);
             count += 1;
         }
         row += 1;
@@ -84,8 +76,7 @@ fn choose(
     count
 }
 
-// Puts the codes of a rule's selected pairs after those that are there; the answer is how many there are then. The sets are room for going back, whatever
-// they hold.
+// Marks a rule's selected pairs; the answer is how many they are. The sets are room for going back, whatever they hold.
 pub fn select_rule(
     n: Counts,
     types: &[u32],
@@ -100,16 +91,15 @@ pub fn select_rule(
     trace: &[u16; 16675],
     rule: u32,
     sets: &mut [bool],
-    at: u32,
-    chosen: &mut [u16],
+    marks: &mut [u32; 1024],
 ) -> u32
     requires { ⌜ (Clear n (sheetOf (now types) (now floors) (now relationships) (now rules) (now bodies) (now objects) (now links) []) (now index))
         × (Traces n (now types) (now objects) (now links) (now events) (now trace))
-        × (rule < n .rules) × (at ≤ rule * 1024) × (length (now chosen) ≡ 32768) × (length (now sets) ≡ 65536) ⌝ }
-    ensures { λ r. ⌜ (length (now (chosen .exit)) ≡ length (now (chosen .entry))) × (length (now (sets .exit)) ≡ length (now (sets .entry))) × (r ≤ at + 1024)
+        × (rule < n .rules) × (length (now marks) ≡ 1024) × (length (now sets) ≡ 65536) ⌝ }
+    ensures { λ r. ⌜ (length (now (marks .exit)) ≡ 1024) × (length (now (sets .exit)) ≡ length (now (sets .entry))) × (r ≤ maxObjects)
         × ((c : Change) → Traced c n (now (types .entry)) (now (objects .entry)) (now (links .entry)) (now (events .entry)) (now (trace .entry))
         → c .schema ≡ schemaOf (n .types) (now (types .entry)) (floorsOf (n .floors) (now (floors .entry))) (n .relationships) (now (relationships .entry))
-        → take r (now (chosen .exit)) ≡ take at (now (chosen .entry)) ++ ruleCodes c (now (rules .entry)) (now (bodies .entry)) (now (objects .entry)) (n .objects) rule) ⌝ }
+        → Added (now (objects .entry)) (byEvents c (now (rules .entry)) (now (bodies .entry)) (now (objects .entry))) (n .objects) («rule» ∷ []) (now (marks .entry)) (now (marks .exit)) r) ⌝ }
 {
     let context = rows::word(rules, tables::RULE_WIDTH, rule, 0);
     let size = rows::word(rules, tables::RULE_WIDTH, rule, 1);
@@ -125,7 +115,7 @@ pub fn select_rule(
     };
     let floored = floored_rows(types, floors, relationships, bodies, &starts, body);
     let still = stillness(relationships, bodies, &starts, body, context);
-    let marks = candidates(
+    let candidate = candidates(
         n,
         types,
         objects,
@@ -155,8 +145,7 @@ pub fn select_rule(
         trace,
         rule,
         still,
-        &marks,
-        at,
-        chosen,
+        &candidate,
+        marks,
     )
 }

@@ -7,7 +7,7 @@ use denote.Ref.{now}
 use lib.ListN.{length-replicate}
 use Rattle.tables.specs.Layouts.{Sheet, sheetOf}
 use Rattle.full_search.proofs.Given.{register-fits, can-index, zeros}
-use Rattle.batch_judge.proofs.Judging.{no-room, listed}
+use Rattle.batch_judge.proofs.Judging.{marks-number, no-room, listed}
 use borrow.Author.Needs.{needs}
 use Rattle.batch_judge.proofs.judge.Statement.{statement}
 use Rattle.batch_judge.proofs.judge.Tie as tie
@@ -27,38 +27,41 @@ index-requires c κs =
     let fits = register-fits (s .args .n) (sheet s []) (s .pre .0) in
     (fits .objects-ascend, fits .links-ascend, can-index (s .args .n) (sheet s []) (s .pre .0), zeros 81920)
 
-slice-aggregate-selected-pairs : tie.Need-slice-aggregate-selected-pairs
-slice-aggregate-selected-pairs c = search needs
-
 selected-pairs-requires : tie.Need-selected-pairs-requires
 selected-pairs-requires c κs =
     let indexed = c .before .before in
     let s = entry (indexed .before) in
-    (record { given = s .pre .0; indexed = indexed .index2 .ensures }, s .pre .1, length-replicate {A = ℕ} 32768 0)
+    (record { given = s .pre .0; indexed = indexed .index2 .ensures }, s .pre .1, length-replicate {A = ℕ} 1024 0, zeros 1024)
 
 cast-if1 : tie.Need-cast-if1
 cast-if1 c = search needs
 
 mul-if1 : tie.Need-mul-if1
-mul-if1 c = omega (arith, c .before .selected-pairs .ensures .1 .few)
+mul-if1 c = omega (arith, c .selected-pairs .ensures .0)
 
 returns : tie.Need-returns
 returns c = λ k ended lent words g.
-    let chose = c .before .before in
-    no-room ended lent g _ words (chose .selected-pairs .ensures .1) (chose .selected-pairs .ensures .2 k ended) (c .if1 .taken) refl refl refl
+    let chose = c .before in
+    let indexed = chose .before .before .before in
+    no-room ended (indexed .index2 .ensures .objects-ascend) ((entry (indexed .before)) .pre .0 .few-objects) (chose .selected-pairs .ensures .1 k ended) lent g _ words (c .if1 .taken) refl refl refl
 
 write-requires : tie.Need-write-requires
 write-requires c κs =
     let test = c .before .before in
-    let held = test .before .before .selected-pairs .ensures .1 in
-    (held .long, held .few, omega (arith, test .if1 .left))
+    let chose = test .before in
+    let indexed = chose .before .before .before in
+    let s = entry (indexed .before) in
+    let given = s .pre .0 in
+    let (k, ended) = s .pre .1 in
+    let number = marks-number ended (indexed .index2 .ensures .objects-ascend) (given .few-objects) (chose .selected-pairs .ensures .1 k ended) in
+    (given .few-rules, given .few-objects, omega (arith, number, chose .selected-pairs .ensures .0), omega (arith, number, test .if1 .left))
 
 search-requires : tie.Need-search-requires
 search-requires c κs =
-    let chose = c .before .before .before .before .before .before .before .before .before in
+    let wrote = c .before .before .before .before in
+    let chose = wrote .before .before .before .before in
     let indexed = chose .before .before .before in
-    let s = entry (indexed .before) in
-    (record { given = s .pre .0; indexed = indexed .index2 .ensures }, chose .selected-pairs .ensures .1)
+    record { given = (entry (indexed .before)) .pre .0; indexed = indexed .index2 .ensures }
 
 same-length : tie.Need-same-length
 same-length c = let wrote = c .before .before .before .before .before in wrote .write .kept .1 .1 .1 .0
@@ -67,10 +70,10 @@ returns-2 : tie.Need-returns-2
 returns-2 c = λ k ended lent words g.
     let wrote = c .before .before .before .before .before in
     let test = wrote .before .before .before in
-    let chose = test .before .before in
-    listed ended lent g _ words (chose .selected-pairs .ensures .1) (chose .selected-pairs .ensures .2 k ended) (test .if1 .left) (c .search .ensures) refl (wrote .write .ensures)
+    let chose = test .before in
+    let indexed = chose .before .before .before in
+    listed ended (indexed .index2 .ensures .objects-ascend) ((entry (indexed .before)) .pre .0 .few-objects) (chose .selected-pairs .ensures .1 k ended) lent g _ words (test .if1 .left)
+    (c .search .ensures) refl (wrote .write .ensures)
 
 pub judge-spec : {M : Type 1} → statement M
-judge-spec =
-    tie.close
-    (tie.spec index-requires slice-aggregate-selected-pairs selected-pairs-requires cast-if1 mul-if1 returns write-requires search-requires same-length returns-2)
+judge-spec = tie.close (tie.spec index-requires selected-pairs-requires cast-if1 mul-if1 returns write-requires search-requires same-length returns-2)

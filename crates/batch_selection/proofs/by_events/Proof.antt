@@ -1,18 +1,18 @@
 -- `batch_selection::by_events` meets its contract.
 use Prim.Native.Nat.{ℕ}
-use mathlib.Core.Path.{ap, _∙_}
-use mathlib.Core.List.{List, [], flatMap}
+use mathlib.Core.Path.{refl}
+use mathlib.Core.List.{List, []}
 use denote.Ref.{now}
 use Rattle.tables.specs.Layouts.{Sheet, sheetOf}
 use Rattle.full_search.proofs.Given.{register-fits, zeros}
 use Rattle.touched.proofs.Books.{book-given}
-use Rattle.selection.specs.Selected.{ruleCodes}
+use Rattle.selection.proofs.Adding.{added-to}
 use Rattle.batch_selection.proofs.by_events.Statement.{statement}
 use Rattle.batch_selection.proofs.by_events.Tie as tie
 
 -- the function's entry, and its tables
 abbrev entry : tie.After-trace → tie.Start
-entry c = c .before .before .before .before .before .before .before .before .before .before
+entry c = c .before .before .before .before .before .before .before .before .before
 
 abbrev sheet : tie.Start → List ℕ → Sheet
 sheet s events =
@@ -46,24 +46,15 @@ select-requires c κs =
     let (k, ended) = s .pre .1 in
     (s .pre .0, (k, rules .before .make .ensures k (ended .seen) (ended .lost)), (_, rules .touched-rules .ensures k _ (ended .seen) (ended .schema-is)), s .pre .2)
 
-same-length : tie.Need-same-length
-same-length c = c .before .before .select .ensures .0
-
 returns : tie.Need-returns
 returns c =
-    let chose = c .before .before in
-    let rules = chose .before .before .before in
-    let s = entry (rules .before .before) in
-    let a = s .args in
+    let rules = c .before .before .before in
     let traced = rules .before .make .ensures in
     let bits = rules .touched-rules .ensures in
-    let codes = chose .select .ensures in (
-      codes .0,
-      codes .1,
-      λ k e.
-          codes .2 k (traced k (e .seen) (e .lost)) (e .schema-is)
-          ∙ ap (flatMap (ruleCodes k (now (a .rules)) (now (a .bodies)) (now (a .objects)) (a .n .objects))) (bits k _ (e .seen) (e .schema-is)),
+    let promised = c .select .ensures in (
+      promised .1,
+      λ k e. added-to refl (bits k _ (e .seen) (e .schema-is)) refl (promised .2 k (traced k (e .seen) (e .lost)) (e .schema-is)),
     )
 
 pub by-events-spec : {M : Type 1} → statement M
-by-events-spec = tie.close (tie.spec make-requires touched-rules-requires select-requires same-length returns)
+by-events-spec = tie.close (tie.spec make-requires touched-rules-requires select-requires returns)

@@ -18,7 +18,7 @@ use Rattle.selection.proofs.rule.select_rule.Tie as tie
 
 -- the function's entry, the scan of the body, and its floored sums
 abbrev entry : tie.After-word2 → tie.Start
-entry c = let known = c .before .before .before .before in known .before .before .before .before .before .before .before .before
+entry c = let known = c .before .before .before .before in known .before .before .before .before .before .before .before
 
 abbrev scanned : tie.After-floored-rows → tie.After-scan
 scanned c = c .before .before .before
@@ -32,7 +32,7 @@ ready : (c : tie.After-scan) → let a = (entry (c .before)) .args in
 ready c =
     let size = c .before in
     let s = entry size in
-    let bodies = size .before .before .before .before .before .before .before in
+    let bodies = size .before .before .before .before .before .before in
     rule-ready (s .pre .0) (s .pre .2) (λ j. bodies .shared-slice-known5 .given j .fits)
     (subst (λ e. Starts (bodyOf (now (s .args .bodies)) (s .args .rule)) (c .scan .result .starts) e) (size .word2 .ensures) (c .scan .ensures .0))
 
@@ -87,7 +87,7 @@ candidates-requires c κs =
     let scan = scanned (marked (c .before .before .before)) in
     let s = entry (scan .before) in
     let r = ready scan in
-    (r .whole, (r .schema, r .able), s .pre .1, s .pre .5)
+    (r .whole, (r .schema, r .able), s .pre .1, s .pre .4)
 
 choose-requires : tie.Need-choose-requires
 choose-requires c κs =
@@ -95,29 +95,25 @@ choose-requires c κs =
     let asked = found .before .before .before .before in
     let scan = scanned (marked asked) in
     let s = entry (scan .before) in
-    (ready scan, s .pre .1, found .candidates .ensures .1, omega (arith, s .pre .2, s .pre .0 .given .few-rules), s .pre .3, s .pre .4)
+    (ready scan, s .pre .1, found .candidates .ensures .1, omega (arith, s .pre .2, s .pre .0 .given .few-rules), s .pre .3)
 
 same-length : tie.Need-same-length
 same-length c = search needs
 
-same-length-2 : tie.Need-same-length-2
-same-length-2 c = search needs
-
 returns : tie.Need-returns
 returns c =
-    let chose = c .before .before in
-    let listed = chose .before .before in
+    let listed = c .before .before in
     let found = listed .before .before .before .before .before in
     let asked = found .before .before .before .before in
     let sums = marked asked in
     let s = entry (scanned sums .before) in (
-      chose .choose .ensures .0,
+      c .choose .ensures .0,
       found .candidates .ensures .0,
-      omega (arith, chose .choose .ensures .1, s .pre .0 .given .few-objects),
-      λ k traced e. chose .choose .ensures .2 k traced (known-by (s .pre .0) (s .pre .2) k e (floors sums) (stills asked)),
+      omega (arith, c .choose .ensures .1, s .pre .0 .given .few-objects),
+      λ k traced e. c .choose .ensures .2 k traced (known-by (s .pre .0) (s .pre .2) k e (floors sums) (stills asked)),
     )
 
 pub select-rule-spec : {M : Type 1} → statement M
 select-rule-spec =
     tie.close
-    (tie.spec word-requires word-requires-2 scan-requires floored-rows-requires stillness-requires candidates-requires choose-requires same-length same-length-2 returns)
+    (tie.spec word-requires word-requires-2 scan-requires floored-rows-requires stillness-requires candidates-requires choose-requires same-length returns)
