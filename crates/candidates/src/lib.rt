@@ -21,6 +21,7 @@ ghost use Rattle.quietness.specs.Quiet.{StillBy, cameInto};
 ghost use Rattle.body_rows.specs.Marks.{bodyOf};
 ghost use Rattle.walks.specs.Site.{siteOf, idIn};
 ghost use Rattle.trace_places.specs.Traces.{Traced, Traces};
+ghost use Rattle.row_sets.specs.Sets.{inSet};
 ghost use Rattle.going_back.specs.Back.{candidate};
 ghost use Rattle.going_back.specs.Walkable.{BodyAble};
 
@@ -39,7 +40,7 @@ fn put_brought(
     requires { ⌜ (Traces n (now types) (now objects) (now links) (now events) (now trace)) × (length (now sets) ≡ 65536) ⌝ }
     ensures { λ _. ⌜ (length (now (sets .exit)) ≡ length (now (sets .entry)))
         × ((c : Change) → Traced c n (now (types .entry)) (now (objects .entry)) (now (links .entry)) (now (events .entry)) (now (trace .entry))
-        → (row : ℕ) → row < n .objects → cameInto c still context (idIn (now (objects .entry)) row) ≡ true → getD (now (sets .exit)) (0 + row) false ≡ true) ⌝ }
+        → (row : ℕ) → row < n .objects → cameInto c still context (idIn (now (objects .entry)) row) ≡ true → inSet (now (sets .exit)) 0 row ≡ true) ⌝ }
 {
     clear(n, 0, sets);
     put_if(
@@ -97,7 +98,7 @@ fn put_candidates(
         → StillBy (c .schema) (ruleRow (now (rules .entry)) (now (bodies .entry)) rule) still
         → r ≡ false → (row : ℕ) → row < n .objects
         → candidate c (ruleRow (now (rules .entry)) (now (bodies .entry)) rule) (idIn (now (objects .entry)) row) ≡ true
-        → getD (now (sets .exit)) (0 + row) false ≡ true) ⌝ }
+        → inSet (now (sets .exit)) 0 row ≡ true) ⌝ }
 {
     if n.objects == 0 {
         return false;
@@ -135,7 +136,7 @@ fn put_candidates(
 // The first set as marks of rows; every row, if everything is reached.
 fn marks_of(n: Counts, everything: bool, sets: &[bool]) -> [bool; 1024]
     requires { ⌜ (n .objects ≤ 1024) × (length (now sets) ≡ 65536) ⌝ }
-    ensures { λ r. ⌜ ((row : ℕ) → row < n .objects → getD r row false ≡ (everything || getD (now (sets .entry)) row false)) ⌝ }
+    ensures { λ r. ⌜ ((row : ℕ) → row < n .objects → getD r row false ≡ (everything || inSet (now (sets .entry)) 0 row)) ⌝ }
 {
     let mut marks = [false; 1024];
     let mut row: u32 = 0;

@@ -30,7 +30,7 @@ ghost use Rattle.ocl.specs.Ready.{Ready};
 ghost use Rattle.trace_places.specs.Traces.{Traced, Traces};
 ghost use Rattle.reach.specs.Able.{LeafAble};
 ghost use Rattle.going_back.specs.Back.{leadsInto, throughMembers, reachedBy, leafReached, Covered, turned, BaseRow};
-ghost use Rattle.row_sets.specs.Sets.{Grown, GrownBelow};
+ghost use Rattle.row_sets.specs.Sets.{inSet, Grown, GrownBelow};
 ghost use Rattle.going_back.specs.Walkable.{Walkable, OverWalkable};
 
 // The codes of rows.
@@ -84,7 +84,7 @@ fn image(
         × (of .2 < 64) × (length (now sets) ≡ 65536) ⌝ }
     ensures { λ r. ⌜ (Grown (now (sets .entry)) (now (sets .exit)))
         × ((c : Change) → c .end ≡ registerOf (n .objects) (now (objects .entry)) (n .links) (now (links .entry)) → (set : ℕ → Bool)
-        → ((row : ℕ) → row < n .objects → set (idIn (now (objects .entry)) row) ≡ true → getD (now (sets .entry)) (of .2 * 1024 + row) false ≡ true)
+        → ((row : ℕ) → row < n .objects → set (idIn (now (objects .entry)) row) ≡ true → inSet (now (sets .entry)) (of .2) row ≡ true)
         → Covered (leadsInto c (asCollection ((ending (bodyOf (now (bodies .entry)) (of .0)) (of .1)) .form)) set)
         (now (objects .entry)) (n .objects) (of .2) r (now (sets .exit))) ⌝ }
 {

@@ -5,18 +5,26 @@ use mathlib.Core.Bool.{Bool, true, false}
 use mathlib.Core.List.{List}
 use lib.ListN.{length, getD}
 
--- marks that only grow
-pub record Grown (before after : List Bool) : Type 0 where
+-- the sets, as they are lent
+abbrev pub Sets : Type 0
+Sets = List Bool
+
+-- a row is in a variable's set
+unfoldable pub inSet : Sets → (v row : ℕ) → Bool
+inSet sets v row = getD sets (v * 1024 + row) false
+
+-- sets that only grow
+pub record Grown (before after : Sets) : Type 0 where
   pub long : length after ≡ length before
-  pub kept : (i : ℕ) → getD before i false ≡ true → getD after i false ≡ true
+  pub kept : (v row : ℕ) → inSet before v row ≡ true → inSet after v row ≡ true
 
 -- those of the first variables do; what later ones hold is free
-pub record GrownBelow (depth : ℕ) (before after : List Bool) : Type 0 where
+pub record GrownBelow (depth : ℕ) (before after : Sets) : Type 0 where
   pub long : length after ≡ length before
-  pub kept : (i : ℕ) → i < depth * 1024 → getD before i false ≡ true → getD after i false ≡ true
+  pub kept : (v row : ℕ) → v < depth → row < 1024 → inSet before v row ≡ true → inSet after v row ≡ true
 
 -- one variable's set is emptied of its rows, and those before it are as they were
-pub record Cleared (v rows : ℕ) (before after : List Bool) : Type 0 where
+pub record Cleared (v rows : ℕ) (before after : Sets) : Type 0 where
   pub long : length after ≡ length before
-  pub kept : (i : ℕ) → i < v * 1024 → getD after i false ≡ getD before i false
-  pub empty : (row : ℕ) → row < rows → getD after (v * 1024 + row) false ≡ false
+  pub kept : (u row : ℕ) → u < v → row < 1024 → inSet after u row ≡ inSet before u row
+  pub empty : (row : ℕ) → row < rows → inSet after v row ≡ false

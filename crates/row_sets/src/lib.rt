@@ -16,18 +16,35 @@ ghost use Rattle.ocl.specs.Ready.{Steady};
 ghost use Rattle.walks.specs.Site.{idIn};
 ghost use Rattle.trace_places.specs.Questions.{named, asked, questionOf};
 ghost use Rattle.trace_places.specs.Traces.{placeAnswers, rowLost, lossRole, Traced, Traces};
-ghost use Rattle.row_sets.specs.Sets.{Grown, Cleared};
+ghost use Rattle.row_sets.specs.Sets.{inSet, Grown, Cleared};
+
+// Puts a row into a variable's set.
+fn put(v: u32, row: u32, sets: &mut [bool])
+    requires { ⌜ (v < 64) × (row < 1024) × (length (now sets) ≡ 65536) ⌝ }
+    ensures { λ _. ⌜ (Grown (now (sets .entry)) (now (sets .exit))) × (inSet (now (sets .exit)) v row ≡ true) ⌝ }
+{
+    let at = (v * 1024 + row) as usize;
+    sets[at] = true;
+}
+
+// Whether a row is in a variable's set.
+fn in_set(v: u32, row: u32, sets: &[bool]) -> bool
+    requires { ⌜ (v < 64) × (row < 1024) × (length (now sets) ≡ 65536) ⌝ }
+    ensures { λ r. ⌜ r ≡ inSet (now (sets .entry)) v row ⌝ }
+{
+    let at = (v * 1024 + row) as usize;
+    sets[at]
+}
 
 // Puts an object's row into a variable's set. What is past the objects is no row of one.
 fn mark(n: Counts, v: u32, row: u32, sets: &mut [bool])
     requires { ⌜ (v < 64) × (n .objects ≤ 1024) × (length (now sets) ≡ 65536) ⌝ }
-    ensures { λ _. ⌜ (Grown (now (sets .entry)) (now (sets .exit))) × (row < n .objects → getD (now (sets .exit)) (v * 1024 + row) false ≡ true) ⌝ }
+    ensures { λ _. ⌜ (Grown (now (sets .entry)) (now (sets .exit))) × (row < n .objects → inSet (now (sets .exit)) v row ≡ true) ⌝ }
 {
     if n.objects <= row {
         return;
     }
-    let at = (v * 1024 + row) as usize;
-    sets[at] = true;
+    put(v, row, sets);
 }
 
 // Puts the row that a place names into a variable's set, if the event of the place answers a question.
@@ -45,7 +62,7 @@ fn put_answer(
     requires { ⌜ (place < 512) × (question < 6) × (v < 64) × (n .objects ≤ 1024) × (length (now sets) ≡ 65536) ⌝ }
     ensures { λ _. ⌜ (Grown (now (sets .entry)) (now (sets .exit)))
         × (getD (now (trace .entry)) place 0 < n .objects → placeAnswers (typesOf (n .types) (now (types .entry))) (questionOf question x) (now (events .entry)) (now (trace .entry)) place ≡ true
-        → getD (now (sets .exit)) (v * 1024 + getD (now (trace .entry)) place 0) false ≡ true) ⌝ }
+        → inSet (now (sets .exit)) v (getD (now (trace .entry)) place 0) ≡ true) ⌝ }
 {
     let at = place as usize;
     let row = rows::wide(trace[at]);
@@ -55,8 +72,7 @@ fn put_answer(
     if !questions::answered(n.types, types, events, trace, place, question, x) {
         return;
     }
-    let mark = (v * 1024 + row) as usize;
-    sets[mark] = true;
+    put(v, row, sets);
 }
 
 // Puts the rows of the objects for which some event that names them answers a question into a variable's set.
@@ -76,7 +92,7 @@ fn put_named(
     ensures { λ _. ⌜ (Grown (now (sets .entry)) (now (sets .exit)))
         × ((c : Change) → Traced c n (now (types .entry)) (now (objects .entry)) (now (links .entry)) (now (events .entry)) (now (trace .entry))
         → (row : ℕ) → row < n .objects → named c (questionOf question x) (idIn (now (objects .entry)) row) ≡ true
-        → getD (now (sets .exit)) (v * 1024 + row) false ≡ true) ⌝ }
+        → inSet (now (sets .exit)) v row ≡ true) ⌝ }
 {
     let mut place: u32 = 0;
     while place < 2 * n.events {
@@ -90,7 +106,7 @@ fn put_loss(n: Counts, trace: &[u16; 16675], j: u32, role: u32, v: u32, sets: &m
     requires { ⌜ (j < 4352) × (v < 64) × (n .objects ≤ 1024) × (length (now sets) ≡ 65536) ⌝ }
     ensures { λ _. ⌜ (Grown (now (sets .entry)) (now (sets .exit)))
         × (rowLost (now (trace .entry)) j < n .objects → lossRole (now (trace .entry)) j ≡ role
-        → getD (now (sets .exit)) (v * 1024 + rowLost (now (trace .entry)) j) false ≡ true) ⌝ }
+        → inSet (now (sets .exit)) v (rowLost (now (trace .entry)) j) ≡ true) ⌝ }
 {
     let at = (10272 + j) as usize;
     if rows::wide(trace[at]) != role {
@@ -116,7 +132,7 @@ fn put_lost(
     ensures { λ _. ⌜ (Grown (now (sets .entry)) (now (sets .exit)))
         × ((c : Change) → Traced c n (now (types .entry)) (now (objects .entry)) (now (links .entry)) (now (events .entry)) (now (trace .entry))
         → (row : ℕ) → row < n .objects → someStep c (taken role (idIn (now (objects .entry)) row)) ≡ true
-        → getD (now (sets .exit)) (v * 1024 + row) false ≡ true) ⌝ }
+        → inSet (now (sets .exit)) v row ≡ true) ⌝ }
 {
     let count = rows::wide(trace[14624]);
     let mut j: u32 = 0;
@@ -143,7 +159,7 @@ pub fn put_answers(
     ensures { λ _. ⌜ (Grown (now (sets .entry)) (now (sets .exit)))
         × ((c : Change) → Traced c n (now (types .entry)) (now (objects .entry)) (now (links .entry)) (now (events .entry)) (now (trace .entry))
         → (row : ℕ) → row < n .objects → asked c (questionOf question x) (idIn (now (objects .entry)) row) ≡ true
-        → getD (now (sets .exit)) (v * 1024 + row) false ≡ true) ⌝ }
+        → inSet (now (sets .exit)) v row ≡ true) ⌝ }
 {
     put_named(
         n,
@@ -179,7 +195,7 @@ fn put_far(
     ensures { λ _. ⌜ (Grown (now (sets .entry)) (now (sets .exit)))
         × ((y : ℕ) → y < n .objects
         → idIn (now (objects .entry)) y ∈ farEnds (registerOf (n .objects) (now (objects .entry)) (n .links) (now (links .entry))) role (idIn (now (objects .entry)) row)
-        → getD (now (sets .exit)) (v * 1024 + y) false ≡ true) ⌝ }
+        → inSet (now (sets .exit)) v y ≡ true) ⌝ }
 {
     let mut word = link_index::first_slot(index, role, row);
     while word != 0 {
@@ -205,12 +221,11 @@ fn put_row(
         × (Steady (registerOf (n .objects) (now objects) (n .links) (now links)))
         × (role < 64) × (row < n .objects) × (v < 64) × (length (now sets) ≡ 65536) × (from < 64) ⌝ }
     ensures { λ _. ⌜ (Grown (now (sets .entry)) (now (sets .exit)))
-        × (getD (now (sets .entry)) (from * 1024 + row) false ≡ true → (y : ℕ) → y < n .objects
+        × (inSet (now (sets .entry)) from row ≡ true → (y : ℕ) → y < n .objects
         → idIn (now (objects .entry)) y ∈ farEnds (registerOf (n .objects) (now (objects .entry)) (n .links) (now (links .entry))) role (idIn (now (objects .entry)) row)
-        → getD (now (sets .exit)) (v * 1024 + y) false ≡ true) ⌝ }
+        → inSet (now (sets .exit)) v y ≡ true) ⌝ }
 {
-    let at = (from * 1024 + row) as usize;
-    if !sets[at] {
+    if !in_set(from, row, sets) {
         return;
     }
     put_far(n, objects, links, index, role, row, v, sets);
@@ -231,9 +246,9 @@ pub fn put_back(
         × (Steady (registerOf (n .objects) (now objects) (n .links) (now links)))
         × (role < 64) × (v < 64) × (length (now sets) ≡ 65536) × (from < 64) ⌝ }
     ensures { λ _. ⌜ (Grown (now (sets .entry)) (now (sets .exit)))
-        × ((x : ℕ) → x < n .objects → getD (now (sets .entry)) (from * 1024 + x) false ≡ true → (y : ℕ) → y < n .objects
+        × ((x : ℕ) → x < n .objects → inSet (now (sets .entry)) from x ≡ true → (y : ℕ) → y < n .objects
         → idIn (now (objects .entry)) y ∈ farEnds (registerOf (n .objects) (now (objects .entry)) (n .links) (now (links .entry))) role (idIn (now (objects .entry)) x)
-        → getD (now (sets .exit)) (v * 1024 + y) false ≡ true) ⌝ }
+        → inSet (now (sets .exit)) v y ≡ true) ⌝ }
 {
     let mut row: u32 = 0;
     while row < n.objects {
@@ -260,7 +275,7 @@ pub fn put_if(
     ensures { λ _. ⌜ (Grown (now (sets .entry)) (now (sets .exit)))
         × ((c : Change) → Traced c n (now (types .entry)) (now (objects .entry)) (now (links .entry)) (now (events .entry)) (now (trace .entry))
         → (row : ℕ) → row < n .objects → (wanted && asked c (questionOf question x) (idIn (now (objects .entry)) row)) ≡ true
-        → getD (now (sets .exit)) (v * 1024 + row) false ≡ true) ⌝ }
+        → inSet (now (sets .exit)) v row ≡ true) ⌝ }
 {
     if !wanted {
         return;
@@ -299,7 +314,7 @@ pub fn put_moved(
         × ((c : Change) → Traced c n (now (types .entry)) (now (objects .entry)) (now (links .entry)) (now (events .entry)) (now (trace .entry))
         → (row : ℕ) → row < n .objects
         → ((has set up && asked c (questionOf gain x) (idIn (now (objects .entry)) row)) || (has set down && asked c (questionOf loss x) (idIn (now (objects .entry)) row))) ≡ true
-        → getD (now (sets .exit)) (v * 1024 + row) false ≡ true) ⌝ }
+        → inSet (now (sets .exit)) v row ≡ true) ⌝ }
 {
     let up = directions::contains(set, UP);
     put_if(
@@ -347,12 +362,11 @@ pub fn clear(n: Counts, v: u32, sets: &mut [bool])
 // Whether a variable's set has a row.
 pub fn has_some(n: Counts, v: u32, sets: &[bool]) -> bool
     requires { ⌜ (v < 64) × (n .objects ≤ 1024) × (length (now sets) ≡ 65536) ⌝ }
-    ensures { λ r. ⌜ ((row : ℕ) → row < n .objects → getD (now (sets .entry)) (v * 1024 + row) false ≡ true → r ≡ true) ⌝ }
+    ensures { λ r. ⌜ ((row : ℕ) → row < n .objects → inSet (now (sets .entry)) v row ≡ true → r ≡ true) ⌝ }
 {
     let mut row: u32 = 0;
     while row < n.objects {
-        let at = (v * 1024 + row) as usize;
-        if sets[at] {
+        if in_set(v, row, sets) {
             return true;
         }
         row += 1;

@@ -1,6 +1,5 @@
 -- `candidates::candidates` meets its contract.
 use mathlib.Core.Path.{_∙_}
-use native.Mathlib.Nat.{zero-add}
 use Rattle.row_sets.proofs.Tests.{or-else}
 use borrow.Author.Needs.{needs}
 use Rattle.candidates.proofs.candidates.Statement.{statement}
@@ -21,7 +20,7 @@ returns c =
       put .put-candidates .ensures .0,
       λ k traced floors stills row h t.
           c .marks-of .ensures row h
-          ∙ or-else (put .put-candidates .result) (λ still. rw (zero-add row) at (put .put-candidates .ensures .1 k traced floors stills still row h t)),
+          ∙ or-else (put .put-candidates .result) (λ still. put .put-candidates .ensures .1 k traced floors stills still row h t),
     )
 
 pub candidates-spec : {M : Type 1} → statement M

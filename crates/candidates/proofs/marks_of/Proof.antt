@@ -3,12 +3,14 @@ use Prim.Native.Nat.{ℕ, _-_, _≤_, _<_}
 use mathlib.Core.Path.{_≡_, refl, sym, ap, _∙_}
 use mathlib.Core.Logic.{⊎-elim}
 use mathlib.Core.Bool.{false, _||_}
+use native.Mathlib.Nat.{zero-add}
 use native.Mathlib.Omega.{arith}
 use lib.ListN.{length, getD, length-set}
 use lib.Seq.{getD-set-same, getD-set-other}
 use denote.Ref.{now}
 use borrow.Author.Needs.{needs}
 use borrow.Author.Count.{below-more}
+use Rattle.row_sets.specs.Sets.{inSet}
 use Rattle.candidates.proofs.marks_of.Statement.{statement}
 use Rattle.candidates.proofs.marks_of.Tie as tie
 
@@ -54,7 +56,8 @@ loop-again c =
     )
 
 returns : tie.Need-returns Inv-loop μ-loop
-returns c = λ row h. let test = c .loop-test .left in c .before .loop .inv .2 row (omega arith)
+unfolding inSet
+returns c = λ row h. let test = c .loop-test .left in rw (zero-add row) (c .before .loop .inv .2 row (omega arith))
 
 pub marks-of-spec : {M : Type 1} → statement M
 marks-of-spec =

@@ -37,7 +37,7 @@ returns c =
           ⊎-elim
           (λ i.
           let (came, asks) = both-true (inserted k u t) (not (still .insert)) i in
-          special .put-if2 .ensures .0 .kept _ (insert .put-if .ensures .1 k traced row h (ap₂ _&&_ asks (asked-inserted k u t ∙ came))))
+          special .put-if2 .ensures .0 .kept _ _ (insert .put-if .ensures .1 k traced row h (ap₂ _&&_ asks (asked-inserted k u t ∙ came))))
           (λ i.
           let (came, asks) = both-true (specialised k u t) (not (still .special)) i in
           special .put-if2 .ensures .1 k traced row h (ap₂ _&&_ asks (asked-specialised k u t ∙ came)))

@@ -79,7 +79,7 @@ returns-2 c =
       call .back .ensures .0 .long ∙ put .put-brought .ensures .0,
       λ k traced floors stills still.
           candidates-covered (a .n) (now (a .types)) (now (a .rules)) (now (a .bodies)) (now (a .objects)) (now (a .links)) (now (a .index)) (a .rule) (s .pre .0) k
-          (λ row h e. call .back .ensures .0 .kept _ (omega arith) (put .put-brought .ensures .1 k traced row h (brought-as put k stills row ∙ e)))
+          (λ row h e. call .back .ensures .0 .kept 0 row (omega arith) (omega arith) (put .put-brought .ensures .1 k traced row h (brought-as put k stills row ∙ e)))
           (covered-as (λ v u. ap (λ e. reachedBy k (formAt (site s) e) 1 2 v u) (size .word2 .ensures)) (call .back .ensures .1 k traced (rw (size .word2 .ensures) floors)))
           still,
     )

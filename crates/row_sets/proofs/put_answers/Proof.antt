@@ -32,7 +32,7 @@ returns c =
       λ k traced row h t.
           let u = idIn (now (a .objects)) row in
           let q = questionOf (a .question) (a .x) in
-          ⊎-elim (λ e. lost .put-lost .ensures .0 .kept _ (by-name .put-named .ensures .1 k traced row h e))
+          ⊎-elim (λ e. lost .put-lost .ensures .0 .kept _ _ (by-name .put-named .ensures .1 k traced row h e))
           (λ e. lost .put-lost .ensures .1 k traced row h (ap (λ code. takenFrom k (questionOf code (a .x)) u) (sym (test .if1 .taken)) ∙ e))
           (one-true (named k q u) (takenFrom k q u) t),
     )

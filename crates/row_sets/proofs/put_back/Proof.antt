@@ -12,19 +12,19 @@ use Rattle.meaning.specs.Register.{farEnds}
 use Rattle.tables.specs.Columns.{registerOf}
 use Rattle.tables.specs.declared.Counts.{Counts}
 use Rattle.walks.specs.Site.{idIn}
-use Rattle.row_sets.specs.Sets.{Grown}
+use Rattle.row_sets.specs.Sets.{Sets, inSet, Grown}
 use Rattle.row_sets.proofs.Growth.{grown-none, grown-then}
 use Rattle.row_sets.proofs.put_back.Statement.{statement}
 use Rattle.row_sets.proofs.put_back.Tie as tie
 
 -- what row x leads to is marked, if it was in the set
-abbrev Led : Counts → List ℕ → List ℕ → ℕ → ℕ → ℕ → List Bool → List Bool → ℕ → Type 0
+abbrev Led : Counts → List ℕ → List ℕ → ℕ → ℕ → ℕ → Sets → Sets → ℕ → Type 0
 Led n objects links role from v before after x =
-    getD before (from * 1024 + x) false ≡ true
+    inSet before from x ≡ true
     → (y : ℕ)
     → y < n .objects
     → idIn objects y ∈ farEnds (registerOf (n .objects) objects (n .links) links) role (idIn objects x)
-    → getD after (v * 1024 + y) false ≡ true
+    → inSet after v y ≡ true
 
 abbrev Inv-loop : tie.InvT-loop
 Inv-loop n objects links index role from v sets₀ row₀ sets row =
@@ -61,7 +61,7 @@ loop-again c =
     let test = then .if1 .taken in (
       grown-then (inv .0) (put .0),
       omega arith,
-      below-more _ _ (λ x l e y h m. put .0 .kept _ (inv .2 x l e y h m)) (λ e. put .1 (inv .0 .kept _ e)),
+      below-more _ _ (λ x l e y h m. put .0 .kept _ _ (inv .2 x l e y h m)) (λ e. put .1 (inv .0 .kept _ _ e)),
     )
 
 same-length : tie.Need-same-length Inv-loop μ-loop

@@ -12,21 +12,18 @@ use Rattle.meaning.specs.Register.{farEnds}
 use Rattle.tables.specs.declared.Counts.{Counts}
 use Rattle.walks.specs.Site.{Site, siteOf, registerAt, idIn}
 use Rattle.walks.proofs.Steps.{fewer-left}
-use Rattle.row_sets.specs.Sets.{Grown}
+use Rattle.row_sets.specs.Sets.{inSet, Grown}
 use Rattle.row_sets.proofs.Growth.{grown-none, grown-then}
 use Rattle.row_sets.proofs.Fars.{left, FarWalk, far-starts, far-low, far-ends, went, far-goes-on}
 use Rattle.row_sets.proofs.put_far.Statement.{statement}
 use Rattle.row_sets.proofs.put_far.Tie as tie
 
--- what the walk looks at, and which rows are marked
+-- what the walk looks at
 abbrev walked : Counts → List ℕ → List ℕ → List ℕ → Site
 walked n objects links index = siteOf n [] objects links index [] 0
 
-abbrev marked : List Bool → ℕ → ℕ → Bool
-marked sets v y = getD sets (v * 1024 + y) false
-
 abbrev Inv-loop : tie.InvT-loop
-Inv-loop n objects links index role row v sets₀ word₀ sets word = (Grown sets₀ sets) × (FarWalk (walked n objects links index) role row (marked sets v) word)
+Inv-loop n objects links index role row v sets₀ word₀ sets word = (Grown sets₀ sets) × (FarWalk (walked n objects links index) role row (inSet sets v) word)
 
 abbrev μ-loop : tie.MeasureT-loop
 μ-loop n objects links index role row v sets₀ word₀ sets word = length (left (walked n objects links index) role row word)
@@ -64,7 +61,7 @@ first-slot-requires c κs = let s = c .before .before .before in (s .pre .2, ome
 loop-holds : tie.Need-loop-holds Inv-loop μ-loop
 loop-holds c =
     let s = c .before .before .before .before in
-    (grown-none _, far-starts (site s) (s .pre .0) (s .args .role) (s .args .row) (s .pre .3) (up s) (marked (now (s .args .sets)) (s .args .v)) (c .first-slot .ensures))
+    (grown-none _, far-starts (site s) (s .pre .0) (s .args .role) (s .args .row) (s .pre .3) (up s) (inSet (now (s .args .sets)) (s .args .v)) (c .first-slot .ensures))
 
 sub-slot : tie.Need-sub-slot Inv-loop μ-loop
 sub-slot c = let h = c .loop-test .taken in omega arith
@@ -103,7 +100,7 @@ loop-again c =
     let far = call .before .before .far-row .ensures in (
       grown-then (turn .before .loop .inv .0) (put .0),
       far-goes-on (site s) (s .pre .0) (s .args .role) (s .args .row) (s .pre .3) (up s) walk slot (slot-is turn) _ far (c .next-slot .ensures)
-          (λ y e. put .0 .kept (s .args .v * 1024 + y) e)
+          (λ y e. put .0 .kept (s .args .v) y e)
           (put .1 (subst (λ k. k < s .args .n .objects) (sym far) (step .there))),
     )
 

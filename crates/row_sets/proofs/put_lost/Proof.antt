@@ -8,7 +8,7 @@ use lib.ListN.{getD}
 use borrow.Author.Count.{below-more}
 use borrow.Author.Needs.{needs}
 use Rattle.trace_places.specs.Traces.{rowLost, lossRole, lossCount}
-use Rattle.row_sets.specs.Sets.{Grown}
+use Rattle.row_sets.specs.Sets.{inSet, Grown}
 use Rattle.questions.proofs.Losses.{lost-covers}
 use Rattle.row_sets.proofs.Growth.{grown-none, grown-then}
 use Rattle.row_sets.proofs.put_lost.Statement.{statement}
@@ -19,7 +19,7 @@ Inv-loop n types objects links events trace role v sets₀ count j₀ sets j =
     (Grown sets₀ sets)
     × (j ≤ count)
     × (count ≡ lossCount trace)
-    × ((p : ℕ) → p < j → rowLost trace p < n .objects → lossRole trace p ≡ role → getD sets (v * 1024 + rowLost trace p) false ≡ true)
+    × ((p : ℕ) → p < j → rowLost trace p < n .objects → lossRole trace p ≡ role → inSet sets v (rowLost trace p) ≡ true)
 
 abbrev μ-loop : tie.MeasureT-loop
 μ-loop n types objects links events trace role v sets₀ count j₀ sets j = count - j
@@ -62,7 +62,7 @@ loop-again c =
       grown-then (inv .0) (put .put-loss .ensures .0),
       omega arith,
       inv .2,
-      below-more _ _ (λ p l low is. put .put-loss .ensures .0 .kept _ (inv .3 p l low is)) (put .put-loss .ensures .1),
+      below-more _ _ (λ p l low is. put .put-loss .ensures .0 .kept _ _ (inv .3 p l low is)) (put .put-loss .ensures .1),
     )
 
 same-length : tie.Need-same-length Inv-loop μ-loop
@@ -75,7 +75,7 @@ returns c =
     let inv = at .loop .inv in
     let test = c .loop-test .left in (
       inv .0,
-      λ k traced. lost-covers traced (s .args .role) (λ row. getD (at .loop .sets) (s .args .v * 1024 + row) false) (λ j h. inv .3 j (omega (arith, inv .2))),
+      λ k traced. lost-covers traced (s .args .role) (inSet (at .loop .sets) (s .args .v)) (λ j h. inv .3 j (omega (arith, inv .2))),
     )
 
 pub put-lost-spec : {M : Type 1} → statement M

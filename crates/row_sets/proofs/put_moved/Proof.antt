@@ -40,7 +40,7 @@ returns c =
       λ k traced row h e.
           let answered : ℕ → Bool = λ question. asked k (questionOf question (a .x)) (idIn (now (a .objects)) row) in
           ⊎-elim
-          (λ t. second .0 .kept _ (first .1 k traced row h (ap (λ b. b && answered (a .gain)) (gained .before .before .contains .ensures) ∙ t)))
+          (λ t. second .0 .kept _ _ (first .1 k traced row h (ap (λ b. b && answered (a .gain)) (gained .before .before .contains .ensures) ∙ t)))
           (λ t. second .1 k traced row h (ap (λ b. b && answered (a .loss)) (lost .before .before .contains2 .ensures) ∙ t))
           (one-true (has (a .set) up && answered (a .gain)) (has (a .set) down && answered (a .loss)) e),
     )

@@ -9,7 +9,7 @@ use borrow.Author.Count.{below-more}
 use Rattle.tables.specs.Columns.{typesOf}
 use Rattle.trace_places.specs.Questions.{questionOf}
 use Rattle.trace_places.specs.Traces.{placeAnswers}
-use Rattle.row_sets.specs.Sets.{Grown}
+use Rattle.row_sets.specs.Sets.{inSet, Grown}
 use Rattle.questions.proofs.Asking.{covers}
 use Rattle.row_sets.proofs.Growth.{grown-none, grown-then}
 use Rattle.row_sets.proofs.put_named.Statement.{statement}
@@ -19,7 +19,7 @@ abbrev Inv-loop : tie.InvT-loop
 Inv-loop n types objects links events trace question x v sets₀ place₀ sets place =
     (Grown sets₀ sets)
     × (place ≤ 2 * n .events)
-    × ((p : ℕ) → p < place → getD trace p 0 < n .objects → placeAnswers (typesOf (n .types) types) (questionOf question x) events trace p ≡ true → getD sets (v * 1024 + getD trace p 0) false ≡ true)
+    × ((p : ℕ) → p < place → getD trace p 0 < n .objects → placeAnswers (typesOf (n .types) types) (questionOf question x) events trace p ≡ true → inSet sets v (getD trace p 0) ≡ true)
 
 abbrev μ-loop : tie.MeasureT-loop
 μ-loop n types objects links events trace question x v sets₀ place₀ sets place = 2 * n .events - place
@@ -60,7 +60,7 @@ loop-again c =
     let test = then .if1 .taken in (
       grown-then (inv .0) (put .0),
       omega arith,
-      below-more _ _ (λ p l low answers. put .0 .kept _ (inv .2 p l low answers)) (put .1),
+      below-more _ _ (λ p l low answers. put .0 .kept _ _ (inv .2 p l low answers)) (put .1),
     )
 
 same-length : tie.Need-same-length Inv-loop μ-loop
@@ -73,7 +73,7 @@ returns c =
     let inv = at-loop .loop .inv in
     let test = c .if1 .left in (
       inv .0,
-      λ k traced. covers traced (questionOf (s .args .question) (s .args .x)) (λ row. getD (at-loop .loop .sets) (s .args .v * 1024 + row) false) (λ p h. inv .2 p (omega arith)),
+      λ k traced. covers traced (questionOf (s .args .question) (s .args .x)) (inSet (at-loop .loop .sets) (s .args .v)) (λ p h. inv .2 p (omega arith)),
     )
 
 pub put-named-spec : {M : Type 1} → statement M
