@@ -3,17 +3,17 @@ use Prim.Native.Nat.{ℕ, _+_, _-_, _*_, _≤_, _<_}
 use mathlib.Core.Path.{_≡_, refl, sym, _∙_}
 use mathlib.Core.Bool.{true, false}
 use native.Mathlib.Omega.{arith}
-use Rattle.row_sets.specs.Sets.{inSet}
+use Rattle.row_sets.specs.Sets.{setsOf, inSet}
 use borrow.Author.Count.{below-more}
 use borrow.Author.Needs.{needs}
 use Rattle.row_sets.proofs.has_some.Statement.{statement}
 use Rattle.row_sets.proofs.has_some.Tie as tie
 
 abbrev Inv-loop : tie.InvT-loop
-Inv-loop n v sets row₀ row = (row ≤ n .objects) × ((k : ℕ) → k < row → inSet sets v k ≡ true → _≡_ false true)
+Inv-loop n v marks sets row₀ row = (row ≤ n .objects) × ((k : ℕ) → k < row → inSet (setsOf marks sets) v k ≡ true → _≡_ false true)
 
 abbrev μ-loop : tie.MeasureT-loop
-μ-loop n v sets row₀ row = n .objects - row
+μ-loop n v marks sets row₀ row = n .objects - row
 
 loop-holds : tie.Need-loop-holds Inv-loop μ-loop
 loop-holds c = (omega arith, λ k h. absurd (omega arith))

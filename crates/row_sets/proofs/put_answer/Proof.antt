@@ -3,7 +3,7 @@ use mathlib.Core.Path.{sym, ap, subst, _∙_}
 use native.Mathlib.Omega.{arith}
 use lib.Dec.{T}
 use borrow.Author.Tests.{not-true}
-use Rattle.row_sets.specs.Sets.{inSet}
+use Rattle.row_sets.specs.Sets.{setsOf, inSet}
 use Rattle.row_sets.proofs.Growth.{grown-none}
 use borrow.Author.Needs.{needs}
 use Rattle.row_sets.proofs.put_answer.Statement.{statement}
@@ -33,7 +33,7 @@ returns-2 c =
 
 put-requires : tie.Need-put-requires
 put-requires c κs =
-    let some = c .before .before .before in
+    let some = c .before .before .before .before in
     let low = some .if1 .left in
     let s = some .before .before .before .before .before .before .before in
     (s .pre .2, omega (arith, s .pre .3), s .pre .4)
@@ -44,10 +44,10 @@ same-length c = search needs
 returns-3 : tie.Need-returns-3
 returns-3 c =
     let call = c .before .before in
-    let look = call .before .before .before .before .before .before in
+    let look = call .before .before .before .before .before .before .before in
     let is = look .wide .ensures in
     let a = look .before .before .before .before .before .args in
-    (call .put .ensures .0, λ below yes. ap (inSet (call .put .last .1 .1 .0) (a .v)) (sym is) ∙ call .put .ensures .1)
+    (call .put .ensures .0, λ below yes. ap (inSet (setsOf (call .put .last .1 .1 .0) (call .put .last .1 .1 .1 .0)) (a .v)) (sym is) ∙ call .put .ensures .1)
 
 pub put-answer-spec : {M : Type 1} → statement M
 put-answer-spec =
