@@ -3,7 +3,6 @@ use directions::DOWN;
 use going_back::back;
 use ocl::Place;
 use quietness::quiet::Still;
-use row_sets::clear;
 use row_sets::put_if;
 use tables::Counts;
 ghost use mathlib.Core.Path.{_≡_};
@@ -21,10 +20,11 @@ ghost use Rattle.quietness.specs.Quiet.{StillBy, cameInto};
 ghost use Rattle.body_rows.specs.Marks.{bodyOf};
 ghost use Rattle.walks.specs.Site.{siteOf, idIn};
 ghost use Rattle.trace_places.specs.Traces.{Traced, Traces};
+ghost use Rattle.row_sets.specs.Sets.{setsOf, inSet, Room, Grown, GrownBelow};
 ghost use Rattle.going_back.specs.Back.{candidate};
 ghost use Rattle.going_back.specs.Walkable.{BodyAble};
 
-// The first set becomes that of the objects that an insert or a special that is not still brought into a type.
+// Puts the rows of the objects that an insert or a special that is not still brought into a type into self's set.
 fn put_brought(
     n: Counts,
     types: &[u32],
@@ -34,14 +34,14 @@ fn put_brought(
     trace: &[u16; 16675],
     context: u32,
     still: Still,
+    marks: &mut [bool; 1024],
     sets: &mut [bool],
 )
-    requires { ⌜ (Traces n (now types) (now objects) (now links) (now events) (now trace)) × (length (now sets) ≡ 65536) ⌝ }
-    ensures { λ _. ⌜ (length (now (sets .exit)) ≡ length (now (sets .entry)))
+    requires { ⌜ (Traces n (now types) (now objects) (now links) (now events) (now trace)) × (Room (setsOf (now marks) (now sets))) ⌝ }
+    ensures { λ _. ⌜ (Grown (setsOf (now (marks .entry)) (now (sets .entry))) (setsOf (now (marks .exit)) (now (sets .exit))))
         × ((c : Change) → Traced c n (now (types .entry)) (now (objects .entry)) (now (links .entry)) (now (events .entry)) (now (trace .entry))
-        → (row : ℕ) → row < n .objects → cameInto c still context (idIn (now (objects .entry)) row) ≡ true → getD (now (sets .exit)) (0 + row) false ≡ true) ⌝ }
+        → (row : ℕ) → row < n .objects → cameInto c still context (idIn (now (objects .entry)) row) ≡ true → inSet (setsOf (now (marks .exit)) (now (sets .exit))) 0 row ≡ true) ⌝ }
 {
-    clear(n, 0, sets);
     put_if(
         !still.insert,
         n,
@@ -53,6 +53,7 @@ fn put_brought(
         questions::INSERTED,
         context,
         0,
+        marks,
         sets,
     );
     put_if(
@@ -66,11 +67,12 @@ fn put_brought(
         questions::SPECIALISED,
         context,
         0,
+        marks,
         sets,
     );
 }
 
-// Puts the rows of a rule's candidates into the first set: of the objects that something not still brought into its context type, and of those from which a
+// Puts the rows of a rule's candidates into self's set: of the objects that something not still brought into its context type, and of those from which a
 // fall of its body is reached. It answers whether everything is.
 fn put_candidates(
     n: Counts,
@@ -86,18 +88,19 @@ fn put_candidates(
     trace: &[u16; 16675],
     rule: u32,
     still: Still,
+    marks: &mut [bool; 1024],
     sets: &mut [bool],
 ) -> bool
     requires { ⌜ T (wholeBody (bodyOf (now bodies) rule) (wordAt (now rules) 2 rule 1))
         × ((S : Schema) × BodyAble S (siteOf n (now types) (now objects) (now links) (now index) (now bodies) rule) (now spans) (wordAt (now rules) 2 rule 1))
-        × (Traces n (now types) (now objects) (now links) (now events) (now trace)) × (length (now sets) ≡ 65536) ⌝ }
-    ensures { λ r. ⌜ (length (now (sets .exit)) ≡ length (now (sets .entry)))
+        × (Traces n (now types) (now objects) (now links) (now events) (now trace)) × (Room (setsOf (now marks) (now sets))) ⌝ }
+    ensures { λ r. ⌜ (GrownBelow 1 (setsOf (now (marks .entry)) (now (sets .entry))) (setsOf (now (marks .exit)) (now (sets .exit))))
         × ((c : Change) → Traced c n (now (types .entry)) (now (objects .entry)) (now (links .entry)) (now (events .entry)) (now (trace .entry))
         → FlooredRows (c .schema) (bodyOf (now (bodies .entry)) rule) (wordAt (now (rules .entry)) 2 rule 1) (now (floored .entry))
         → StillBy (c .schema) (ruleRow (now (rules .entry)) (now (bodies .entry)) rule) still
         → r ≡ false → (row : ℕ) → row < n .objects
         → candidate c (ruleRow (now (rules .entry)) (now (bodies .entry)) rule) (idIn (now (objects .entry)) row) ≡ true
-        → getD (now (sets .exit)) (0 + row) false ≡ true) ⌝ }
+        → inSet (setsOf (now (marks .exit)) (now (sets .exit))) 0 row ≡ true) ⌝ }
 {
     if n.objects == 0 {
         return false;
@@ -112,6 +115,7 @@ fn put_candidates(
         trace,
         context,
         still,
+        marks,
         sets,
     );
     let body = Place(rule, rows::word(rules, tables::RULE_WIDTH, rule, 1), 1);
@@ -128,26 +132,29 @@ fn put_candidates(
         trace,
         body,
         DOWN,
+        marks,
         sets,
     )
 }
 
-// The first set as marks of rows; every row, if everything is reached.
-fn marks_of(n: Counts, everything: bool, sets: &[bool]) -> [bool; 1024]
-    requires { ⌜ (n .objects ≤ 1024) × (length (now sets) ≡ 65536) ⌝ }
-    ensures { λ r. ⌜ ((row : ℕ) → row < n .objects → getD r row false ≡ (everything || getD (now (sets .entry)) row false)) ⌝ }
+// Marks every row of an object, if everything is reached.
+fn mark_all(n: Counts, everything: bool, marks: &mut [bool; 1024])
+    requires { ⌜ (n .objects ≤ 1024) × (length (now marks) ≡ 1024) ⌝ }
+    ensures { λ _. ⌜ ((row : ℕ) → row < n .objects → getD (now (marks .exit)) row false ≡ (everything || getD (now (marks .entry)) row false)) ⌝ }
 {
-    let mut marks = [false; 1024];
+    if !everything {
+        return;
+    }
     let mut row: u32 = 0;
     while row < n.objects {
         let at = row as usize;
-        marks[at] = if everything { true } else { sets[at] };
+        marks[at] = true;
         row += 1;
     }
-    marks
 }
 
-// The candidates of a rule as marks of rows. The sets are room for the variables' sets, whatever they hold.
+// The candidates of a rule: self's set, false marks that are filled while going back from the events. The slice is room for the sets of the variables
+// within, whatever it holds.
 pub fn candidates(
     n: Counts,
     types: &[u32],
@@ -175,6 +182,7 @@ pub fn candidates(
         → candidate c (ruleRow (now (rules .entry)) (now (bodies .entry)) rule) (idIn (now (objects .entry)) row) ≡ true
         → getD r row false ≡ true) ⌝ }
 {
+    let mut marks = [false; 1024];
     let everything = put_candidates(
         n,
         types,
@@ -189,7 +197,9 @@ pub fn candidates(
         trace,
         rule,
         still,
+        &mut marks,
         sets,
     );
-    marks_of(n, everything, sets)
+    mark_all(n, everything, &mut marks);
+    marks
 }

@@ -1,10 +1,9 @@
 -- What a collection leads back to, by the collection below its selects.
-use Prim.Native.Nat.{ℕ, _+_, _*_, _<_}
+use Prim.Native.Nat.{ℕ, _*_, _<_}
 use mathlib.Core.Path.{_≡_, sym, ap, subst, _∙_}
 use mathlib.Core.Bool.{Bool, true, false}
 use mathlib.Core.List.{List}
 use lib.Dec.{T, ltb, eqb}
-use lib.ListN.{getD}
 use mir.Facts.{and-yes, ltb-yes}
 use borrow.Author.Tests.{eqb-true}
 use Rattle.meaning.specs.Limits.{maxRelationships}
@@ -20,6 +19,7 @@ use Rattle.register.proofs.Rows.{place-there, row-is}
 use Rattle.walks.specs.Site.{idIn}
 use Rattle.ocl.specs.Ready.{Steady, scoped}
 use Rattle.going_back.specs.Back.{leadsInto, baseOf, turned, Covered}
+use Rattle.row_sets.specs.Sets.{Sets, inSet}
 use Rattle.row_sets.proofs.Tests.{so-true, true-so, both-true}
 use Rattle.going_back.proofs.Turning.{leads-back}
 use Rattle.going_back.proofs.Bases.{leads-base}
@@ -73,9 +73,9 @@ module _ (m : ℕ) (objects : List ℕ) (l : ℕ) (links : List ℕ) (steady : S
         let s = rowed set x (steady .ends r u x far) (found .2) in
         (eqb-true v w (parts .0), (s .0, s .1, s .2, subst (λ y. u ∈ farEnds g (turned r) y) (sym (s .3)) (leads-back g r u x far)))
 
-  module _ (k : Form collection) (set : ℕ → Bool) (depth : ℕ) (before : List Bool) (inside : (row : ℕ) → row < m → set (idIn objects row) ≡ true → getD before (depth * 1024 + row) false ≡ true) where
+  module _ (k : Form collection) (set : ℕ → Bool) (depth : ℕ) (before : Sets) (inside : (row : ℕ) → row < m → set (idIn objects row) ≡ true → inSet before depth row ≡ true) where
     -- over all objects of a type, by whether the set has a row
-    pub all-covered : {t : ℕ} → baseOf k ≡ all t → {some : Bool} (after : List Bool) → ((row : ℕ) → row < m → getD before (depth * 1024 + row) false ≡ true → some ≡ true) → Covered (leadsInto c k set) objects m depth some after
+    pub all-covered : {t : ℕ} → baseOf k ≡ all t → {some : Bool} (after : Sets) → ((row : ℕ) → row < m → inSet before depth row ≡ true → some ≡ true) → Covered (leadsInto c k set) objects m depth some after
     all-covered e after has =
         record {
           each = λ q v h row low t.
@@ -84,13 +84,13 @@ module _ (m : ℕ) (objects : List ℕ) (l : ℕ) (links : List ℕ) (steady : S
         }
 
     -- along a role, by the rows that the role turned round leads to
-    pub role-covered : {w r near back : ℕ} → baseOf k ≡ role w r → near ≡ w → back ≡ turned r → (after : List Bool)
-        → ((x : ℕ) → x < m → getD before (depth * 1024 + x) false ≡ true → (y : ℕ) → y < m → idIn objects y ∈ farEnds g back (idIn objects x) → getD after (near * 1024 + y) false ≡ true)
+    pub role-covered : {w r near back : ℕ} → baseOf k ≡ role w r → near ≡ w → back ≡ turned r → (after : Sets)
+        → ((x : ℕ) → x < m → inSet before depth x ≡ true → (y : ℕ) → y < m → idIn objects y ∈ farEnds g back (idIn objects x) → inSet after near y ≡ true)
         → Covered (leadsInto c k set) objects m depth false after
     role-covered {w} {r} {near} {back} e p q after led =
         record {
           each = λ z v h row low t.
               let (same, s) = over-role k set v (idIn objects row) t e in
-              ap (λ n. getD after (n * 1024 + row) false) (same ∙ sym p)
+              ap (λ n. inSet after n row) (same ∙ sym p)
               ∙ led (s .0) (s .1) (inside (s .0) (s .1) (s .2)) row low (subst (λ b. idIn objects row ∈ farEnds g b (idIn objects (s .0))) (sym q) (s .3));
         }

@@ -1,10 +1,9 @@
 -- What is reached from a form without parts is covered, by its code.
-use Prim.Native.Nat.{ℕ, _+_, _*_, _<_}
+use Prim.Native.Nat.{ℕ, _<_}
 use mathlib.Core.Path.{_≡_, sym, ap, subst, _∙_}
 use mathlib.Core.Bool.{Bool, true, false, _&&_, _||_}
 use mathlib.Core.List.{List}
 use lib.Dec.{T, eqb}
-use lib.ListN.{getD}
 use borrow.Author.Tests.{eqb-true}
 use Rattle.meaning.specs.Reach.{Change, Direction, up, down, roleMoves, allMoves, cellMoves, kindMoves, specialised}
 use Rattle.directions.specs.Sets.{has, someOf}
@@ -13,11 +12,12 @@ use Rattle.trace_places.specs.Questions.{asked, cellSet, joinedBy, partedBy, sp
 use Rattle.reach.proofs.Leaves.{asked-set, asked-joined, asked-parted, asked-specialised, asked-generalised}
 use Rattle.reach.proofs.Nodes.{always}
 use Rattle.going_back.specs.Back.{leafReached, Covered}
+use Rattle.row_sets.specs.Sets.{Sets, inSet}
 use Rattle.row_sets.proofs.Tests.{both-true, and-more, or-more}
 use Rattle.going_back.proofs.Nodes.{some-and}
 use Rattle.going_back.proofs.Covers.{covered-as}
 
-module _ (c : Change) (x y set : ℕ) (some-set : 0 < set) (small : set < 4) (objects : List ℕ) (rows depth : ℕ) (sets : List Bool) where
+module _ (c : Change) (x y set : ℕ) (some-set : 0 < set) (small : set < 4) (objects : List ℕ) (rows depth : ℕ) (sets : Sets) where
   abbrev Reached : ℕ → Bool → Type 0
   Reached k everything = Covered (λ v u. someOf set (leafReached c k x y v u)) objects rows depth everything sets
 
@@ -27,14 +27,14 @@ module _ (c : Change) (x y set : ℕ) (some-set : 0 < set) (small : set < 4) (ob
 
   -- what is in the set of variable x
   abbrev Put : (ℕ → Bool) → Type 0
-  Put put = (row : ℕ) → row < rows → put (idIn objects row) ≡ true → getD sets (x * 1024 + row) false ≡ true
+  Put put = (row : ℕ) → row < rows → put (idIn objects row) ≡ true → inSet sets x row ≡ true
 
   at-variable : (m : ℕ → Bool) → Put m → Covered (λ v u. eqb v x && m u) objects rows depth false sets
   at-variable m put =
       record {
         each = λ e v l row h t.
             let p = both-true (eqb v x) (m (idIn objects row)) t in
-            ap (λ w. getD sets (w * 1024 + row) false) (eqb-true v x (p .0)) ∙ put row h (p .1);
+            ap (λ w. inSet sets w row) (eqb-true v x (p .0)) ∙ put row h (p .1);
       }
 
   -- of what is gained, and of what is lost

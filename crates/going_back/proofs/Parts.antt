@@ -18,12 +18,12 @@ use Rattle.walks.specs.Site.{Site, rowsAt, formAt, codeAt}
 use Rattle.reach.specs.Able.{Able}
 use Rattle.reach.proofs.Abilities.{whole, last-sound, op, sorts}
 use Rattle.going_back.specs.Back.{leadsInto, throughMembers, reachedBy, leafReached, Covered}
-use Rattle.row_sets.specs.Sets.{GrownBelow}
+use Rattle.row_sets.specs.Sets.{Sets, GrownBelow}
 use Rattle.going_back.proofs.Covers.{covered-as, covered-then}
 use Rattle.going_back.proofs.Nodes.{sumReached, secondReached, leaf-here, one-here, two-here}
 
 -- no direction, nothing reached
-pub none-covers : (c : Change) (w : Site) (e depth : ℕ) {set : ℕ} {objects : List ℕ} {rows : ℕ} {sets : List Bool} → set ≡ 0 → Covered (reachedBy c (formAt w e) depth set) objects rows depth false sets
+pub none-covers : (c : Change) (w : Site) (e depth : ℕ) {set : ℕ} {objects : List ℕ} {rows : ℕ} {sets : Sets} → set ≡ 0 → Covered (reachedBy c (formAt w e) depth set) objects rows depth false sets
 none-covers c w e depth q =
     covered-as (λ v u. ap (λ dirs. reachedBy c (formAt w e) depth dirs v u) (sym q)) (record { each = λ still v l row h t. absurd (subst T (sym t) tt) })
 
@@ -31,14 +31,14 @@ module _ {S : Schema} {w : Site} {starts : List ℕ} {e : ℕ} {vars : List ℕ}
   abbrev reach : ℕ → ℕ → ℕ → ℕ → Bool
   reach k dirs = reachedBy c (formAt w k) depth dirs
 
-  abbrev Cover : (ℕ → ℕ → Bool) → Bool → List Bool → Type 0
+  abbrev Cover : (ℕ → ℕ → Bool) → Bool → Sets → Type 0
   Cover f everything sets = Covered f objects rows depth everything sets
 
   -- the form that ends with the row is the one at the place
   at-end : (v u : ℕ) → reachedBy c ((ending (rowsAt w) (suc (e - 1))) .form) depth set v u ≡ reach e set v u
   at-end v u = ap (λ k. reachedBy c (formAt w k) depth set v u) (whole able)
 
-  pub leaf-covers : {code x y : ℕ} {r : Bool} {s : List Bool} → code ≡ codeAt w e → x ≡ (rowsAt w (e - 1)) .x → y ≡ (rowsAt w (e - 1)) .y → secondSort (sorts able) ≡ 3
+  pub leaf-covers : {code x y : ℕ} {r : Bool} {s : Sets} → code ≡ codeAt w e → x ≡ (rowsAt w (e - 1)) .x → y ≡ (rowsAt w (e - 1)) .y → secondSort (sorts able) ≡ 3
       → Cover (λ v u. someOf set (leafReached c code x y v u)) r s
       → Cover (reach e set) r s
   leaf-covers p q z h =
@@ -47,7 +47,7 @@ module _ {S : Schema} {w : Site} {starts : List ℕ} {e : ℕ} {vars : List ℕ}
   module _ (n : secondSort (sorts able) ≡ 3 → ⊥) {dirs : ℕ} (to : dirs ≡ toSecond (c .schema) set (op able) (codeAt w e) (rowsAt w (e - 1)) (formAt w (e - 1))) where
     -- ---- one part
 
-    module _ (f : firstSort (sorts able) ≡ 3) {r : Bool} {s : List Bool} (still : r ≡ false) (part : Cover (reach (e - 1) dirs) r s) where
+    module _ (f : firstSort (sorts able) ≡ 3) {r : Bool} {s : Sets} (still : r ≡ false) (part : Cover (reach (e - 1) dirs) r s) where
       one-is : (v u : ℕ) → (reach (e - 1) dirs v u || sumReached c depth set v u (codeAt w e) ((rowsAt w (e - 1)) .x) (formAt w (e - 1))) ≡ reach e set v u
       one-is v u =
           ap (λ k. reach (e - 1) k v u || sumReached c depth set v u (codeAt w e) ((rowsAt w (e - 1)) .x) (formAt w (e - 1))) to
@@ -59,7 +59,7 @@ module _ {S : Schema} {w : Site} {starts : List ℕ} {e : ℕ} {vars : List ℕ}
           covered-as (λ v u. sym (or-false (reach (e - 1) dirs v u)) ∙ simp (ne-eqb (codeAt w e) 17 (λ z. other (k ∙ z))) at (one-is v u))
           (subst (λ b. Cover (reach (e - 1) dirs) b s) still part)
 
-      pub sum-covers : {code x : ℕ} {b : Bool} {t : List Bool} → rows ≤ 1024 → code ≡ codeAt w e → code ≡ 17 → x ≡ (rowsAt w (e - 1)) .x → GrownBelow depth s t
+      pub sum-covers : {code x : ℕ} {b : Bool} {t : Sets} → rows ≤ 1024 → code ≡ codeAt w e → code ≡ 17 → x ≡ (rowsAt w (e - 1)) .x → GrownBelow depth s t
           → Cover (leadsInto c (asCollection (formAt w (e - 1))) (λ y. cellMoves c y x)) b t
           → Cover (reach e set) b t
       sum-covers few k is field grown sums =
@@ -69,7 +69,7 @@ module _ {S : Schema} {w : Site} {starts : List ℕ} {e : ℕ} {vars : List ℕ}
 
     -- ---- two parts
 
-    module _ (m : firstSort (sorts able) ≡ 3 → ⊥) {first to-first : ℕ} (at : first ≡ getD starts (e - 1) 0) (passed : to-first ≡ passTo false set (op able) 0) {r : Bool} {s t : List Bool}
+    module _ (m : firstSort (sorts able) ≡ 3 → ⊥) {first to-first : ℕ} (at : first ≡ getD starts (e - 1) 0) (passed : to-first ≡ passTo false set (op able) 0) {r : Bool} {s t : Sets}
         (few : rows ≤ 1024) (still : r ≡ false) (part : Cover (reach first to-first) r s) (grown : GrownBelow depth s t) where
       -- the first part ends where the second starts
       first-is : formAt w first ≡ (firstPart (rowsAt w) (e - 1)) .form

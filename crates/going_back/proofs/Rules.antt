@@ -27,6 +27,7 @@ use Rattle.walks.specs.Site.{Site, siteOf, rowsAt, formAt, idIn}
 use Rattle.ocl.proofs.Bodies.{body-ready}
 use Rattle.going_back.specs.Back.{reached, partReached, reachedBy, candidate, Covered}
 use Rattle.going_back.specs.Walkable.{BodyAble}
+use Rattle.row_sets.specs.Sets.{Sets, inSet}
 use Rattle.row_sets.proofs.Tests.{one-true}
 
 module _ (n : Counts) (types rules bodies objects links index : List ℕ) (rule : ℕ) (whole : T (wholeBody (bodyOf bodies rule) (wordAt rules 2 rule 1))) where
@@ -76,10 +77,10 @@ module _ (n : Counts) (types rules bodies objects links index : List ℕ) (rule 
       }
 
   -- the rows that are put into the first set
-  abbrev Put : (ℕ → Bool) → List Bool → Type 0
-  Put put sets = (row : ℕ) → row < n .objects → put (idIn objects row) ≡ true → getD sets (0 + row) false ≡ true
+  abbrev Put : (ℕ → Bool) → Sets → Type 0
+  Put put sets = (row : ℕ) → row < n .objects → put (idIn objects row) ≡ true → inSet sets 0 row ≡ true
 
-  pub candidates-covered : (c : Change) {everything : Bool} {sets : List Bool} → Put (broughtIn c r) sets → Covered (reachedBy c (formAt w size) 1 2) objects (n .objects) 1 everything sets → everything ≡ false → Put (candidate c r) sets
+  pub candidates-covered : (c : Change) {everything : Bool} {sets : Sets} → Put (broughtIn c r) sets → Covered (reachedBy c (formAt w size) 1 2) objects (n .objects) 1 everything sets → everything ≡ false → Put (candidate c r) sets
   unfolding candidate ruleRow partReached
   candidates-covered c brought body still row h t =
       let u = idIn objects row in

@@ -1,11 +1,10 @@
 -- Document 01, "Reach rules", read backward: the ids at which a variable of a form can stand when the form moves. It is what the code covers with sets of
 -- rows; a candidate more than needed does no harm, since each is tested by the forward rule.
-use Prim.Native.Nat.{ℕ, suc, _+_, _-_, _*_, _<_}
+use Prim.Native.Nat.{ℕ, suc, _+_, _-_, _<_}
 use mathlib.Core.Path.{_≡_}
 use mathlib.Core.Bool.{Bool, true, false, _&&_, _||_, cond}
 use mathlib.Core.List.{List}
 use lib.Dec.{eqb}
-use lib.ListN.{getD}
 use Rattle.meaning.specs.Lists.{any}
 use Rattle.meaning.specs.Schema.{forward}
 use Rattle.meaning.specs.Register.{instances, farEnds}
@@ -13,6 +12,7 @@ use Rattle.meaning.specs.Forms.{Sort, collection, Form, compare, negate, connec
 use Rattle.tables.specs.Bodies.{BodyRow, Part, part, asCollection, ending}
 use Rattle.directions.specs.Sets.{someOf}
 use Rattle.walks.specs.Site.{idIn}
+use Rattle.row_sets.specs.Sets.{Sets, inSet}
 use Rattle.meaning.specs.Reach.{Change, Direction, down, through, leftOf, rightOf, negated, firstTruth, secondTruth, sourceOf, atMember, counted, chosenFrom, firstTerm, secondTerm, sumSource, flooredSum, roleMoves, allMoves, cellMoves, kindMoves, broughtIn}
 
 -- With u for variable v, the collection below its selects has a member in the set. Over all objects of a type this does not depend on v and u.
@@ -64,9 +64,9 @@ leafReached c code x y v u d =
 unfoldable pub candidate : Change → Rule → ℕ → Bool
 candidate c r s = reached c (r .body) 1 0 s down || broughtIn c r s
 
--- Everything is reached; or of each of the first `depth` variables the rows that are reached are in its set, at 1,024 times its number.
-pub record Covered (reach : (v u : ℕ) → Bool) (objects : List ℕ) (rows depth : ℕ) (everything : Bool) (sets : List Bool) : Type 0 where
-  pub each : everything ≡ false → (v : ℕ) → v < depth → (row : ℕ) → row < rows → reach v (idIn objects row) ≡ true → getD sets (v * 1024 + row) false ≡ true
+-- Everything is reached; or of each of the first `depth` variables the rows that are reached are in its set.
+pub record Covered (reach : (v u : ℕ) → Bool) (objects : List ℕ) (rows depth : ℕ) (everything : Bool) (sets : Sets) : Type 0 where
+  pub each : everything ≡ false → (v : ℕ) → v < depth → (row : ℕ) → row < rows → reach v (idIn objects row) ≡ true → inSet sets v row ≡ true
 
 -- "Role 2r goes from source to target of relationship r, role 2r + 1 back": the role turned round
 abbrev pub turned : ℕ → ℕ

@@ -30,7 +30,7 @@ ghost use Rattle.ocl.specs.Ready.{Ready};
 ghost use Rattle.trace_places.specs.Traces.{Traced, Traces};
 ghost use Rattle.reach.specs.Able.{LeafAble};
 ghost use Rattle.going_back.specs.Back.{leadsInto, throughMembers, reachedBy, leafReached, Covered, turned, BaseRow};
-ghost use Rattle.row_sets.specs.Sets.{Grown, GrownBelow};
+ghost use Rattle.row_sets.specs.Sets.{setsOf, inSet, Room, Grown, GrownBelow};
 ghost use Rattle.going_back.specs.Walkable.{Walkable, OverWalkable};
 
 // The codes of rows.
@@ -78,26 +78,27 @@ fn image(
     bodies: &[u32],
     spans: &[u32; 65],
     of: Place,
+    marks: &mut [bool; 1024],
     sets: &mut [bool],
 ) -> bool
     requires { ⌜ ((types vars : List ℕ) × Ready (siteOf n types (now objects) (now links) (now index) (now bodies) (of .0)) (now spans) (of .1) vars (of .2) collection)
-        × (of .2 < 64) × (length (now sets) ≡ 65536) ⌝ }
-    ensures { λ r. ⌜ (Grown (now (sets .entry)) (now (sets .exit)))
+        × (of .2 < 64) × (Room (setsOf (now marks) (now sets))) ⌝ }
+    ensures { λ r. ⌜ (Grown (setsOf (now (marks .entry)) (now (sets .entry))) (setsOf (now (marks .exit)) (now (sets .exit))))
         × ((c : Change) → c .end ≡ registerOf (n .objects) (now (objects .entry)) (n .links) (now (links .entry)) → (set : ℕ → Bool)
-        → ((row : ℕ) → row < n .objects → set (idIn (now (objects .entry)) row) ≡ true → getD (now (sets .entry)) (of .2 * 1024 + row) false ≡ true)
+        → ((row : ℕ) → row < n .objects → set (idIn (now (objects .entry)) row) ≡ true → inSet (setsOf (now (marks .entry)) (now (sets .entry))) (of .2) row ≡ true)
         → Covered (leadsInto c (asCollection ((ending (bodyOf (now (bodies .entry)) (of .0)) (of .1)) .form)) set)
-        (now (objects .entry)) (n .objects) (of .2) r (now (sets .exit))) ⌝ }
+        (now (objects .entry)) (n .objects) (of .2) r (setsOf (now (marks .exit)) (now (sets .exit)))) ⌝ }
 {
     let rule = of.0;
     let depth = of.2;
     let row = base_row(bodies, spans, of);
     if field(bodies, rule, row, 0) == ALL {
-        return has_some(n, depth, sets);
+        return has_some(n, depth, marks, sets);
     }
     let v = field(bodies, rule, row, 1);
     let role = field(bodies, rule, row, 2);
     let back = turned(role);
-    put_back(n, objects, links, index, back, depth, v, sets);
+    put_back(n, objects, links, index, back, depth, v, marks, sets);
     false
 }
 
@@ -114,14 +115,15 @@ fn members(
     trace: &[u16; 16675],
     of: Place,
     cell: u32,
+    marks: &mut [bool; 1024],
     sets: &mut [bool],
 ) -> bool
     requires { ⌜ ((vars : List ℕ) × Ready (siteOf n (now types) (now objects) (now links) (now index) (now bodies) (of .0)) (now spans) (of .1) vars (of .2) collection)
-        × (Traces n (now types) (now objects) (now links) (now events) (now trace)) × (of .2 < 64) × (length (now sets) ≡ 65536) ⌝ }
-    ensures { λ r. ⌜ (GrownBelow (of .2) (now (sets .entry)) (now (sets .exit)))
+        × (Traces n (now types) (now objects) (now links) (now events) (now trace)) × (0 < of .2) × (of .2 < 64) × (Room (setsOf (now marks) (now sets))) ⌝ }
+    ensures { λ r. ⌜ (GrownBelow (of .2) (setsOf (now (marks .entry)) (now (sets .entry))) (setsOf (now (marks .exit)) (now (sets .exit))))
         × ((c : Change) → Traced c n (now (types .entry)) (now (objects .entry)) (now (links .entry)) (now (events .entry)) (now (trace .entry))
         → Covered (leadsInto c (asCollection (formAt (siteOf n (now (types .entry)) (now (objects .entry)) (now (links .entry)) (now (index .entry)) (now (bodies .entry)) (of .0)) (of .1))) (λ x. cellMoves c x cell))
-        (now (objects .entry)) (n .objects) (of .2) r (now (sets .exit))) ⌝ }
+        (now (objects .entry)) (n .objects) (of .2) r (setsOf (now (marks .exit)) (now (sets .exit)))) ⌝ }
 {
     let new = of.2;
     clear(n, new, sets);
@@ -135,9 +137,10 @@ fn members(
         questions::CELL_SET,
         cell,
         new,
+        marks,
         sets,
     );
-    image(n, objects, links, index, bodies, spans, of, sets)
+    image(n, objects, links, index, bodies, spans, of, marks, sets)
 }
 
 // Goes back from a form without parts, by its code and its first two fields. Of what is brought into a type it does not matter here whether it is there at the end.
@@ -153,13 +156,14 @@ fn leaf(
     x: u32,
     y: u32,
     set: u32,
+    marks: &mut [bool; 1024],
     sets: &mut [bool],
 ) -> bool
     requires { ⌜ ((vars : List ℕ) × LeafAble (n .objects) vars depth code x)
-        × (Traces n (now types) (now objects) (now links) (now events) (now trace)) × (0 < set) × (set < 4) × (length (now sets) ≡ 65536) ⌝ }
-    ensures { λ r. ⌜ (Grown (now (sets .entry)) (now (sets .exit)))
+        × (Traces n (now types) (now objects) (now links) (now events) (now trace)) × (0 < set) × (set < 4) × (Room (setsOf (now marks) (now sets))) ⌝ }
+    ensures { λ r. ⌜ (Grown (setsOf (now (marks .entry)) (now (sets .entry))) (setsOf (now (marks .exit)) (now (sets .exit))))
         × ((c : Change) → Traced c n (now (types .entry)) (now (objects .entry)) (now (links .entry)) (now (events .entry)) (now (trace .entry))
-        → Covered (λ v u. someOf set (leafReached c code x y v u)) (now (objects .entry)) (n .objects) depth r (now (sets .exit))) ⌝ }
+        → Covered (λ v u. someOf set (leafReached c code x y v u)) (now (objects .entry)) (n .objects) depth r (setsOf (now (marks .exit)) (now (sets .exit)))) ⌝ }
 {
     if code == ALL {
         return reach::all_moved(n, types, objects, links, events, trace, x, set);
@@ -178,6 +182,7 @@ fn leaf(
             questions::CELL_SET,
             y,
             x,
+            marks,
             sets,
         );
         return false;
@@ -195,6 +200,7 @@ fn leaf(
             y,
             x,
             set,
+            marks,
             sets,
         );
         return false;
@@ -211,6 +217,7 @@ fn leaf(
         y,
         x,
         set,
+        marks,
         sets,
     );
     false
@@ -231,15 +238,16 @@ pub fn back(
     trace: &[u16; 16675],
     at: Place,
     set: u32,
+    marks: &mut [bool; 1024],
     sets: &mut [bool],
 ) -> bool
     requires { ⌜ (Walkable (siteOf n (now types) (now objects) (now links) (now index) (now bodies) (at .0)) (now spans) (at .1) (at .2))
-        × (Traces n (now types) (now objects) (now links) (now events) (now trace)) × (set < 4) × (length (now sets) ≡ 65536) ⌝ }
-    ensures { λ r. ⌜ (GrownBelow (at .2) (now (sets .entry)) (now (sets .exit)))
+        × (Traces n (now types) (now objects) (now links) (now events) (now trace)) × (set < 4) × (Room (setsOf (now marks) (now sets))) ⌝ }
+    ensures { λ r. ⌜ (GrownBelow (at .2) (setsOf (now (marks .entry)) (now (sets .entry))) (setsOf (now (marks .exit)) (now (sets .exit))))
         × ((c : Change) → Traced c n (now (types .entry)) (now (objects .entry)) (now (links .entry)) (now (events .entry)) (now (trace .entry))
         → FlooredRows (c .schema) (bodyOf (now (bodies .entry)) (at .0)) (at .1) (now (floored .entry))
         → Covered (reachedBy c (formAt (siteOf n (now (types .entry)) (now (objects .entry)) (now (links .entry)) (now (index .entry)) (now (bodies .entry)) (at .0)) (at .1)) (at .2) set)
-        (now (objects .entry)) (n .objects) (at .2) r (now (sets .exit))) ⌝ }
+        (now (objects .entry)) (n .objects) (at .2) r (setsOf (now (marks .exit)) (now (sets .exit)))) ⌝ }
 {
     if set == 0 {
         return false;
@@ -263,6 +271,7 @@ pub fn back(
             x,
             y,
             set,
+            marks,
             sets,
         );
     }
@@ -283,6 +292,7 @@ pub fn back(
             trace,
             second,
             to,
+            marks,
             sets,
         ) {
             return true;
@@ -302,6 +312,7 @@ pub fn back(
             trace,
             second,
             x,
+            marks,
             sets,
         );
     }
@@ -320,6 +331,7 @@ pub fn back(
         trace,
         first,
         to_first,
+        marks,
         sets,
     ) {
         return true;
@@ -338,6 +350,7 @@ pub fn back(
             trace,
             second,
             to,
+            marks,
             sets,
         );
     }
@@ -354,6 +367,7 @@ pub fn back(
         trace,
         at,
         to,
+        marks,
         sets,
     )
 }
@@ -372,17 +386,18 @@ fn over(
     trace: &[u16; 16675],
     at: Place,
     dirs: u32,
+    marks: &mut [bool; 1024],
     sets: &mut [bool],
 ) -> bool
     requires { ⌜ (OverWalkable (siteOf n (now types) (now objects) (now links) (now index) (now bodies) (at .0)) (now spans) (at .1) (at .2))
-        × (Traces n (now types) (now objects) (now links) (now events) (now trace)) × (dirs < 4) × (length (now sets) ≡ 65536) ⌝ }
-    ensures { λ r. ⌜ (GrownBelow (at .2) (now (sets .entry)) (now (sets .exit)))
+        × (Traces n (now types) (now objects) (now links) (now events) (now trace)) × (dirs < 4) × (Room (setsOf (now marks) (now sets))) ⌝ }
+    ensures { λ r. ⌜ (GrownBelow (at .2) (setsOf (now (marks .entry)) (now (sets .entry))) (setsOf (now (marks .exit)) (now (sets .exit))))
         × ((c : Change) → Traced c n (now (types .entry)) (now (objects .entry)) (now (links .entry)) (now (events .entry)) (now (trace .entry))
         → FlooredRows (c .schema) (bodyOf (now (bodies .entry)) (at .0)) (at .1) (now (floored .entry))
         → Covered (throughMembers c
         (asCollection (formAt (siteOf n (now (types .entry)) (now (objects .entry)) (now (links .entry)) (now (index .entry)) (now (bodies .entry)) (at .0)) (getD (now (spans .entry)) (at .1 - 1) 0)))
         (at .2) (reachedBy c (formAt (siteOf n (now (types .entry)) (now (objects .entry)) (now (links .entry)) (now (index .entry)) (now (bodies .entry)) (at .0)) (at .1 - 1)) (at .2 + 1) dirs))
-        (now (objects .entry)) (n .objects) (at .2) r (now (sets .exit))) ⌝ }
+        (now (objects .entry)) (n .objects) (at .2) r (setsOf (now (marks .exit)) (now (sets .exit)))) ⌝ }
 {
     let rule = at.0;
     let row = at.1 - 1;
@@ -402,11 +417,12 @@ fn over(
         trace,
         inner,
         dirs,
+        marks,
         sets,
     ) {
         return true;
     }
     let from = row as usize;
     let of = Place(rule, spans[from], new);
-    image(n, objects, links, index, bodies, spans, of, sets)
+    image(n, objects, links, index, bodies, spans, of, marks, sets)
 }

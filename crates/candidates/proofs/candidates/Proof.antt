@@ -1,29 +1,38 @@
 -- `candidates::candidates` meets its contract.
-use mathlib.Core.Path.{_∙_}
-use native.Mathlib.Nat.{zero-add}
+use mathlib.Core.Path.{refl, _∙_}
+use Rattle.row_sets.specs.Sets.{inSet}
 use Rattle.row_sets.proofs.Tests.{or-else}
 use borrow.Author.Needs.{needs}
 use Rattle.candidates.proofs.candidates.Statement.{statement}
 use Rattle.candidates.proofs.candidates.Tie as tie
 
-put-candidates-requires : tie.Need-put-candidates-requires
-put-candidates-requires c κs = search needs
+abbrev begin : tie.After-put-candidates → tie.Start
+begin c = let known = c .before .before .before in known .before .before .before .before .before .before .before
 
-marks-of-requires : tie.Need-marks-of-requires
-marks-of-requires c κs = search needs
+put-candidates-requires : tie.Need-put-candidates-requires
+put-candidates-requires c κs =
+    let known = c .before .before in
+    let s = known .before .before .before .before .before .before .before in
+    (s .pre .0, s .pre .1, s .pre .2, record { self = refl; inner = s .pre .3 })
+
+mark-all-requires : tie.Need-mark-all-requires
+mark-all-requires c κs =
+    let put = c .before .before .before in
+    (begin put .pre .2 .1 .objects-few, put .put-candidates .ensures .0 .long .self ∙ refl)
 
 same-length : tie.Need-same-length
 same-length c = search needs
 
 returns : tie.Need-returns
+unfolding inSet
 returns c =
     let put = c .before .before .before .before in (
-      put .put-candidates .ensures .0,
+      put .put-candidates .ensures .0 .long .inner,
       λ k traced floors stills row h t.
-          c .marks-of .ensures row h
-          ∙ or-else (put .put-candidates .result) (λ still. rw (zero-add row) at (put .put-candidates .ensures .1 k traced floors stills still row h t)),
+          c .mark-all .ensures row h
+          ∙ or-else (put .put-candidates .result) (λ still. put .put-candidates .ensures .1 k traced floors stills still row h t),
     )
 
 pub candidates-spec : {M : Type 1} → statement M
 candidates-spec =
-    tie.close (tie.spec put-candidates-requires marks-of-requires same-length returns)
+    tie.close (tie.spec put-candidates-requires mark-all-requires same-length returns)

@@ -15,6 +15,7 @@ use Rattle.going_back.specs.Back.{reachedBy}
 use Rattle.going_back.specs.Walkable.{Walkable}
 use Rattle.going_back.proofs.Covers.{covered-as}
 use Rattle.going_back.proofs.Rules.{candidates-covered}
+use Rattle.row_sets.proofs.Growth.{room-kept, grown-none, grown-below, below-then}
 use borrow.Author.Needs.{needs}
 use Rattle.candidates.proofs.put_candidates.Statement.{statement}
 use Rattle.candidates.proofs.put_candidates.Tie as tie
@@ -23,7 +24,7 @@ abbrev begin : tie.Else1 → tie.Start
 begin c = let known = c .before .before .before in known .before .before .before .before .before .before
 
 abbrev some : tie.After-put-brought → tie.Else1
-some c = c .before .before .before
+some c = c .before .before .before .before
 
 abbrev brought : tie.After-word2 → tie.After-put-brought
 brought c = c .before .before .before
@@ -36,14 +37,14 @@ brought-as : (c : tie.After-put-brought) (k : Change) → let a = begin (some c)
     let r = ruleRow (now (a .rules)) (now (a .bodies)) (a .rule) in
     StillBy (k .schema) r (a .still)
     → (row : ℕ)
-    → cameInto k (a .still) (c .before .before .word .result) (idIn (now (a .objects)) row) ≡ broughtIn k r (idIn (now (a .objects)) row)
+    → cameInto k (a .still) (c .before .before .before .word .result) (idIn (now (a .objects)) row) ≡ broughtIn k r (idIn (now (a .objects)) row)
 unfolding ruleRow
 brought-as c k stills row =
     let a = begin (some c) .args in
-    came-in k (ruleRow (now (a .rules)) (now (a .bodies)) (a .rule)) (idIn (now (a .objects)) row) stills (c .before .before .word .ensures)
+    came-in k (ruleRow (now (a .rules)) (now (a .bodies)) (a .rule)) (idIn (now (a .objects)) row) stills (c .before .before .before .word .ensures)
 
 returns : tie.Need-returns
-returns c = (refl, λ k traced floors stills still row h. let none = c .if1 .taken in absurd (omega arith))
+returns c = (grown-below 1 (grown-none _), λ k traced floors stills still row h. let none = c .if1 .taken in absurd (omega arith))
 
 word-requires : tie.Need-word-requires
 word-requires c κs = search needs
@@ -56,14 +57,15 @@ word-requires-2 c κs = search needs
 
 back-requires : tie.Need-back-requires
 back-requires c κs =
-    let put = brought (c .before) in
+    let size = c .before .before in
+    let put = brought size in
     let s = begin (some put) in
     let vars : List ℕ = replicate 64 0 in
     let test = some put .if1 .left in
     let whole = s .pre .1 .1 0 (omega arith) vars refl refl in
-    let able = subst (λ e. Able (s .pre .1 .0) (site s) (now (s .args .spans)) e vars 1) (sym (c .before .word2 .ensures)) whole in
-    let walkable : Walkable (site s) (now (s .args .spans)) (c .before .word2 .result) 1 = record { schema = s .pre .1 .0; vars = vars; able = able; self = omega arith } in
-    (walkable, s .pre .2, omega arith, put .put-brought .ensures .0 ∙ s .pre .3)
+    let able = subst (λ e. Able (s .pre .1 .0) (site s) (now (s .args .spans)) e vars 1) (sym (size .word2 .ensures)) whole in
+    let walkable : Walkable (site s) (now (s .args .spans)) (size .word2 .result) 1 = record { schema = s .pre .1 .0; vars = vars; able = able; self = omega arith } in
+    (walkable, s .pre .2, omega arith, room-kept (put .put-brought .ensures .0 .long) (s .pre .3))
 
 same-length : tie.Need-same-length
 same-length c = search needs
@@ -71,15 +73,15 @@ same-length c = search needs
 returns-2 : tie.Need-returns-2
 returns-2 c =
     let call = c .before .before in
-    let size = call .before .before in
+    let size = call .before .before .before in
     let put = brought size in
     let s = begin (some put) in
     let a = s .args in
     let few = s .pre .2 .1 .objects-few in (
-      call .back .ensures .0 .long ∙ put .put-brought .ensures .0,
+      below-then (grown-below 1 (put .put-brought .ensures .0)) (call .back .ensures .0),
       λ k traced floors stills still.
           candidates-covered (a .n) (now (a .types)) (now (a .rules)) (now (a .bodies)) (now (a .objects)) (now (a .links)) (now (a .index)) (a .rule) (s .pre .0) k
-          (λ row h e. call .back .ensures .0 .kept _ (omega arith) (put .put-brought .ensures .1 k traced row h (brought-as put k stills row ∙ e)))
+          (λ row h e. call .back .ensures .0 .kept 0 row (omega arith) (omega arith) (put .put-brought .ensures .1 k traced row h (brought-as put k stills row ∙ e)))
           (covered-as (λ v u. ap (λ e. reachedBy k (formAt (site s) e) 1 2 v u) (size .word2 .ensures)) (call .back .ensures .1 k traced (rw (size .word2 .ensures) floors)))
           still,
     )

@@ -24,7 +24,8 @@ use Rattle.reach.specs.Able.{Able, LeafAble, OverAble}
 use Rattle.reach.proofs.Abilities.{positive, last-sound, op, sorts, coded, ready, leaf-able, deep, one-able, first-low, first-able, plain-able, over-able}
 use Rattle.going_back.specs.Back.{reachedBy}
 use Rattle.going_back.specs.Walkable.{Walkable, OverWalkable}
-use Rattle.row_sets.proofs.Growth.{grown-none, grown-below, cleared-below, below-then, below-less}
+use Rattle.row_sets.specs.Sets.{setsOf, GrownBelow}
+use Rattle.row_sets.proofs.Growth.{room-kept, grown-none, grown-below, cleared-below, below-then, below-less}
 use Rattle.going_back.proofs.Covers.{covered-all, covered-then, covered-less}
 use Rattle.going_back.proofs.Parts.{none-covers, leaf-covers, one-covers, sum-covers, plain-covers, over-covers}
 use Rattle.going_back.proofs.back.Reads as back
@@ -45,23 +46,23 @@ use Rattle.going_back.proofs.+back+over.Tie.{close}
 
 -- ---- measures, what each is given at the measure t, and what a call of it asks below t
 
-abbrev μ-back : Measures 10 back-kinds.ps ℕ
+abbrev μ-back : Measures 11 back-kinds.ps ℕ
 μ-back κs a = a .1 .1 .1 .1 .1 .1 .1 .1 .1 .1 .0 .1 + a .1 .1 .1 .1 .1 .1 .1 .1 .1 .1 .0 .1 + 1
 
-abbrev μ-over : Measures 10 over-kinds.ps ℕ
+abbrev μ-over : Measures 11 over-kinds.ps ℕ
 μ-over κs a = a .1 .1 .1 .1 .1 .1 .1 .1 .1 .1 .0 .1 + a .1 .1 .1 .1 .1 .1 .1 .1 .1 .1 .0 .1
 
-abbrev back-at : ℕ → In 10 back-kinds.ps
-back-at t = and 10 back-kinds.ps (is 10 back-kinds.ps μ-back t) back.Pre
+abbrev back-at : ℕ → In 11 back-kinds.ps
+back-at t = and 11 back-kinds.ps (is 11 back-kinds.ps μ-back t) back.Pre
 
-abbrev back-below : ℕ → In 10 back-kinds.ps
-back-below t = and 10 back-kinds.ps (falls 10 back-kinds.ps _<_ μ-back t) back.Pre
+abbrev back-below : ℕ → In 11 back-kinds.ps
+back-below t = and 11 back-kinds.ps (falls 11 back-kinds.ps _<_ μ-back t) back.Pre
 
-abbrev over-at : ℕ → In 10 over-kinds.ps
-over-at t = and 10 over-kinds.ps (is 10 over-kinds.ps μ-over t) over.Pre
+abbrev over-at : ℕ → In 11 over-kinds.ps
+over-at t = and 11 over-kinds.ps (is 11 over-kinds.ps μ-over t) over.Pre
 
-abbrev over-below : ℕ → In 10 over-kinds.ps
-over-below t = and 10 over-kinds.ps (falls 10 over-kinds.ps _<_ μ-over t) over.Pre
+abbrev over-below : ℕ → In 11 over-kinds.ps
+over-below t = and 11 over-kinds.ps (falls 11 over-kinds.ps _<_ μ-over t) over.Pre
 
 abbrev back-calls : ℕ → back-lts.Claims
 back-calls t = (
@@ -157,7 +158,7 @@ module _ (t : ℕ) where
   one-pass c = c .before .before
 
   abbrev gone-one : Gone → One
-  gone-one c = c .before .before
+  gone-one c = c .before .before .before
 
   abbrev two-pass : Two → Pass
   two-pass c = c .before .before
@@ -169,7 +170,7 @@ module _ (t : ℕ) where
   pass2-two c = c .before .before
 
   abbrev first-two : First → Two
-  first-two c = pass2-two (c .before .before)
+  first-two c = pass2-two (c .before .before .before)
 
   abbrev shape3-first : Shape3 → First
   shape3-first c = c .before .before .before .before
@@ -290,9 +291,9 @@ module _ (t : ℕ) where
 
   back-leaf-requires : back-lts.Need-leaf-requires (back-calls t) (back-at t) back.Post
   back-leaf-requires c κs =
-      let shape = c .before .before .before in
+      let shape = c .before .before .before .before in
       let s = shape-start shape in
-      let leaf = leaf-able (able s) (sym (second shape) ∙ c .before .before .if2 .taken) in
+      let leaf = leaf-able (able s) (sym (second shape) ∙ c .before .before .before .if2 .taken) in
       let code = shape .before .before .field .ensures in
       let x = shape .before .field2 .ensures in
       let at-code = subst (λ k. LeafAble (s .args .n .objects) (s .pre .1 .0 .vars) (s .args .at .2) k ((rowsAt (site s) (s .args .at .1 - 1)) .x)) (sym code) leaf in
@@ -305,12 +306,12 @@ module _ (t : ℕ) where
   back-returns-2 : back-lts.Need-returns-2 (back-calls t) (back-at t) back.Post
   back-returns-2 c =
       let leaf = c .before .before in
-      let shape = leaf .before .before .before .before in
+      let shape = leaf .before .before .before .before .before in
       let s = shape-start shape in (
         grown-below _ (leaf .leaf .ensures .0),
         λ k traced marks.
-            leaf-covers (able s) k (s .args .set) (some-set (shape .before .before .before .before)) (small s) (now (s .args .objects)) (s .args .n .objects) (shape .before .before .field .ensures) (shape .before .field2 .ensures) (leaf .before .before .field3 .ensures)
-            (sym (second shape) ∙ leaf .before .before .before .if2 .taken) (leaf .leaf .ensures .1 k traced),
+            leaf-covers (able s) k (s .args .set) (some-set (shape .before .before .before .before)) (small s) (now (s .args .objects)) (s .args .n .objects) (shape .before .before .field .ensures) (shape .before .field2 .ensures) (leaf .before .before .before .field3 .ensures)
+            (sym (second shape) ∙ leaf .before .before .before .before .if2 .taken) (leaf .leaf .ensures .1 k traced),
       )
 
   back-cast-from : back-lts.Need-cast-from (back-calls t) (back-at t) back.Post
@@ -327,7 +328,7 @@ module _ (t : ℕ) where
 
   back-back-requires : back-lts.Need-back-requires (back-calls t) (back-at t) back.Post
   back-back-requires c κs =
-      let one = c .before in
+      let one = c .before .before in
       let pass = one-pass one in
       let s = pass-start pass in
       let h = positive (able s) in
@@ -355,12 +356,12 @@ module _ (t : ℕ) where
 
   back-members-requires : back-lts.Need-members-requires (back-calls t) (back-at t) back.Post
   back-members-requires c κs =
-      let call = c .before .before .before .before .before in
+      let call = c .before .before .before .before .before .before in
       let one = gone-one call in
       let pass = one-pass one in
       let s = pass-start pass in
-      let reads = sums-here (rowsAt (site s)) (s .args .at .1 - 1) (last-sound (able s)) (sym (code-is pass) ∙ c .before .if5 .left) in
-      ((s .pre .1 .0 .vars, ready (only one) collection reads), s .pre .1 .1, deep (able s) (second-some (pass-parts pass)), call .back .ensures .0 .long ∙ s .pre .1 .3)
+      let reads = sums-here (rowsAt (site s)) (s .args .at .1 - 1) (last-sound (able s)) (sym (code-is pass) ∙ c .before .before .if5 .left) in
+      ((s .pre .1 .0 .vars, ready (only one) collection reads), s .pre .1 .1, s .pre .1 .0 .self, deep (able s) (second-some (pass-parts pass)), room-kept (call .back .ensures .0 .long) (s .pre .1 .3))
 
   back-same-length-4 : back-lts.Need-same-length-4 (back-calls t) (back-at t) back.Post
   back-same-length-4 c = search needs
@@ -368,7 +369,7 @@ module _ (t : ℕ) where
   back-returns-5 : back-lts.Need-returns-5 (back-calls t) (back-at t) back.Post
   back-returns-5 c =
       let sum = c .before .before in
-      let is-sum = sum .before .before in
+      let is-sum = sum .before .before .before in
       let call = is-sum .before .before .before .before in
       let one = gone-one call in
       let pass = one-pass one in
@@ -390,11 +391,12 @@ module _ (t : ℕ) where
 
   back-back-requires-2 : back-lts.Need-back-requires-2 (back-calls t) (back-at t) back.Post
   back-back-requires-2 c κs =
-      let two = pass2-two (c .before) in
+      let passed = c .before .before in
+      let two = pass2-two passed in
       let s = two-start two in
       let below = first-low (able s) (second-some (pass-parts (two-pass two))) (first-some two) in (
         omega (arith, s .pre .0),
-        (walk s _ (first-able (able s) (second-some (pass-parts (two-pass two))) (first-some two)), s .pre .1 .1, subst (λ k. k < 4) (sym (to-first (c .before))) (pass-small false (op (able s)) 0 (s .args .set)), s .pre .1 .3),
+        (walk s _ (first-able (able s) (second-some (pass-parts (two-pass two))) (first-some two)), s .pre .1 .1, subst (λ k. k < 4) (sym (to-first passed)) (pass-small false (op (able s)) 0 (s .args .set)), s .pre .1 .3),
       )
 
   back-same-length-5 : back-lts.Need-same-length-5 (back-calls t) (back-at t) back.Post
@@ -408,13 +410,13 @@ module _ (t : ℕ) where
 
   back-back-requires-3 : back-lts.Need-back-requires-3 (back-calls t) (back-at t) back.Post
   back-back-requires-3 c κs =
-      let shape = c .before .before in
+      let shape = c .before .before .before in
       let call = shape3-first shape in
       let two = first-two call in
       let s = two-start two in
       let h = positive (able s) in (
         omega (arith, s .pre .0),
-        (walk s _ (plain-able (able s) (second-some (pass-parts (two-pass two))) (first-some two) (λ q. c .before .if7 .taken (binds shape ∙ q))), s .pre .1 .1, second-set (two-pass two), call .back2 .ensures .0 .long ∙ s .pre .1 .3),
+        (walk s _ (plain-able (able s) (second-some (pass-parts (two-pass two))) (first-some two) (λ q. c .before .before .if7 .taken (binds shape ∙ q))), s .pre .1 .1, second-set (two-pass two), room-kept (call .back2 .ensures .0 .long) (s .pre .1 .3)),
       )
 
   back-same-length-6 : back-lts.Need-same-length-6 (back-calls t) (back-at t) back.Post
@@ -423,25 +425,25 @@ module _ (t : ℕ) where
   back-returns-7 : back-lts.Need-returns-7 (back-calls t) (back-at t) back.Post
   back-returns-7 c =
       let last = c .before .before in
-      let shape = last .before .before .before in
+      let shape = last .before .before .before .before in
       let call = shape3-first shape in
       let two = first-two call in
       let s = two-start two in (
         below-then (call .back2 .ensures .0) (last .back3 .ensures .0),
         λ k traced marks.
             plain-covers (able s) k (s .args .set) (some-set (asked-of (two-pass two))) (small s) (now (s .args .objects)) (s .args .n .objects)
-            (second-some (pass-parts (two-pass two))) (to-second (two-pass two) k marks) (first-some two) refl (to-first (call .before .before)) (few s) (shape .before .if6 .left) (call .back2 .ensures .1 k traced (first-marks two k marks)) (last .back3 .ensures .0) (λ q. last .before .before .if7 .taken (binds shape ∙ q)) (last .back3 .ensures .1 k traced (part-marks s k marks)),
+            (second-some (pass-parts (two-pass two))) (to-second (two-pass two) k marks) (first-some two) refl (to-first (call .before .before .before)) (few s) (shape .before .if6 .left) (call .back2 .ensures .1 k traced (first-marks two k marks)) (last .back3 .ensures .0) (λ q. last .before .before .before .if7 .taken (binds shape ∙ q)) (last .back3 .ensures .1 k traced (part-marks s k marks)),
       )
 
   back-over-requires : back-lts.Need-over-requires (back-calls t) (back-at t) back.Post
   back-over-requires c κs =
-      let shape = c .before .before in
+      let shape = c .before .before .before in
       let call = shape3-first shape in
       let two = first-two call in
       let s = two-start two in
-      let parts = over-able (able s) (second-some (pass-parts (two-pass two))) (first-some two) (sym (binds shape) ∙ c .before .if7 .left) in
+      let parts = over-able (able s) (second-some (pass-parts (two-pass two))) (first-some two) (sym (binds shape) ∙ c .before .before .if7 .left) in
       let walkable : OverWalkable (site s) (now (s .args .spans)) (s .args .at .1) (s .args .at .2) = record { schema = s .pre .1 .0 .schema; vars = s .pre .1 .0 .vars; able = parts; self = s .pre .1 .0 .self } in
-      (omega (arith, s .pre .0), (walkable, s .pre .1 .1, second-set (two-pass two), call .back2 .ensures .0 .long ∙ s .pre .1 .3))
+      (omega (arith, s .pre .0), (walkable, s .pre .1 .1, second-set (two-pass two), room-kept (call .back2 .ensures .0 .long) (s .pre .1 .3)))
 
   back-same-length-7 : back-lts.Need-same-length-7 (back-calls t) (back-at t) back.Post
   back-same-length-7 c = search needs
@@ -449,14 +451,14 @@ module _ (t : ℕ) where
   back-returns-8 : back-lts.Need-returns-8 (back-calls t) (back-at t) back.Post
   back-returns-8 c =
       let last = c .before .before in
-      let shape = last .before .before .before in
+      let shape = last .before .before .before .before in
       let call = shape3-first shape in
       let two = first-two call in
       let s = two-start two in (
         below-then (call .back2 .ensures .0) (last .over .ensures .0),
         λ k traced marks.
             over-covers (able s) k (s .args .set) (some-set (asked-of (two-pass two))) (small s) (now (s .args .objects)) (s .args .n .objects)
-            (second-some (pass-parts (two-pass two))) (to-second (two-pass two) k marks) (first-some two) refl (to-first (call .before .before)) (few s) (shape .before .if6 .left) (call .back2 .ensures .1 k traced (first-marks two k marks)) (last .over .ensures .0) (sym (binds shape) ∙ last .before .before .if7 .left) (last .over .ensures .1 k traced marks),
+            (second-some (pass-parts (two-pass two))) (to-second (two-pass two) k marks) (first-some two) refl (to-first (call .before .before .before)) (few s) (shape .before .if6 .left) (call .back2 .ensures .1 k traced (first-marks two k marks)) (last .over .ensures .0) (sym (binds shape) ∙ last .before .before .before .if7 .left) (last .over .ensures .1 k traced marks),
       )
 
   -- ---- places of `over`
@@ -474,7 +476,7 @@ module _ (t : ℕ) where
   emptied-begin c = let known = c .before .before .before in known .before .before .before .before .before .before
 
   abbrev inner-emptied : Inner → Emptied
-  inner-emptied c = c .before .before .before .before
+  inner-emptied c = c .before .before .before .before .before
 
   abbrev inner-begin : Inner → Begin
   inner-begin c = emptied-begin (inner-emptied c)
@@ -491,27 +493,32 @@ module _ (t : ℕ) where
   orow : (s : Begin) → s .args .at .1 - 1 < 64
   orow s = let h = oable s .positive in omega (arith, oable s .few)
 
+  -- the sets before the new variable's are as they were
+  emptied-below : (c : Inner) → let s = inner-begin c in let marks = now (s .args .marks) in
+      GrownBelow (s .args .at .2) (setsOf marks (now (s .args .sets))) (setsOf marks (inner-emptied c .clear .last .1 .1 .0))
+  emptied-below c = cleared-below (inner-emptied c .clear .ensures (now (inner-begin c .args .marks)))
+
   -- ---- the needs of `over`, in the order of the code
 
   over-sub-row : over-lts.Need-sub-row (over-calls t) (over-at t) over.Post
   over-sub-row c = oable (c .before .before .before .before .before .before .before) .positive
 
   over-clear-requires : over-lts.Need-clear-requires (over-calls t) (over-at t) over.Post
-  over-clear-requires c κs = let s = c .before .before .before .before .before .before .before .before in (oable s .deep, ofew s, s .pre .1 .3)
+  over-clear-requires c κs = let s = c .before .before .before .before .before .before .before .before in (s .pre .1 .0 .self, oable s .deep, ofew s, s .pre .1 .3 .inner)
 
-  over-add-t23 : over-lts.Need-add-t23 (over-calls t) (over-at t) over.Post
-  over-add-t23 c = let h = oable (emptied-begin (c .before .before)) .deep in omega arith
+  over-add-t24 : over-lts.Need-add-t24 (over-calls t) (over-at t) over.Post
+  over-add-t24 c = let h = oable (emptied-begin (c .before .before)) .deep in omega arith
 
   over-back-requires : over-lts.Need-back-requires (over-calls t) (over-at t) over.Post
   over-back-requires c κs =
-      let at = c .before .before .before in
+      let at = c .before .before .before .before in
       let s = emptied-begin at in
       let vars = s .pre .1 .0 .vars in
       let row = getD vars 0 0 in
       let h = oable s .positive in
       let part = oable s .inner row (set vars (s .args .at .2) row) refl (oable s .first .there 0 (s .pre .1 .0 .self)) in
       let walkable : Walkable (osite s) (now (s .args .spans)) (s .args .at .1 - 1) (s .args .at .2 + 1) = record { schema = s .pre .1 .0 .schema; vars = set vars (s .args .at .2) row; able = part; self = omega arith } in
-      (omega (arith, s .pre .0), (walkable, s .pre .1 .1, omega (arith, s .pre .1 .2), at .clear .ensures .long ∙ s .pre .1 .3))
+      (omega (arith, s .pre .0), (walkable, s .pre .1 .1, omega (arith, s .pre .1 .2), room-kept (at .clear .ensures (now (s .args .marks)) .long) (s .pre .1 .3)))
 
   over-same-length : over-lts.Need-same-length (over-calls t) (over-at t) over.Post
   over-same-length c = search needs
@@ -519,22 +526,22 @@ module _ (t : ℕ) where
   over-returns : over-lts.Need-returns (over-calls t) (over-at t) over.Post
   over-returns c =
       let call = c .before .before .before in
-      (below-then (cleared-below (inner-emptied call .clear .ensures)) (below-less (call .back .ensures .0)), λ k traced marks. covered-all)
+      (below-then (emptied-below call) (below-less (call .back .ensures .0)), λ k traced marks. covered-all)
 
   over-cast-from : over-lts.Need-cast-from (over-calls t) (over-at t) over.Post
   over-cast-from c = let h = orow (inner-begin (c .before .before .before)) in omega arith
 
-  over-mul-t27 : over-lts.Need-mul-t27 (over-calls t) (over-at t) over.Post
-  over-mul-t27 c = let h = orow (inner-begin (c .before .before .before)) in omega arith
+  over-mul-t29 : over-lts.Need-mul-t29 (over-calls t) (over-at t) over.Post
+  over-mul-t29 c = let h = orow (inner-begin (c .before .before .before)) in omega arith
 
-  over-element-copy-out-t23 : over-lts.Need-element-copy-out-t23 (over-calls t) (over-at t) over.Post
-  over-element-copy-out-t23 c = let h = orow (inner-begin (c .before .before .before)) in omega arith
+  over-element-copy-out-t24 : over-lts.Need-element-copy-out-t24 (over-calls t) (over-at t) over.Post
+  over-element-copy-out-t24 c = let h = orow (inner-begin (c .before .before .before)) in omega arith
 
   over-image-requires : over-lts.Need-image-requires (over-calls t) (over-at t) over.Post
   over-image-requires c κs =
-      let call = c .before .before .before .before .before in
+      let call = c .before .before .before .before .before .before in
       let s = inner-begin call in
-      ((now (s .args .types), s .pre .1 .0 .vars, oable s .first), oable s .deep, call .back .ensures .0 .long ∙ inner-emptied call .clear .ensures .long ∙ s .pre .1 .3)
+      ((now (s .args .types), s .pre .1 .0 .vars, oable s .first), oable s .deep, room-kept (call .back .ensures .0 .long) (room-kept (emptied-below call .long) (s .pre .1 .3)))
 
   over-same-length-2 : over-lts.Need-same-length-2 (over-calls t) (over-at t) over.Post
   over-same-length-2 c = search needs
@@ -542,12 +549,12 @@ module _ (t : ℕ) where
   over-returns-2 : over-lts.Need-returns-2 (over-calls t) (over-at t) over.Post
   over-returns-2 c =
       let led = c .before .before in
-      let left = led .before .before .before in
+      let left = led .before .before .before .before in
       let call = left .before .before .before in
       let s = inner-begin call in
       let depth = s .args .at .2 in
       let grown = grown-below depth (led .image .ensures .0) in (
-        below-then (cleared-below (inner-emptied call .clear .ensures)) (below-then (below-less (call .back .ensures .0)) grown),
+        below-then (emptied-below call) (below-then (below-less (call .back .ensures .0)) grown),
         λ k traced marks.
             let inner = call .back .ensures .1 k traced (rows-less (omega arith) marks) in
             covered-then (ofew s) (left .if1 .left) (covered-less inner) grown
@@ -565,5 +572,5 @@ pub +back+over-spec : {M : Type 1} → statement M
     (back-same-length-5 t) (back-returns-6 t) (back-shape-requires-3 t) (back-back-requires-3 t) (back-same-length-6 t) (back-returns-7 t)
     (back-over-requires t) (back-same-length-7 t) (back-returns-8 t))
     (λ t. over-lts.spec (over-calls t) (over-at t) over.Post
-    (over-sub-row t) (over-clear-requires t) (over-add-t23 t) (over-back-requires t) (over-same-length t) (over-returns t) (over-cast-from t)
-    (over-mul-t27 t) (over-element-copy-out-t23 t) (over-image-requires t) (over-same-length-2 t) (over-returns-2 t))
+    (over-sub-row t) (over-clear-requires t) (over-add-t24 t) (over-back-requires t) (over-same-length t) (over-returns t) (over-cast-from t)
+    (over-mul-t29 t) (over-element-copy-out-t24 t) (over-image-requires t) (over-same-length-2 t) (over-returns-2 t))

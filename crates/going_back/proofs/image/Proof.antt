@@ -9,6 +9,7 @@ use Rattle.meaning.specs.Forms.{collection, Form, role}
 use Rattle.tables.specs.Bodies.{BodyRow, asCollection, ending}
 use Rattle.body_rows.specs.Marks.{bodyOf}
 use Rattle.going_back.specs.Back.{baseOf, turned}
+use Rattle.row_sets.specs.Sets.{setsOf}
 use Rattle.row_sets.proofs.Growth.{grown-none}
 use Rattle.going_back.proofs.Images.{role-bound, all-covered, role-covered}
 use Rattle.going_back.proofs.image.Statement.{statement}
@@ -32,19 +33,19 @@ field-requires : tie.Need-field-requires
 field-requires c κs = tt
 
 has-some-requires : tie.Need-has-some-requires
-has-some-requires c κs = let pre = begin (c .before .before) .pre in (pre .1, pre .0 .2 .indexed .indexable .few, pre .2)
+has-some-requires c κs = let pre = begin (c .before .before .before) .pre in (pre .1, pre .0 .2 .indexed .indexable .few, pre .2)
 
 same-length : tie.Need-same-length
 same-length c = search needs
 
 returns : tie.Need-returns
 returns c =
-    let at = c .before .before .before in
+    let at = c .before .before .before .before in
     let s = begin at in
-    let base = at .before .base-row .ensures .when-all (sym (at .field .ensures) ∙ c .before .before .if1 .taken) in (
+    let base = at .before .base-row .ensures .when-all (sym (at .field .ensures) ∙ c .before .before .before .if1 .taken) in (
       grown-none _,
       λ k end set inside.
-          all-covered (s .args .n .objects) (now (s .args .objects)) (s .args .n .links) (now (s .args .links)) (s .pre .0 .2 .steady) k end (form s) set (s .args .of .2) (now (s .args .sets)) inside base _
+          all-covered (s .args .n .objects) (now (s .args .objects)) (s .args .n .links) (now (s .args .links)) (s .pre .0 .2 .steady) k end (form s) set (s .args .of .2) (setsOf (now (s .args .marks)) (now (s .args .sets))) inside base _
           (c .has-some .ensures),
     )
 
@@ -66,7 +67,7 @@ turned-requires c κs = subst (λ k. k < 64) (sym (c .field3 .ensures)) (bound (
 
 put-back-requires : tie.Need-put-back-requires
 put-back-requires c κs =
-    let turn = c .before in
+    let turn = c .before .before in
     let v = turn .before .before in
     let s = begin (v .before .before) in
     let ready = s .pre .0 .2 in
@@ -79,13 +80,13 @@ same-length-2 c = search needs
 returns-2 : tie.Need-returns-2
 returns-2 c =
     let put = c .before .before in
-    let turn = put .before .before in
+    let turn = put .before .before .before in
     let r = turn .before in
     let v = r .before in
     let s = begin (v .before .before) in (
       put .put-back .ensures .0,
       λ k end set inside.
-          role-covered (s .args .n .objects) (now (s .args .objects)) (s .args .n .links) (now (s .args .links)) (s .pre .0 .2 .steady) k end (form s) set (s .args .of .2) (now (s .args .sets)) inside (role-is (v .before)) (v .field2 .ensures) (turn .turned .ensures .0 ∙ ap turned (r .field3 .ensures)) _
+          role-covered (s .args .n .objects) (now (s .args .objects)) (s .args .n .links) (now (s .args .links)) (s .pre .0 .2 .steady) k end (form s) set (s .args .of .2) (setsOf (now (s .args .marks)) (now (s .args .sets))) inside (role-is (v .before)) (v .field2 .ensures) (turn .turned .ensures .0 ∙ ap turned (r .field3 .ensures)) _
           (put .put-back .ensures .1),
     )
 

@@ -33,7 +33,7 @@ returns-2 c =
     (grown-none _, λ k traced. leaf-num k (a .x) (a .y) (a .set) (s .pre .2) (s .pre .3) _ _ _ _ (c .if2 .taken))
 
 put-answers-requires : tie.Need-put-answers-requires
-put-answers-requires c κs = let e = c .before .before in let s = other e in (s .pre .1, omega arith, bound e, s .pre .4)
+put-answers-requires c κs = let e = c .before .before .before in let s = other e in (s .pre .1, omega arith, bound e, s .pre .4)
 
 same-length : tie.Need-same-length
 same-length c = search needs
@@ -41,12 +41,12 @@ same-length c = search needs
 returns-3 : tie.Need-returns-3
 returns-3 c =
     let put = c .before .before in
-    let s = other (put .before .before .before) in
+    let s = other (put .before .before .before .before) in
     let a = s .args in
-    (put .put-answers .ensures .0, λ k traced. leaf-cell k (a .x) (a .y) (a .set) (s .pre .2) (s .pre .3) _ _ _ _ (put .before .before .if3 .taken) (put .put-answers .ensures .1 k traced))
+    (put .put-answers .ensures .0, λ k traced. leaf-cell k (a .x) (a .y) (a .set) (s .pre .2) (s .pre .3) _ _ _ _ (put .before .before .before .if3 .taken) (put .put-answers .ensures .1 k traced))
 
 put-moved-requires : tie.Need-put-moved-requires
-put-moved-requires c κs = let e = c .before .before .before in let s = other e in (s .pre .1, omega arith, omega arith, bound e, s .pre .4)
+put-moved-requires c κs = let e = c .before .before .before .before in let s = other e in (s .pre .1, omega arith, omega arith, bound e, s .pre .4)
 
 same-length-2 : tie.Need-same-length-2
 same-length-2 c = search needs
@@ -54,12 +54,12 @@ same-length-2 c = search needs
 returns-4 : tie.Need-returns-4
 returns-4 c =
     let put = c .before .before in
-    let s = other (put .before .before .before .before) in
+    let s = other (put .before .before .before .before .before) in
     let a = s .args in
-    (put .put-moved .ensures .0, λ k traced. leaf-role k (a .x) (a .y) (a .set) (s .pre .2) (s .pre .3) _ _ _ _ (put .before .before .if4 .taken) (put .put-moved .ensures .1 k traced))
+    (put .put-moved .ensures .0, λ k traced. leaf-role k (a .x) (a .y) (a .set) (s .pre .2) (s .pre .3) _ _ _ _ (put .before .before .before .if4 .taken) (put .put-moved .ensures .1 k traced))
 
 put-moved-requires-2 : tie.Need-put-moved-requires-2
-put-moved-requires-2 c κs = let e = c .before .before .before in let s = other e in (s .pre .1, omega arith, omega arith, bound e, s .pre .4)
+put-moved-requires-2 c κs = let e = c .before .before .before .before in let s = other e in (s .pre .1, omega arith, omega arith, bound e, s .pre .4)
 
 same-length-3 : tie.Need-same-length-3
 same-length-3 c = search needs
@@ -67,7 +67,7 @@ same-length-3 c = search needs
 returns-5 : tie.Need-returns-5
 returns-5 c =
     let put = c .before .before in
-    let last = put .before .before in
+    let last = put .before .before .before in
     let e = last .before .before in
     let s = other e in
     let a = s .args in

@@ -1,14 +1,10 @@
 -- `row_sets::put_answer` meets its contract.
-use Prim.Native.Nat.{_+_, _*_, _<_}
 use mathlib.Core.Path.{sym, ap, subst, _∙_}
-use mathlib.Core.Bool.{true, false}
 use native.Mathlib.Omega.{arith}
 use lib.Dec.{T}
-use lib.ListN.{length, getD, set}
-use lib.Seq.{getD-set-same}
-use denote.Ref.{now}
 use borrow.Author.Tests.{not-true}
-use Rattle.row_sets.proofs.Growth.{grown-none, grown-one}
+use Rattle.row_sets.specs.Sets.{setsOf, inSet}
+use Rattle.row_sets.proofs.Growth.{grown-none}
 use borrow.Author.Needs.{needs}
 use Rattle.row_sets.proofs.put_answer.Statement.{statement}
 use Rattle.row_sets.proofs.put_answer.Tie as tie
@@ -35,32 +31,23 @@ returns-2 : tie.Need-returns-2
 returns-2 c =
     (grown-none _, λ low yes. absurd (subst T (sym yes ∙ sym (c .before .answered .ensures) ∙ not-true (c .before .answered .result) (c .if2 .taken)) tt))
 
-mul-mark : tie.Need-mul-mark
-mul-mark c = search needs
-
-add-mark : tie.Need-add-mark
-add-mark c = search needs
-
-cast-mark : tie.Need-cast-mark
-cast-mark c = search needs
-
-slice-write-sets : tie.Need-slice-write-sets
-slice-write-sets c = search needs
+put-requires : tie.Need-put-requires
+put-requires c κs =
+    let some = c .before .before .before .before in
+    let low = some .if1 .left in
+    let s = some .before .before .before .before .before .before .before in
+    (s .pre .2, omega (arith, s .pre .3), s .pre .4)
 
 same-length : tie.Need-same-length
 same-length c = search needs
 
 returns-3 : tie.Need-returns-3
 returns-3 c =
-    let look = c .before .before .before .before in
-    let s = look .before .before .before .before .before in
-    let a = s .args in
-    let row = look .wide .result in
+    let call = c .before .before in
+    let look = call .before .before .before .before .before .before .before in
     let is = look .wide .ensures in
-    let low = c .before .before .if1 .left in
-    let mark = a .v * 1024 + row in
-    let within : mark < length (now (a .sets)) = omega (arith, s .pre) in
-    (grown-one (now (a .sets)) mark within, λ below yes. ap (λ r. getD (set (now (a .sets)) mark true) (a .v * 1024 + r) false) (sym is) ∙ getD-set-same (now (a .sets)) mark true false within)
+    let a = look .before .before .before .before .before .args in
+    (call .put .ensures .0, λ below yes. ap (inSet (setsOf (call .put .last .1 .1 .0) (call .put .last .1 .1 .1 .0)) (a .v)) (sym is) ∙ call .put .ensures .1)
 
 pub put-answer-spec : {M : Type 1} → statement M
 put-answer-spec =
@@ -72,9 +59,6 @@ put-answer-spec =
     returns
     answered-requires
     returns-2
-    mul-mark
-    add-mark
-    cast-mark
-    slice-write-sets
+    put-requires
     same-length
     returns-3)

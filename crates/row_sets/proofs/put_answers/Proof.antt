@@ -7,7 +7,7 @@ use Rattle.walks.specs.Site.{idIn}
 use Rattle.trace_places.specs.Questions.{named, takenFrom, asked, questionOf}
 use Rattle.questions.proofs.Losses.{not-taken}
 use Rattle.row_sets.proofs.Tests.{one-true}
-use Rattle.row_sets.proofs.Growth.{grown-then}
+use Rattle.row_sets.proofs.Growth.{room-kept, grown-then}
 use borrow.Author.Needs.{needs}
 use Rattle.row_sets.proofs.put_answers.Statement.{statement}
 use Rattle.row_sets.proofs.put_answers.Tie as tie
@@ -16,7 +16,10 @@ put-named-requires : tie.Need-put-named-requires
 put-named-requires c κs = search needs
 
 put-lost-requires : tie.Need-put-lost-requires
-put-lost-requires c κs = search needs
+put-lost-requires c κs =
+    let by-name = c .before .before .before .before .before in
+    let s = by-name .before .before .before .before .before .before .before .before in
+    (s .pre .0, s .pre .2, room-kept (by-name .put-named .ensures .0 .long) (s .pre .3))
 
 same-length : tie.Need-same-length
 same-length c = search needs
@@ -25,14 +28,14 @@ returns : tie.Need-returns
 unfolding asked
 returns c =
     let lost = c .before .before in
-    let test = lost .before .before in
+    let test = lost .before .before .before in
     let by-name = test .before .before .before in
-    let a = by-name .before .before .before .before .before .before .before .args in (
+    let a = by-name .before .before .before .before .before .before .before .before .args in (
       grown-then (by-name .put-named .ensures .0) (lost .put-lost .ensures .0),
       λ k traced row h t.
           let u = idIn (now (a .objects)) row in
           let q = questionOf (a .question) (a .x) in
-          ⊎-elim (λ e. lost .put-lost .ensures .0 .kept _ (by-name .put-named .ensures .1 k traced row h e))
+          ⊎-elim (λ e. lost .put-lost .ensures .0 .kept _ _ (by-name .put-named .ensures .1 k traced row h e))
           (λ e. lost .put-lost .ensures .1 k traced row h (ap (λ code. takenFrom k (questionOf code (a .x)) u) (sym (test .if1 .taken)) ∙ e))
           (one-true (named k q u) (takenFrom k q u) t),
     )
@@ -44,7 +47,7 @@ returns-2 : tie.Need-returns-2
 unfolding asked
 returns-2 c =
     let by-name = c .before .before .before in
-    let a = by-name .before .before .before .before .before .before .before .args in (
+    let a = by-name .before .before .before .before .before .before .before .before .args in (
       by-name .put-named .ensures .0,
       λ k traced row h t.
           let u = idIn (now (a .objects)) row in

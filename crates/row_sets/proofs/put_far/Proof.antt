@@ -12,24 +12,21 @@ use Rattle.meaning.specs.Register.{farEnds}
 use Rattle.tables.specs.declared.Counts.{Counts}
 use Rattle.walks.specs.Site.{Site, siteOf, registerAt, idIn}
 use Rattle.walks.proofs.Steps.{fewer-left}
-use Rattle.row_sets.specs.Sets.{Grown}
-use Rattle.row_sets.proofs.Growth.{grown-none, grown-then}
+use Rattle.row_sets.specs.Sets.{setsOf, inSet, Grown}
+use Rattle.row_sets.proofs.Growth.{room-kept, grown-none, grown-then}
 use Rattle.row_sets.proofs.Fars.{left, FarWalk, far-starts, far-low, far-ends, went, far-goes-on}
 use Rattle.row_sets.proofs.put_far.Statement.{statement}
 use Rattle.row_sets.proofs.put_far.Tie as tie
 
--- what the walk looks at, and which rows are marked
+-- what the walk looks at
 abbrev walked : Counts → List ℕ → List ℕ → List ℕ → Site
 walked n objects links index = siteOf n [] objects links index [] 0
 
-abbrev marked : List Bool → ℕ → ℕ → Bool
-marked sets v y = getD sets (v * 1024 + y) false
-
 abbrev Inv-loop : tie.InvT-loop
-Inv-loop n objects links index role row v sets₀ word₀ sets word = (Grown sets₀ sets) × (FarWalk (walked n objects links index) role row (marked sets v) word)
+Inv-loop n objects links index role row v marks₀ sets₀ word₀ marks sets word = (Grown (setsOf marks₀ sets₀) (setsOf marks sets)) × (FarWalk (walked n objects links index) role row (inSet (setsOf marks sets) v) word)
 
 abbrev μ-loop : tie.MeasureT-loop
-μ-loop n objects links index role row v sets₀ word₀ sets word = length (left (walked n objects links index) role row word)
+μ-loop n objects links index role row v marks₀ sets₀ word₀ marks sets word = length (left (walked n objects links index) role row word)
 
 abbrev Start : Type 0
 Start = tie.Start Inv-loop μ-loop
@@ -64,7 +61,7 @@ first-slot-requires c κs = let s = c .before .before .before in (s .pre .2, ome
 loop-holds : tie.Need-loop-holds Inv-loop μ-loop
 loop-holds c =
     let s = c .before .before .before .before in
-    (grown-none _, far-starts (site s) (s .pre .0) (s .args .role) (s .args .row) (s .pre .3) (up s) (marked (now (s .args .sets)) (s .args .v)) (c .first-slot .ensures))
+    (grown-none _, far-starts (site s) (s .pre .0) (s .args .role) (s .args .row) (s .pre .3) (up s) (inSet (setsOf (now (s .args .marks)) (now (s .args .sets))) (s .args .v)) (c .first-slot .ensures))
 
 sub-slot : tie.Need-sub-slot Inv-loop μ-loop
 sub-slot c = let h = c .loop-test .taken in omega arith
@@ -74,16 +71,16 @@ far-row-requires c κs = slot-low c
 
 mark-requires : tie.Need-mark-requires Inv-loop μ-loop
 mark-requires c κs =
-    let at-loop = c .before .before .before in
+    let at-loop = c .before .before .before .before in
     let s = begin at-loop in
-    (s .pre .4, few s, at-loop .loop .inv .0 .long ∙ s .pre .5)
+    (s .pre .4, few s, room-kept (at-loop .loop .inv .0 .long) (s .pre .5))
 
 next-slot-requires : tie.Need-next-slot-requires Inv-loop μ-loop
-next-slot-requires c κs = slot-low (c .before .before .before .before .before)
+next-slot-requires c κs = slot-low (c .before .before .before .before .before .before)
 
 loop-less : tie.Need-loop-less Inv-loop μ-loop
 loop-less c =
-    let turn = c .before .before .before .before .before .before in
+    let turn = c .before .before .before .before .before .before .before in
     let s = begin (turn .before) in
     let slot = turn .before .loop .word - 1 in
     let to = left (site s) (s .args .role) (s .args .row) in
@@ -94,21 +91,21 @@ loop-less c =
 loop-again : tie.Need-loop-again Inv-loop μ-loop
 loop-again c =
     let call = c .before .before .before in
-    let turn = call .before .before .before in
+    let turn = call .before .before .before .before in
     let s = begin (turn .before) in
     let slot = turn .before .loop .word - 1 in
     let walk = turn .before .loop .inv .1 in
     let put = call .mark .ensures in
     let step = went (site s) (s .pre .0) (s .args .role) (s .args .row) (s .pre .3) (up s) walk slot (slot-is turn) in
-    let far = call .before .before .far-row .ensures in (
+    let far = call .before .before .before .far-row .ensures in (
       grown-then (turn .before .loop .inv .0) (put .0),
       far-goes-on (site s) (s .pre .0) (s .args .role) (s .args .row) (s .pre .3) (up s) walk slot (slot-is turn) _ far (c .next-slot .ensures)
-          (λ y e. put .0 .kept (s .args .v * 1024 + y) e)
+          (λ y e. put .0 .kept (s .args .v) y e)
           (put .1 (subst (λ k. k < s .args .n .objects) (sym far) (step .there))),
     )
 
 same-length : tie.Need-same-length Inv-loop μ-loop
-same-length c = c .before .loop .inv .0 .long
+same-length c = c .before .loop .inv .0 .long .inner
 
 returns : tie.Need-returns Inv-loop μ-loop
 returns c =

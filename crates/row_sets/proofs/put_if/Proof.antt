@@ -20,7 +20,7 @@ same-length c = search needs
 
 returns-2 : tie.Need-returns-2
 returns-2 c =
-    let s = c .before .before .before .before .before .before .before .before .before .before in
+    let s = c .before .before .before .before .before .before .before .before .before .before .before in
     let put = c .before .before .put-answers .ensures in
     (put .0, λ k traced row h e. put .1 k traced row h (both-true (s .args .wanted) _ e .1))
 

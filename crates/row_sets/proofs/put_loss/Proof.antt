@@ -1,8 +1,8 @@
 -- `row_sets::put_loss` meets its contract.
-use Prim.Native.Nat.{_+_, _*_, _<_}
+use Prim.Native.Nat.{_<_}
 use mathlib.Core.Path.{_≡_, sym, subst, _∙_}
-use mathlib.Core.Bool.{true, false}
-use lib.ListN.{getD}
+use mathlib.Core.Bool.{true}
+use Rattle.row_sets.specs.Sets.{setsOf, inSet}
 use Rattle.row_sets.proofs.Growth.{grown-none}
 use borrow.Author.Needs.{needs}
 use Rattle.row_sets.proofs.put_loss.Statement.{statement}
@@ -50,11 +50,11 @@ same-length c = search needs
 returns-2 : tie.Need-returns-2
 returns-2 c =
     let marked = c .before .before in
-    let read = marked .before .before in
+    let read = marked .before .before .before in
     let a = read .before .before .before .before .before .before .args in (
       marked .mark .ensures .0,
       λ low is.
-          subst (λ r. getD (marked .mark .last .1 .1 .1 .0) (a .v * 1024 + r) false ≡ true) (read .wide2 .ensures)
+          subst (λ r. inSet (setsOf (marked .mark .last .1 .1 .1 .0) (marked .mark .last .1 .1 .1 .1 .0)) (a .v) r ≡ true) (read .wide2 .ensures)
           (marked .mark .ensures .1 (subst (λ r. r < a .n .objects) (sym (read .wide2 .ensures)) low)),
     )
 

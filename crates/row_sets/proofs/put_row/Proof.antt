@@ -7,26 +7,20 @@ use borrow.Author.Needs.{needs}
 use Rattle.row_sets.proofs.put_row.Statement.{statement}
 use Rattle.row_sets.proofs.put_row.Tie as tie
 
-mul-at : tie.Need-mul-at
-mul-at c = search needs
+in-set-requires : tie.Need-in-set-requires
+in-set-requires c κs = search needs
 
-add-at : tie.Need-add-at
-add-at c = search needs
-
-cast-at : tie.Need-cast-at
-cast-at c = search needs
-
-slice-read-if1 : tie.Need-slice-read-if1
-slice-read-if1 c = search needs
+same-length : tie.Need-same-length
+same-length c = search needs
 
 returns : tie.Need-returns
-returns c = (grown-none _, λ e. absurd (subst T (sym e ∙ not-true _ (c .if1 .taken)) tt))
+returns c = (grown-none _, λ e. absurd (subst T (sym e ∙ sym (c .before .in-set .ensures) ∙ not-true (c .before .in-set .result) (c .if1 .taken)) tt))
 
 put-far-requires : tie.Need-put-far-requires
 put-far-requires c κs = search needs
 
-same-length : tie.Need-same-length
-same-length c = search needs
+same-length-2 : tie.Need-same-length-2
+same-length-2 c = search needs
 
 returns-2 : tie.Need-returns-2
 returns-2 c = (c .before .before .put-far .ensures .0, λ e. c .before .before .put-far .ensures .1)
@@ -34,4 +28,4 @@ returns-2 c = (c .before .before .put-far .ensures .0, λ e. c .before .before .
 pub put-row-spec : {M : Type 1} → statement M
 put-row-spec =
     tie.close
-    (tie.spec mul-at add-at cast-at slice-read-if1 returns put-far-requires same-length returns-2)
+    (tie.spec in-set-requires same-length returns put-far-requires same-length-2 returns-2)
