@@ -3,6 +3,7 @@ use directions::DOWN;
 use going_back::back;
 use ocl::Place;
 use quietness::quiet::Still;
+use row_sets::SELF;
 use row_sets::put_if;
 use tables::Counts;
 ghost use mathlib.Core.Path.{_≡_};
@@ -52,7 +53,7 @@ fn put_brought(
         trace,
         questions::INSERTED,
         context,
-        0,
+        SELF,
         marks,
         sets,
     );
@@ -66,7 +67,7 @@ fn put_brought(
         trace,
         questions::SPECIALISED,
         context,
-        0,
+        SELF,
         marks,
         sets,
     );

@@ -1,5 +1,5 @@
 // Sets of rows, one for each variable: self's, variable 0, is an array of marks; those of the variables within stand in one slice, at 1,024 times the
-// variable's number. `put` and `in_set` alone know it.
+// variable's number. `put`, `in_set` and `clear` alone know it.
 use directions::DOWN;
 use directions::UP;
 use tables::Counts;
@@ -20,12 +20,16 @@ ghost use Rattle.trace_places.specs.Questions.{named, asked, questionOf};
 ghost use Rattle.trace_places.specs.Traces.{placeAnswers, rowLost, lossRole, Traced, Traces};
 ghost use Rattle.row_sets.specs.Sets.{setsOf, inSet, Room, Grown, Cleared};
 
+// The number of self among a rule's variables.
+pub const SELF: u32 = 0;
+
 // Puts a row into a variable's set.
 fn put(v: u32, row: u32, marks: &mut [bool; 1024], sets: &mut [bool])
     requires { ⌜ (v < 64) × (row < 1024) × (Room (setsOf (now marks) (now sets))) ⌝ }
-    ensures { λ _. ⌜ (Grown (setsOf (now (marks .entry)) (now (sets .entry))) (setsOf (now (marks .exit)) (now (sets .exit)))) × (inSet (setsOf (now (marks .exit)) (now (sets .exit))) v row ≡ true) ⌝ }
+    ensures { λ _. ⌜ (Grown (setsOf (now (marks .entry)) (now (sets .entry))) (setsOf (now (marks .exit)) (now (sets .exit))))
+        × (inSet (setsOf (now (marks .exit)) (now (sets .exit))) v row ≡ true) ⌝ }
 {
-    if v == 0 {
+    if v == SELF {
         let own = row as usize;
         marks[own] = true;
         return;
@@ -39,7 +43,7 @@ fn in_set(v: u32, row: u32, marks: &[bool; 1024], sets: &[bool]) -> bool
     requires { ⌜ (v < 64) × (row < 1024) × (Room (setsOf (now marks) (now sets))) ⌝ }
     ensures { λ r. ⌜ r ≡ inSet (setsOf (now (marks .entry)) (now (sets .entry))) v row ⌝ }
 {
-    if v == 0 {
+    if v == SELF {
         let own = row as usize;
         return marks[own];
     }
@@ -50,7 +54,8 @@ fn in_set(v: u32, row: u32, marks: &[bool; 1024], sets: &[bool]) -> bool
 // Puts an object's row into a variable's set. What is past the objects is no row of one.
 fn mark(n: Counts, v: u32, row: u32, marks: &mut [bool; 1024], sets: &mut [bool])
     requires { ⌜ (v < 64) × (n .objects ≤ 1024) × (Room (setsOf (now marks) (now sets))) ⌝ }
-    ensures { λ _. ⌜ (Grown (setsOf (now (marks .entry)) (now (sets .entry))) (setsOf (now (marks .exit)) (now (sets .exit)))) × (row < n .objects → inSet (setsOf (now (marks .exit)) (now (sets .exit))) v row ≡ true) ⌝ }
+    ensures { λ _. ⌜ (Grown (setsOf (now (marks .entry)) (now (sets .entry))) (setsOf (now (marks .exit)) (now (sets .exit))))
+        × (row < n .objects → inSet (setsOf (now (marks .exit)) (now (sets .exit))) v row ≡ true) ⌝ }
 {
     if n.objects <= row {
         return;

@@ -18,7 +18,7 @@ put-candidates-requires c κs =
 mark-all-requires : tie.Need-mark-all-requires
 mark-all-requires c κs =
     let put = c .before .before .before in
-    (begin put .pre .2 .1 .objects-few, put .put-candidates .ensures .0 .long .self ∙ refl)
+    (begin put .pre .2 .1 .objects-few, put .put-candidates .ensures .0 .long .self)
 
 same-length : tie.Need-same-length
 same-length c = search needs
