@@ -1,10 +1,10 @@
 -- The words of the pairs that are written, and of one more.
-use Prim.Native.Nat.{ℕ, suc, _+_, _*_, _≤_, _<_}
+use Prim.Native.Nat.{ℕ, _+_, _*_, _≤_, _<_}
 use mathlib.Core.Path.{_≡_, refl, sym, ap, subst, _∙_}
 use mathlib.Core.List.{List, [], _∷_, _++_, append-assoc, append-nil, flatMap}
 use native.Mathlib.Omega.{arith}
 use lib.ListN.{length, take, drop, length-append}
-use Rattle.meaning.specs.Reach.{Pair, pairOf, pairKey}
+use Rattle.meaning.specs.Reach.{Pair, pairKey}
 use Rattle.rows.specs.Rows.{inFront, withRow}
 use Rattle.rows.proofs.Fronts.{row-put, front-more}
 use Rattle.pair_list.specs.Pairs.{pairWords}

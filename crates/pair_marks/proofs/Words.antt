@@ -1,6 +1,6 @@
 -- What a word says of the rows that it marks, and of the rules; and one mark more.
 use Prim.Native.Nat.{ℕ, zero, suc, _+_, _-_, _*_, _/_, _%_, _≤_, _<_}
-use mathlib.Core.Path.{_≡_, refl, sym, ap, ap₂, subst, _∙_}
+use mathlib.Core.Path.{_≡_, refl, sym, ap, ap₂, _∙_}
 use mathlib.Core.Logic.{⊎-elim}
 use mathlib.Core.Bool.{Bool, true, false, _&&_, _||_, or-false, false≢true}
 use mathlib.Core.List.{List}
@@ -12,7 +12,7 @@ use lib.ListN.{length, getD, set}
 use lib.Seq.{getD-set-same, getD-set-other}
 use mir.Facts.{ltb-yes, ltb-no}
 use Rattle.meaning.specs.Lists.{any}
-use Rattle.meaning.specs.Limits.{maxObjects, maxRules}
+use Rattle.meaning.specs.Limits.{maxObjects}
 use Rattle.meaning.proofs.Lists.{decide}
 use Rattle.rows.specs.Rows.{rowsFrom}
 use Rattle.bits.specs.Bits.{bitAt}

@@ -3,7 +3,6 @@ use mathlib.Core.Path.{_≡_, refl, sym, ap, _∙_}
 use mathlib.Core.Bool.{false}
 use mathlib.Core.List.{[], _∷_}
 use native.Mathlib.Omega.{arith}
-use denote.Ref.{now}
 use lib.ListN.{length, length-replicate}
 use Rattle.meaning.specs.Reach.{Change}
 use Rattle.tables.specs.Columns.{floorsOf, schemaOf}
