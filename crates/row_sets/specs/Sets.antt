@@ -24,6 +24,7 @@ pub record Room (s : Sets) : Type 0 where
   pub self : length (s .self) ≡ 1024
   pub inner : length (s .inner) ≡ 65536
 
+-- lists of the same lengths
 pub record SameLengths (before after : Sets) : Type 0 where
   pub self : length (after .self) ≡ length (before .self)
   pub inner : length (after .inner) ≡ length (before .inner)

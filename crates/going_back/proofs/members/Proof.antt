@@ -21,7 +21,7 @@ put-answers-requires : tie.Need-put-answers-requires
 put-answers-requires c κs =
     let at = c .before .before .before .before in
     let s = begin at in
-    (s .pre .1, omega arith, s .pre .3, room-kept (at .clear .ensures (now (s .args .marks)) .long) (s .pre .4))
+    (s .pre .1, omega arith, omega (arith, s .pre .3), room-kept (at .clear .ensures (now (s .args .marks)) .long) (s .pre .4))
 
 image-requires : tie.Need-image-requires
 image-requires c κs =

@@ -1,5 +1,5 @@
 -- `row_sets::has_some` meets its contract. The loop's invariant: no row that was passed is in the set. The measure is what is left of the rows.
-use Prim.Native.Nat.{ℕ, _+_, _-_, _*_, _≤_, _<_}
+use Prim.Native.Nat.{ℕ, _-_, _≤_, _<_}
 use mathlib.Core.Path.{_≡_, refl, sym, _∙_}
 use mathlib.Core.Bool.{true, false}
 use native.Mathlib.Omega.{arith}

@@ -1,7 +1,7 @@
 -- `row_sets::put_back` meets its contract. The loop's invariant: the marks only grow, and what the rows that were passed lead to is marked. The
 -- measure is what is left of the rows.
 use Prim.Native.Nat.{ℕ, _-_, _≤_, _<_}
-use mathlib.Core.Path.{_≡_, _∙_}
+use mathlib.Core.Path.{_≡_}
 use mathlib.Core.Bool.{true}
 use mathlib.Core.List.{List}
 use native.Mathlib.Omega.{arith}

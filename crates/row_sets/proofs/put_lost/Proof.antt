@@ -1,10 +1,9 @@
 -- `row_sets::put_lost` meets its contract. The loop's invariant: the marks only grow, and the row of each loss of the role that was passed is marked. The
 -- measure is what is left of the losses.
-use Prim.Native.Nat.{ℕ, _+_, _-_, _*_, _≤_, _<_}
-use mathlib.Core.Path.{_≡_, _∙_}
-use mathlib.Core.Bool.{true, false}
+use Prim.Native.Nat.{ℕ, _-_, _≤_, _<_}
+use mathlib.Core.Path.{_≡_}
+use mathlib.Core.Bool.{true}
 use native.Mathlib.Omega.{arith}
-use lib.ListN.{getD}
 use borrow.Author.Count.{below-more}
 use borrow.Author.Needs.{needs}
 use Rattle.trace_places.specs.Traces.{rowLost, lossRole, lossCount}
