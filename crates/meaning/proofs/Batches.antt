@@ -2,12 +2,12 @@
 use Prim.Native.Nat.{ℕ, ◌<◌}
 use mathlib.Core.Path.{◌≡◌, sym, subst}
 use mathlib.Core.Logic.{⊎_elim}
-use mathlib.Core.Bool.{Bool, not}
+use mathlib.Core.Bool.{◌&&◌, Bool, not}
 use mathlib.Core.List.{List}
 use mathlib.Core.Option.{none}
 use lib.Dec.{T, eqb}
 use mir.Facts.{and_no, T_not, not_T}
-use Rattle.meaning.specs.Schema.{ObjectType, Relationship, Schema, cells_of, far_type}
+use Rattle.meaning.specs.Schema.{under, ObjectType, Relationship, Schema, cells_of, far_type}
 use Rattle.meaning.specs.Register.{Link, Register, present, is_under, cell_at, instances, has_link, far_end, starts_at, far_ends}
 use Rattle.meaning.specs.Forms.{truth}
 use Rattle.meaning.specs.Events.{Event, Lent, apply, after, event_refusal}
@@ -117,8 +117,8 @@ module _ (S : Schema) (types_fit : TypesFit S.types) (lent : Lent) (g : Register
       let there : ℕ → Bool = λ y. is_under types (after S g es) y t in
       let came = holds_at there x u in
       not_brought_in x t
-      (none_map c _ (brings_in types t there) (λ s i. or_left (inserts_into types t there s) _ (among_whom inserts _ (eqb x) there came s.event i)) n)
-      (none_map c _ (brings_in types t there) (λ s i. or_right (inserts_into types t there s) _ (among_whom specials _ (eqb x) there came s.event i)) n)
+      (none_map c _ (brings_in types t there) (λ s i. or_left (inserts_into types t there s) _ (among_whom inserts (λ x'' x3 x4. under (change_by S g es).schema.types x3 t) (eqb x) there came s.event i)) n)
+      (none_map c _ (brings_in types t there) (λ s i. or_right (inserts_into types t there s) _ (among_whom specials (λ x'' x3 x4. under (change_by S g es).schema.types x3 t && not (is_under (change_by S g es).schema.types s.met x'' t)) (eqb x) there came s.event i)) n)
       u
 
   all_start : (t x : ℕ) → T (not (all_moves c t down)) → T (is_under types g x t) → Kept x t
@@ -126,8 +126,8 @@ module _ (S : Schema) (types_fit : TypesFit S.types) (lent : Lent) (g : Register
   all_start t x n u =
       let went = holds_at anyone x tt in
       not_taken_out x t
-      (none_map c _ (takes_out types t anyone) (λ s i. or_left (deletes_from types t anyone s) _ (among_whom deletes _ (eqb x) anyone went s.event i)) n)
-      (none_map c _ (takes_out types t anyone) (λ s i. or_right (deletes_from types t anyone s) _ (among_whom generals _ (eqb x) anyone went s.event i)) n)
+      (none_map c _ (takes_out types t anyone) (λ s i. or_left (deletes_from types t anyone s) _ (among_whom deletes (λ x'' x3 x4. is_under S.types s.met x'' t) (eqb x) anyone went s.event i)) n)
+      (none_map c _ (takes_out types t anyone) (λ s i. or_right (deletes_from types t anyone s) _ (among_whom generals (λ x'' x3 x4. is_under S.types s.met x'' t && not (under S.types x3 t)) (eqb x) anyone went s.event i)) n)
       u
 
   end_register : RegisterFits S (after S g es)

@@ -93,22 +93,22 @@ module _ (types : List ObjectType) (fits : TypesFit types) where
   unfolding under
   climb_under {t} = climbed t (le_refl t)
 
-  climb_trans : {t u w : ℕ} → Climb types u t → Climb types w u → Climb types w t
+  climb_trans : {u w t : ℕ} → Climb types u t → Climb types w u → Climb types w t
   climb_trans {w = w} (there e) d = subst (Climb types w) (sym e) d
   climb_trans (further e c) d = further e (climb_trans c d)
 
   pub under_trans : (t u w : ℕ) → T (under types t u) → T (under types u w) → T (under types t w)
   under_trans t u w p q = climb_under (climb_trans (under_climb t u p) (under_climb u w q))
 
-  climb_cells : {t u : ℕ} → Climb types u t → cells_of types u ≤ cells_of types t
+  climb_cells : {u t : ℕ} → Climb types u t → cells_of types u ≤ cells_of types t
   climb_cells (there e) = le_of_eq (ap (cells_of types) (sym e))
-  climb_cells {t} (further {p = p} e c) = le_trans (climb_cells c) (fits.parent_cells t p e)
+  climb_cells {t = t} (further {p = p} e c) = le_trans (climb_cells c) (fits.parent_cells t p e)
 
   -- a type has at least the cells of the types above it
   pub under_cells : (t u : ℕ) → T (under types t u) → cells_of types u ≤ cells_of types t
   under_cells t u p = climb_cells (under_climb t u p)
 
-  climb_linear : {w u t : ℕ} → Climb types u w → Climb types t w → Climb types t u ⊎ Climb types u t
+  climb_linear : {u t w : ℕ} → Climb types u w → Climb types t w → Climb types t u ⊎ Climb types u t
   climb_linear {t = t} (there e) d = inl (subst (Climb types t) e d)
   climb_linear {u = u} (further e c) (there q) = inr (subst (Climb types u) q (further e c))
   climb_linear {t = t} (further {p = p} e c) (further {p = q} f d) =

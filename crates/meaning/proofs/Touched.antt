@@ -187,7 +187,7 @@ module _ (c : Change) where
   unfolding cell_moves occurs
   cell_listed u t k h =
       let there : ℕ → Bool = λ x. is_under types c.end x t in
-      some_map c (sets_cell (eqb u) k) (sets_cell there k) (λ s. among_whom sets _ (eqb u) there (holds_at there u h) s.event)
+      some_map c (sets_cell (eqb u) k) (sets_cell there k) (λ s. among_whom sets (λ x' x'' x3. eqb x'' k) (eqb u) there (holds_at there u h) s.event)
 
   -- ---- what moves a form is listed, by what moves its parts
 
@@ -278,7 +278,7 @@ module _ (c : Change) where
     all_listed t up h =
         let there : ℕ → Bool = λ x. is_under types c.end x t in
         occur_either (some_step c (inserts_into types t there)) (some_step c (specialises_into types t there)) (insertOf t ∷ []) (where_parent S t (specialOf t))
-        (λ i. one_listed (insertOf t) (some_anyone inserts _ there i)) (λ i. special_listed t (some_anyone specials _ there i))
+        (λ i. one_listed (insertOf t) (some_anyone inserts (λ x' x'' x3 x4. under types x3 t) there i)) (λ i. special_listed t (some_anyone specials (λ x' x'' x3 x4. under types x3 t && not (is_under types x'.met x'' t)) there i))
         (some_either (inserts_into types t there) (specialises_into types t there) h)
     all_listed t down h =
         occur_either (occurs c (deleteOf t)) (occurs c (generalOf t)) (deleteOf t ∷ []) (where_parent S t (generalOf t))
@@ -287,8 +287,8 @@ module _ (c : Change) where
 
     kind_listed : (u t : ℕ) (d : Direction) → T (kind_moves c u t d) → T (occur (kind_lists S t d))
     unfolding kind_moves specialised kind_lists occurs
-    kind_listed u t up h = special_listed t (some_anyone specials _ (eqb u) (and_yes (specialised c u t) (is_under types c.end u t) h).0)
-    kind_listed u t down h = general_listed t (some_anyone generals _ (eqb u) h)
+    kind_listed u t up h = special_listed t (some_anyone specials (λ x' x'' x3 x4. under c.schema.types x3 t && not (is_under c.schema.types x'.met x'' t)) (eqb u) (and_yes (specialised c u t) (is_under types c.end u t) h).0)
+    kind_listed u t down h = general_listed t (some_anyone generals (λ x' x'' x3 x4. is_under c.schema.types x'.met x'' t && not (under c.schema.types x3 t)) (eqb u) h)
 
     -- a form over a collection: by the collection, or at one of its members
     members_listed : (x : Passing) (k : Form collection) (vs ts : List ℕ) (m : ℕ → Bool) (l : List EventType)
@@ -353,8 +353,8 @@ module _ (c : Change) where
         let into = insertOf t ∷ [] in
         let below = where_parent S t (specialOf t) in
         occur_either (inserted c s t && not (quiet_insert S r)) (specialised c s t && not (quiet_special S r)) (cond (quiet_insert S r) [] into) (cond (quiet_special S r) [] below)
-        (unless_quiet (inserted c s t) (quiet_insert S r) into (λ h. one_listed (insertOf t) (some_anyone inserts _ (eqb s) h)))
-        (unless_quiet (specialised c s t) (quiet_special S r) below (λ h. special_listed t (some_anyone specials _ (eqb s) h)))
+        (unless_quiet (inserted c s t) (quiet_insert S r) into (λ h. one_listed (insertOf t) (some_anyone inserts (λ x' x'' x3 x4. under c.schema.types x3 r.context) (eqb s) h)))
+        (unless_quiet (specialised c s t) (quiet_special S r) below (λ h. special_listed t (some_anyone specials (λ x' x'' x3 x4. under c.schema.types x3 r.context && not (is_under c.schema.types x'.met x'' r.context)) (eqb s) h)))
 
     selecting_touched : (r : Rule) → T (well_typed S (r.context ∷ []) r.body) → (s : ℕ) → T (events_select c r s) → T (touched c r)
     unfolding touched event_list
