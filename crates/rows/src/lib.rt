@@ -1,4 +1,6 @@
 // Rows of 32-bit words: the only place that does row arithmetic.
+#![tactic(auto)]
+
 ghost use Rattle.std.specs.Prelude.{◌≡◌, length, replicate};
 ghost use Rattle.rows.specs.Rows.{word_at, whole_rows, rows_lent, copied, with_row, with_word, without_columns, shifted_up, shifted_down, with_gap, without_row, cleared_past};
 
