@@ -10,7 +10,7 @@ use batch_judge::{Judged, judge};
 use tables::{Answer, Counts, Verdict};
 
 // What a batch check says: its answer, how many pairs it listed, and how many rows of objects and links are used after it.
-#[derive(Drop)]
+#[derive(Clone, Copy)]
 pub struct Checked {
     pub answer: Answer,
     pub pairs: u32,

@@ -13,7 +13,7 @@ use batch_selection::selected_pairs;
 use tables::{Answer, Counts};
 
 // What the listed pairs say, and how many there are.
-#[derive(Drop)]
+#[derive(Clone, Copy)]
 pub struct Judged {
     pub answer: Answer,
     pub pairs: u32,

@@ -52,7 +52,7 @@ pub const SECOND: u32 = 2;
 const FIELDS: u32 = 3;
 
 // A body's rows as they were scanned: where the form that ends before each row starts, and the sort of the last.
-#[derive(Drop)]
+#[derive(Clone, Copy)]
 pub struct Spans {
     pub starts: [u32; 65],
     pub mark: u32,

@@ -11,7 +11,7 @@ use text::{FIRST_OPERATOR, NAME_COUNT};
 use tokens::{Found, token};
 
 // A rule's body: whether it is one, and how many forms it has.
-#[derive(Drop)]
+#[derive(Clone, Copy)]
 pub struct BodyFound {
     pub good: bool,
     pub forms: u32,

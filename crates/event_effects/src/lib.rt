@@ -5,7 +5,7 @@ mod effects;
 pub use effects::{effect, row_effect};
 
 // How many rows are used of the register's tables, and of the losses.
-#[derive(Drop)]
+#[derive(Clone, Copy)]
 pub struct Held {
     pub objects: u32,
     pub links: u32,

@@ -8,7 +8,7 @@ use event_marks::rule_marks;
 use tables::{Counts, Verdict};
 
 // How many event types the list has, or a refusal's number and place.
-#[derive(Drop)]
+#[derive(Clone, Copy)]
 pub enum Listed {
     Types(u32),
     Refused(u32, u32),

@@ -12,7 +12,7 @@ pub use runs::{refused, run};
 use tables::{Found, Verdict};
 
 // The refusal that an event met, if it met one, and the used rows after it.
-#[derive(Drop)]
+#[derive(Clone, Copy)]
 pub struct Stepped {
     pub refused: Found,
     pub held: Held,
@@ -21,7 +21,7 @@ pub struct Stepped {
 // What a run answers: a refusal with its place, and the used rows as they were lent; or the used rows after the batch, for each event the type that its object
 // had when the event came, and the losses of the links that went with deleted objects, two words each. 32 stands for no type, and past the events and after a
 // refusal; past the losses are zeros.
-#[derive(Drop)]
+#[derive(Clone, Copy)]
 pub struct Ran {
     pub verdict: Verdict,
     pub held: Held,

@@ -6,14 +6,14 @@ ghost use Rattle.lexical.specs.Lines.{line_in, line_ended};
 ghost use Rattle.lexical.specs.Writing.{written, place_after};
 
 // A number that was read: its two's complement word, and the place after it.
-#[derive(Drop)]
+#[derive(Clone, Copy)]
 pub enum Number {
     Value { word: u32, next: usize },
     Bad,
 }
 
 // What the digits at a place say, and where they end.
-#[derive(Drop)]
+#[derive(Clone, Copy)]
 struct Digits {
     value: u64,
     end: usize,

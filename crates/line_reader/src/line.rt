@@ -17,14 +17,14 @@ use text::{
 use tokens::{Found, ItemsFound};
 
 // A row: its section, SECTION_COUNT where the line says none, and its words, zeros after them.
-#[derive(Drop)]
+#[derive(Clone, Copy)]
 pub struct Row {
     pub section: u32,
     pub words: [u32; 10],
 }
 
 // Values that are words, or not.
-#[derive(Drop)]
+#[derive(Clone, Copy)]
 struct Words {
     good: bool,
     words: [u32; 10],
@@ -219,7 +219,7 @@ fn flat_row(items: ItemsFound, name: u32, types: u32, relationships: u32, cells:
 }
 
 // An item at a place, if there is one, and the place after it.
-#[derive(Drop)]
+#[derive(Clone, Copy)]
 struct ItemAt {
     good: bool,
     value: u64,

@@ -12,7 +12,7 @@ use tables::Counts;
 use walks::{Step, cell_value, next_far, next_instance, start_of, variable, weight};
 
 // Where a form of a body ends: its rule, the row after its last one, and how many variables are bound there.
-#[derive(Drop)]
+#[derive(Clone, Copy)]
 pub struct Place(pub u32, pub u32, pub u32);
 
 // Whether the truth that ends before the place holds.

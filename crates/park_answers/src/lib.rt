@@ -10,7 +10,7 @@ use reader::Outcome;
 use tables::Counts;
 
 // What may be asked of a text: the batch check, the full check of its register, the event lists of its rules, or the text after its batch.
-#[derive(Drop)]
+#[derive(Clone, Copy)]
 pub enum Asked {
     Check,
     Full,

@@ -5,7 +5,7 @@ ghost use Rattle.park_answers.specs.Words.{asked_by};
 use crate::Asked;
 
 // What a word asks, if it is one of the four.
-#[derive(Drop)]
+#[derive(Clone, Copy)]
 pub enum Word {
     Asks(Asked),
     Unknown,

@@ -24,7 +24,12 @@ quiet_test counts code a b w =
 
 node_quiet : (counts : ℕ → Bool) (o : Operator) (r : BodyRow) (a b : Part) (w : Bool) → quiet_test counts (code_of o) a b w ≡ quiet_part counts (form_of o r a b) w
 unfolding code_of form_of as_truth quietly quiet_connective quiet_quantifier
-node_quiet counts (comparing o) r a b w = elim o [ le ↦ refl | lt ↦ refl | eq ↦ refl | ne ↦ refl | ge ↦ refl | gt ↦ refl ]
+node_quiet counts (comparing le) r a b w = refl
+node_quiet counts (comparing lt) r a b w = refl
+node_quiet counts (comparing eq) r a b w = refl
+node_quiet counts (comparing ne) r a b w = refl
+node_quiet counts (comparing ge) r a b w = refl
+node_quiet counts (comparing gt) r a b w = refl
 node_quiet counts negating r a b w = refl
 node_quiet counts (connecting and) r a b true = refl
 node_quiet counts (connecting and) r a b false = refl
@@ -40,7 +45,8 @@ node_quiet counts literal r a b w = refl
 node_quiet counts cell_of r a b w = refl
 node_quiet counts size_of r a b w = refl
 node_quiet counts sum_of r a b w = refl
-node_quiet counts (combining o) r a b w = elim o [ add ↦ refl | sub ↦ refl ]
+node_quiet counts (combining add) r a b w = refl
+node_quiet counts (combining sub) r a b w = refl
 node_quiet counts role_of r a b w = refl
 node_quiet counts all_of r a b w = refl
 node_quiet counts selecting r a b w = refl
@@ -50,16 +56,26 @@ self_test counts code r = (eqb code 20 && eqb r.x 0) && counts r.y
 
 node_self : (counts : ℕ → Bool) (o : Operator) (r : BodyRow) (a b : Part) → self_test counts (code_of o) r ≡ self_part counts (form_of o r a b)
 unfolding code_of form_of as_collection role_of_self
-node_self counts (comparing o) r a b = elim o [ le ↦ refl | lt ↦ refl | eq ↦ refl | ne ↦ refl | ge ↦ refl | gt ↦ refl ]
+node_self counts (comparing le) r a b = refl
+node_self counts (comparing lt) r a b = refl
+node_self counts (comparing eq) r a b = refl
+node_self counts (comparing ne) r a b = refl
+node_self counts (comparing ge) r a b = refl
+node_self counts (comparing gt) r a b = refl
 node_self counts negating r a b = refl
-node_self counts (connecting o) r a b = elim o [ and ↦ refl | or ↦ refl | xor ↦ refl | implies ↦ refl ]
-node_self counts (quantifying q) r a b = elim q [ forall ↦ refl | exists ↦ refl ]
+node_self counts (connecting and) r a b = refl
+node_self counts (connecting or) r a b = refl
+node_self counts (connecting xor) r a b = refl
+node_self counts (connecting implies) r a b = refl
+node_self counts (quantifying forall) r a b = refl
+node_self counts (quantifying exists) r a b = refl
 node_self counts kind_of r a b = refl
 node_self counts literal r a b = refl
 node_self counts cell_of r a b = refl
 node_self counts size_of r a b = refl
 node_self counts sum_of r a b = refl
-node_self counts (combining o) r a b = elim o [ add ↦ refl | sub ↦ refl ]
+node_self counts (combining add) r a b = refl
+node_self counts (combining sub) r a b = refl
 node_self counts role_of r a b = refl
 node_self counts all_of r a b = refl
 node_self counts selecting r a b = refl

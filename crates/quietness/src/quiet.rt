@@ -23,7 +23,7 @@ const EXISTS: u32 = 12;
 const ROLE: u32 = 20;
 
 // Which roles of self count: every one, or those that start at the context type. Besides, how many relationships are used.
-#[derive(Drop)]
+#[derive(Clone, Copy)]
 struct Roles {
     every: bool,
     context: u32,
@@ -31,7 +31,7 @@ struct Roles {
 }
 
 // What brings an object into a rule's context type and selects and lists nothing by itself: an insert, and a special.
-#[derive(Drop)]
+#[derive(Clone, Copy)]
 pub struct Still {
     pub insert: bool,
     pub special: bool,

@@ -16,7 +16,7 @@ use tables::{
 mod fill;
 
 // What a read says: how many rows each table has, or a refusal's number and its line, 0 for the text's length and for the tables.
-#[derive(Drop)]
+#[derive(Clone, Copy)]
 pub enum Outcome {
     Done(Counts),
     Refused(u32, u32),

@@ -14,7 +14,7 @@ use meaning::{
 use text::{RULE_SECTION, SECTION_COUNT, TYPE_SECTION};
 
 // What was seen: a refusal's number and line, or 0 and the rows of each section, with the cells of each type.
-#[derive(Drop)]
+#[derive(Clone, Copy)]
 pub struct Seen {
     pub number: u32,
     pub line: u32,

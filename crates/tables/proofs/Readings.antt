@@ -234,16 +234,26 @@ code_of_lem k o e = code_from 0 operators tt k o e ∙ zero-add k
 
 pub operator_of_lem : (o : Operator) → operator_of (code_of o) ≡ some o
 unfolding operator_of operators code_of
-operator_of_lem (comparing o) = elim o [ le ↦ refl | lt ↦ refl | eq ↦ refl | ne ↦ refl | ge ↦ refl | gt ↦ refl ]
+operator_of_lem (comparing le) = refl
+operator_of_lem (comparing lt) = refl
+operator_of_lem (comparing eq) = refl
+operator_of_lem (comparing ne) = refl
+operator_of_lem (comparing ge) = refl
+operator_of_lem (comparing gt) = refl
 operator_of_lem negating = refl
-operator_of_lem (connecting o) = elim o [ and ↦ refl | or ↦ refl | xor ↦ refl | implies ↦ refl ]
-operator_of_lem (quantifying q) = elim q [ forall ↦ refl | exists ↦ refl ]
+operator_of_lem (connecting and) = refl
+operator_of_lem (connecting or) = refl
+operator_of_lem (connecting xor) = refl
+operator_of_lem (connecting implies) = refl
+operator_of_lem (quantifying forall) = refl
+operator_of_lem (quantifying exists) = refl
 operator_of_lem kind_of = refl
 operator_of_lem literal = refl
 operator_of_lem cell_of = refl
 operator_of_lem size_of = refl
 operator_of_lem sum_of = refl
-operator_of_lem (combining o) = elim o [ add ↦ refl | sub ↦ refl ]
+operator_of_lem (combining add) = refl
+operator_of_lem (combining sub) = refl
 operator_of_lem role_of = refl
 operator_of_lem all_of = refl
 operator_of_lem selecting = refl

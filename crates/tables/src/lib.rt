@@ -24,7 +24,7 @@ pub const PAIR_WIDTH: u32 = 2;
 pub const LOSS_WIDTH: u32 = 2;
 
 // How many rows of each lent table are used.
-#[derive(Drop)]
+#[derive(Clone, Copy)]
 pub struct Counts {
     pub types: u32,
     pub floors: u32,
@@ -36,21 +36,21 @@ pub struct Counts {
 }
 
 // A place or an id, if there is one.
-#[derive(Drop)]
+#[derive(Clone, Copy)]
 pub enum Found {
     At(u32),
     Nothing,
 }
 
 // A refusal's number and place, if one is met.
-#[derive(Drop)]
+#[derive(Clone, Copy)]
 pub enum Verdict {
     Clear,
     Refused(u32, u32),
 }
 
 // What a check says: accepted, the first broken rule and object, or a refusal's number and place.
-#[derive(Drop)]
+#[derive(Clone, Copy)]
 pub enum Answer {
     Accepted,
     Broken(u32, u32),

@@ -11,7 +11,7 @@ type World = [u64; 264];
 type Tree = [u32; 320];
 
 // An answer as numbers: 0 accepted, 1 broken, 2 refused; then its two values.
-#[derive(Drop)]
+#[derive(Clone, Copy)]
 struct Said {
     number: u32,
     first: u32,

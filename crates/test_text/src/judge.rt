@@ -7,7 +7,7 @@ use cases::{line, say, sheet};
 
 // What is said of a text: a refusal's number and line, or 0; of a text that was read, what the writer says of the tables, 0 where it
 // writes the same bytes and 99 where it writes others.
-#[derive(Drop)]
+#[derive(Clone, Copy)]
 pub struct Answer {
     pub number: u32,
     pub line: u32,

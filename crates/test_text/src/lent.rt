@@ -35,7 +35,7 @@ pub fn set(all: &mut Words, at: u32, value: u32) {
 pub type Bytes = [u8; 65538];
 
 // A refusal's number and place; or 0, and how many bytes were written.
-#[derive(Drop)]
+#[derive(Clone, Copy)]
 pub struct Said(pub u32, pub u32);
 
 // So many words of each table are lent.

@@ -10,7 +10,7 @@ ghost use Rattle.tokens.specs.Tokens.{packed};
 use text::NAME_COUNT;
 
 // A token, and the place after it. An item is a number's word, or 2^32 for `-` alone.
-#[derive(Drop)]
+#[derive(Clone, Copy)]
 pub enum Found {
     Begin { name: u32, next: usize },
     Item { value: u64, next: usize },
@@ -19,7 +19,7 @@ pub enum Found {
 }
 
 // The items of a line.
-#[derive(Drop)]
+#[derive(Clone, Copy)]
 pub struct ItemsFound {
     pub good: bool,
     pub count: u32,
@@ -27,7 +27,7 @@ pub struct ItemsFound {
 }
 
 // A name: its place among the names, NAME_COUNT where it is none of them, and the place after its letters.
-#[derive(Drop)]
+#[derive(Clone, Copy)]
 pub struct NameFound {
     pub place: u32,
     pub end: usize,

@@ -23,7 +23,7 @@ const SELECT: u32 = 22;
 
 // A form of a rule's body: it ends before row `end` of the rule, and its variables are the first `depth`. Besides, how many types, floors
 // and relationships are used.
-#[derive(Drop)]
+#[derive(Clone, Copy)]
 pub struct Place {
     pub types: u32,
     pub floors: u32,

@@ -5,7 +5,7 @@ ghost use Rattle.walks.specs.Values.{cell_in, weight_of};
 ghost use Rattle.walks.specs.Walks.{far_step, instances_from, Stepped, Anywhere};
 
 // A step of a walk over a collection: the row of the next member and the word at which the walk goes on; or there is none left.
-#[derive(Drop)]
+#[derive(Clone, Copy)]
 pub enum Step {
     At(u32, u32),
     Done,

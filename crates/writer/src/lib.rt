@@ -15,7 +15,7 @@ use text::{
 };
 
 // How many bytes were written, or a refusal's number and place.
-#[derive(Drop)]
+#[derive(Clone, Copy)]
 pub enum Written {
     Done(u32),
     Refused(u32, u32),
