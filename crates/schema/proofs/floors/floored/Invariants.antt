@@ -1,0 +1,17 @@
+-- `schema::floors::floored` meets its contract. The invariant: no floor before the row floors the cell. The measure is what is left of them.
+use Prim.Native.Nat.{◌-◌}
+use mathlib.Core.Path.{sym, ◌∙◌}
+use mathlib.Core.Bool.{◌&&◌}
+use native.Mathlib.Omega.{arith}
+use lib.Dec.{eqb}
+use Rattle.meaning.specs.Schema.{under, floored}
+use Rattle.tables.specs.Columns.{floor_row, types_of}
+use Rattle.schema.proofs.Scan.{Missed, missed_none, missed_more, missed_hit, missed_all}
+use Rattle.schema.proofs.floors.floored.Given as goal
+
+abbrev pub invariant-loop-row : goal.invariant-loop-row
+invariant-loop-row l =
+    Missed (λ f. under (types_of l.type_count l.types) l.t f.type && eqb f.cell l.cell) (floor_row l.floors) l.floor_count l.row
+
+abbrev pub decreases-loop-row : goal.decreases-loop-row
+decreases-loop-row l = l.floor_count - l.row
