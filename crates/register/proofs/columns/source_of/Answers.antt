@@ -1,0 +1,8 @@
+-- `register::columns::source_of` meets its contract. A source is a word of the row.
+use borrow.Author.Rules.{rules}
+use Rattle.tables.specs.Columns.{link_row}
+use Rattle.register.proofs.columns.source_of.Goals as goal
+
+pub returns : goal.returns
+unfolding link_row
+returns c = c.word.ensures

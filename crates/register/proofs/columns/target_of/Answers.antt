@@ -1,0 +1,8 @@
+-- `register::columns::target_of` meets its contract. A target is a word of the row.
+use borrow.Author.Rules.{rules}
+use Rattle.tables.specs.Columns.{link_row}
+use Rattle.register.proofs.columns.target_of.Goals as goal
+
+pub returns : goal.returns
+unfolding link_row
+returns c = c.word.ensures

@@ -1,0 +1,15 @@
+-- `register::search::guesses` meets its contract. The invariant: the rows from this one on, put into the table, make the table that is promised.
+use Prim.Native.Nat.{suc, ◌-◌}
+use mathlib.Core.Path.{◌≡◌, sym, ap, ◌∙◌}
+use native.Mathlib.Nat.{sub-zero}
+use native.Mathlib.Numerals.{add-one}
+use native.Mathlib.Omega.{arith}
+use borrow.Author.Rules.{rules}
+use Rattle.register.specs.Guesses.{with_guess, with_guesses}
+use Rattle.register.proofs.search.guesses.Given as goal
+
+abbrev pub invariant-loop-row : goal.invariant-loop-row
+invariant-loop-row l = with_guesses l.table l.objects l.row (l.object_count - l.row) ≡ with_guesses l.initial.table l.objects 0 l.object_count
+
+abbrev pub decreases-loop-row : goal.decreases-loop-row
+decreases-loop-row l = l.object_count - l.row
