@@ -1,0 +1,37 @@
+-- `event_tests::strictly_under` meets its contract.
+use mathlib.Core.Path.{sym, ap, ◌∙◌}
+use mathlib.Core.Bool.{◌&&◌, not}
+use lib.Dec.{eqb}
+use Rattle.meaning.specs.Schema.{under}
+use Rattle.meaning.specs.Events.{strictly_under}
+use Rattle.tables.specs.Columns.{types_of}
+use Rattle.schema.proofs.Founds.{found_none, found_some}
+use Rattle.event_tests.proofs.Tests.{test_found, test_missing}
+use borrow.Author.Rules.{rules}
+use Rattle.event_tests.proofs.strictly_under.Goals as goal
+
+pub returns-then-under : goal.returns-then-under
+unfolding strictly_under
+returns-then-under c =
+    let x = c.args in
+    let types = types_of x.type_count x.types.now in
+    λ ls.
+    ap (λ b. b && not (eqb x.t c.type_of-own.result)) (sym c.if-under.true ∙ c.under.ensures)
+    ∙ ap (λ own. under types own x.t && not (eqb x.t own)) c.type_of-own.ensures
+    ∙ sym (test_found x.count x.objects.now ls x.id _ (found_some _ (sym c.in-At.is ∙ c.object_row.ensures)))
+
+pub returns-else-under : goal.returns-else-under
+unfolding strictly_under
+returns-else-under c =
+    let x = c.args in
+    let types = types_of x.type_count x.types.now in
+    λ ls.
+    ap (λ b. b && not (eqb x.t c.type_of-own.result)) (sym c.if-under.false ∙ c.under.ensures)
+    ∙ ap (λ own. under types own x.t && not (eqb x.t own)) c.type_of-own.ensures
+    ∙ sym (test_found x.count x.objects.now ls x.id _ (found_some _ (sym c.in-At.is ∙ c.object_row.ensures)))
+
+pub returns-in-Nothing : goal.returns-in-Nothing
+unfolding strictly_under
+returns-in-Nothing c =
+    let x = c.args in
+    λ ls. sym (test_missing x.count x.objects.now ls x.id _ (found_none _ (sym c.in-Nothing.is ∙ c.object_row.ensures)))

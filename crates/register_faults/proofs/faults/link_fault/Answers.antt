@@ -1,0 +1,27 @@
+-- `register_faults::faults::link_fault` meets its contract. The invariant: the links before the row are passed. The measure is what is left of them.
+use Prim.Native.Nat.{◌-◌}
+use mathlib.Core.Path.{sym, ◌∙◌}
+use mathlib.Core.List.{List}
+use native.Mathlib.Omega.{arith}
+use Rattle.meaning.specs.Schema.{Floor}
+use Rattle.meaning.specs.Register.{faulty_link, link_fault}
+use Rattle.tables.specs.Columns.{link_row, schema_of, register_of}
+use Rattle.schema.proofs.Scan.{Passed, passed_none, passed_more, passed_found, passed_all}
+use Rattle.register_faults.proofs.faults.link_fault.Goals as goal
+
+pub loop-row-init : goal.loop-row-init
+loop-row-init c = λ fs. passed_none _ _ _
+
+pub faulty_link-requires : goal.faulty_link-requires
+faulty_link-requires c = c.requires
+
+pub returns-then-faulty_link : goal.returns-then-faulty_link
+unfolding link_fault
+returns-then-faulty_link c = λ fs. rw (passed_found _ _ _ (c.loop-row.invariant fs) c.loop-row-test.true (sym (c.faulty_link.ensures fs _) ∙ c.if-faulty_link.true))
+
+pub loop-row-preserved : goal.loop-row-preserved
+loop-row-preserved c = λ fs. passed_more _ _ _ (c.loop-row.invariant fs) c.loop-row-test.true (sym (c.faulty_link.ensures fs _) ∙ c.if-faulty_link.false)
+
+pub returns : goal.returns
+unfolding link_fault
+returns c = λ fs. rw (passed_all _ _ _ (c.loop-row.invariant fs) c.loop-row-test.false)
