@@ -30,16 +30,26 @@ between code s = leb (lowest s) code && ltb code (past s)
 
 codes : (o : Operator) → T (between (code_of o) (shape_of o).result)
 unfolding code_of shape_of between lowest past
-codes (comparing o) = elim o [ le ↦ tt | lt ↦ tt | eq ↦ tt | ne ↦ tt | ge ↦ tt | gt ↦ tt ]
+codes (comparing le) = tt
+codes (comparing lt) = tt
+codes (comparing eq) = tt
+codes (comparing ne) = tt
+codes (comparing ge) = tt
+codes (comparing gt) = tt
 codes negating = tt
-codes (connecting o) = elim o [ and ↦ tt | or ↦ tt | xor ↦ tt | implies ↦ tt ]
-codes (quantifying q) = elim q [ forall ↦ tt | exists ↦ tt ]
+codes (connecting and) = tt
+codes (connecting or) = tt
+codes (connecting xor) = tt
+codes (connecting implies) = tt
+codes (quantifying forall) = tt
+codes (quantifying exists) = tt
 codes kind_of = tt
 codes literal = tt
 codes cell_of = tt
 codes size_of = tt
 codes sum_of = tt
-codes (combining o) = elim o [ add ↦ tt | sub ↦ tt ]
+codes (combining add) = tt
+codes (combining sub) = tt
 codes role_of = tt
 codes all_of = tt
 codes selecting = tt

@@ -64,7 +64,7 @@ fn put_type(count: u32, objects: &mut [u32], id: u32, t: u32)
 fn put_higher_type(type_count: u32, types: &[u32], count: u32, objects: &mut [u32], id: u32, t: u32)
     requires { (CanChange count objects.old id) × (cells_of (types_of type_count types.now) t ≤ cell_count) }
     ensures { (fs : List Floor) (rs : List Relationship) →
-        ObjectsApplied (record { types = types_of type_count types.entry.now; floors = fs; relationships = rs })
+        ObjectsApplied (record { types = types_of type_count types.now; floors = fs; relationships = rs })
         (general id t) count objects.old count objects.new }
 {
     match register::object_row(count, &*objects, id) {
@@ -140,7 +140,7 @@ pub fn effect(
     requires { (Can (types_of type_count types.now) held.objects objects.old held.links links.old (event_of kind x y z))
         × (event_of kind x y z ≡ no_event → ⊥) × (LossRoom held.links held.losses losses.old) }
     ensures { ((fs : List Floor) (rs : List Relationship) →
-        Applied (record { types = types_of type_count types.entry.now; floors = fs; relationships = rs }) (event_of kind x y z)
+        Applied (record { types = types_of type_count types.now; floors = fs; relationships = rs }) (event_of kind x y z)
         held.objects objects.old held.links links.old
         result.objects objects.new result.links links.new)
         × (LossesKept (register_of held.objects objects.old held.links links.old) (event_of kind x y z)
@@ -174,7 +174,7 @@ pub fn row_effect(
     requires { (Can (types_of type_count types.now) held.objects objects.old held.links links.old (event_row events.now row))
         × (event_row events.now row ≡ no_event → ⊥) × (LossRoom held.links held.losses losses.old) }
     ensures { ((fs : List Floor) (rs : List Relationship) →
-        Applied (record { types = types_of type_count types.entry.now; floors = fs; relationships = rs }) (event_row events.now row)
+        Applied (record { types = types_of type_count types.now; floors = fs; relationships = rs }) (event_row events.now row)
         held.objects objects.old held.links links.old
         result.objects objects.new result.links links.new)
         × (LossesKept (register_of held.objects objects.old held.links links.old) (event_row events.now row)

@@ -20,7 +20,7 @@ fn of_insert(type_count: u32, lent: usize, count: u32, objects: &[u32], id: u32,
     requires { ObjectsAscend count objects.now }
     ensures { (types : List ℕ) (fs : List Floor) (rs : List Relationship) (ls : List Link) (m w : ℕ) → result ≡ found_of (event_refusal
         (record { types = types_of type_count types; floors = fs; relationships = rs }) (record { objects = lent; links = m; words = w })
-        (objects_with count objects.entry.now ls) (insert id t)) }
+        (objects_with count objects.now ls) (insert id t)) }
 {
     if !known_type(type_count, id, t) {
         return Found::At(7);
@@ -63,7 +63,7 @@ fn of_set(
 ) -> Found
     requires { ObjectsAscend count objects.now }
     ensures { (rs : List Relationship) (lent : Lent) (ls : List Link) → result ≡ found_of (event_refusal
-        (record { types = types_of type_count types.entry.now; floors = floors_of floor_count floors.now; relationships = rs }) lent
+        (record { types = types_of type_count types.now; floors = floors_of floor_count floors.now; relationships = rs }) lent
         (objects_with count objects.now ls) (set id cell (signed word))) }
 {
     if !known_cell(id, cell) {
@@ -110,7 +110,7 @@ fn of_join(
     ensures { (fs : List Floor) (m w : ℕ) → result ≡ found_of (event_refusal
         (schema_of type_count types.now fs relationship_count relationships.now)
         (record { objects = m; links = lent; words = w })
-        (register_of object_count objects.entry.now link_count links.now)
+        (register_of object_count objects.now link_count links.now)
         (join relationship source target)) }
 {
     if !known_link(relationship_count, relationship, source, target) {
@@ -183,7 +183,7 @@ fn of_special(
 ) -> Found
     requires { ObjectsAscend count objects.now }
     ensures { (rs : List Relationship) (lent : Lent) (ls : List Link) → result ≡ found_of (event_refusal
-        (record { types = types_of type_count types.entry.now; floors = floors_of floor_count floors.now; relationships = rs }) lent
+        (record { types = types_of type_count types.now; floors = floors_of floor_count floors.now; relationships = rs }) lent
         (objects_with count objects.now ls) (special id into)) }
 {
     if !known_type(type_count, id, into) {
@@ -272,7 +272,7 @@ fn of_link_event(
     ensures { (fs : List Floor) (m w : ℕ) → result ≡ found_of (event_refusal
         (schema_of type_count types.now fs relationship_count relationships.now)
         (record { objects = m; links = lent; words = w })
-        (register_of object_count objects.entry.now link_count links.now)
+        (register_of object_count objects.now link_count links.now)
         (event_of kind x y z)) }
 {
     if kind == 3 {
@@ -325,7 +325,7 @@ fn of_short_event(
     ensures { (m w : ℕ) → result ≡ found_of (event_refusal
         (schema_of type_count types.now (floors_of floor_count floors.now) relationship_count relationships.now)
         (record { objects = lent; links = m; words = w })
-        (register_of object_count objects.entry.now link_count links.now)
+        (register_of object_count objects.now link_count links.now)
         (event_of kind x y z)) }
 {
     if z != 0 {
@@ -392,7 +392,7 @@ fn of_event(
     ensures { (w : ℕ) → result ≡ found_of (event_refusal
         (schema_of type_count types.now (floors_of floor_count floors.now) relationship_count relationships.now)
         (record { objects = objects_lent; links = links_lent; words = w })
-        (register_of object_count objects.entry.now link_count links.now)
+        (register_of object_count objects.now link_count links.now)
         (event_of kind x y z)) }
 {
     match kind {
@@ -463,7 +463,7 @@ pub fn refusal(
     ensures { (w : ℕ) → result ≡ found_of (event_refusal
         (schema_of type_count types.now (floors_of floor_count floors.now) relationship_count relationships.now)
         (record { objects = objects_lent; links = links_lent; words = w })
-        (register_of object_count objects.entry.now link_count links.now)
+        (register_of object_count objects.now link_count links.now)
         (event_row events.now row)) }
 {
     let kind = rows::word(events, tables::EVENT_WIDTH, row, 0);

@@ -129,7 +129,7 @@ pub fn set_below(
 ) -> bool
     requires { ObjectsAscend count objects.now }
     ensures { (rs : List Relationship) (ls : List Link) → result ≡ set_below
-        (record { types = types_of type_count types.entry.now; floors = floors_of floor_count floors.now; relationships = rs })
+        (record { types = types_of type_count types.now; floors = floors_of floor_count floors.now; relationships = rs })
         (objects_with count objects.now ls) id cell (signed word) }
 {
     if !signed::is_negative(word) {
@@ -157,7 +157,7 @@ pub fn brought_below(
 ) -> bool
     requires { ObjectsAscend count objects.now }
     ensures { (rs : List Relationship) (ls : List Link) → result ≡ brought_below
-        (record { types = types_of type_count types.entry.now; floors = floors_of floor_count floors.now; relationships = rs })
+        (record { types = types_of type_count types.now; floors = floors_of floor_count floors.now; relationships = rs })
         (objects_with count objects.now ls) id t }
 {
     match register::object_row(count, objects, id) {

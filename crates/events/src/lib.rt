@@ -52,8 +52,8 @@ pub fn step(
     ensures { (w : ℕ) →
         StepDone (schema_of type_count types.now (floors_of floor_count floors.now) relationship_count relationships.now)
         (record { objects = objects_lent; links = links_lent; words = w }) (event_row events.now row)
-        held.objects objects.entry.now held.links links.old held.losses losses.old
-        result.refused result.held.objects objects.exit.now result.held.links links.new result.held.losses losses.new }
+        held.objects objects.old held.links links.old held.losses losses.old
+        result.refused result.held.objects objects.new result.held.links links.new result.held.losses losses.new }
 {
     let object_count = held.objects;
     let link_count = held.links;

@@ -88,8 +88,8 @@ fn run_on(
     ensures { (w : ℕ) →
         RunDone (schema_of type_count types.now (floors_of floor_count floors.now) relationship_count relationships.now)
         (record { objects = objects_lent; links = links_lent; words = w })
-        (register_of from.objects objects.entry.now from.links links.old)
-        (events_of event_count events.now) result objects.exit.now links.new }
+        (register_of from.objects objects.old from.links links.old)
+        (events_of event_count events.now) result objects.new links.new }
 {
     let mut used = from;
     let mut met = [NO_TYPE; 256];

@@ -82,7 +82,7 @@ fn faulty_floor(type_count: u32, types: &[u32], floors: &[u32], row: u32) -> boo
 // The first faulty floor, if there is one.
 pub fn floor_fault(type_count: u32, types: &[u32], floor_count: u32, floors: &[u32]) -> Found
     ensures { (rs : List Relationship) → result ≡ found_of (floor_fault
-        (record { types = types_of type_count types.entry.now; floors = floors_of floor_count floors.now; relationships = rs })) }
+        (record { types = types_of type_count types.now; floors = floors_of floor_count floors.now; relationships = rs })) }
 {
     let mut row: u32 = 0;
     while row < floor_count {

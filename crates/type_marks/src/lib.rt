@@ -89,7 +89,7 @@ pub fn put_members(
 )
     requires { length marks.old ≡ places }
     ensures { (fs : List Floor) (rs : List Relationship) → Added marks.old marks.new
-        (marked_by set (type_lists (record { types = types_of type_count types.entry.now; floors = fs; relationships = rs }) whole t)) }
+        (marked_by set (type_lists (record { types = types_of type_count types.now; floors = fs; relationships = rs }) whole t)) }
 {
     let parent = schema::has_parent(type_count, types, t);
     put_type(
@@ -116,7 +116,7 @@ pub fn put_members(
 pub fn put_context(type_count: u32, types: &[u32], still: Still, t: u32, marks: &mut [bool])
     requires { length marks.old ≡ places }
     ensures { (fs : List Floor) (rs : List Relationship) → Added marks.old marks.new
-        (marked (entry_lists (record { types = types_of type_count types.entry.now; floors = fs; relationships = rs }) still t)) }
+        (marked (entry_lists (record { types = types_of type_count types.now; floors = fs; relationships = rs }) still t)) }
 {
     let parent = schema::has_parent(type_count, types, t);
     put(!still.insert, INSERT, t, 0, marks);
