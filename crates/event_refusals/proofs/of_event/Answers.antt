@@ -37,13 +37,12 @@ of_link_event-requires c =
     (c.requires.0, c.requires.1, omega arith, omega arith)
 
 pub of_short_event-requires : goal.of_short_event-requires
-of_short_event-requires c =
-    (
-      c.requires.0,
-      λ e. elim c.in_default.branch [ goal.in_default-via-then-kind-lt2 w ↦ omega arith | goal.in_default-via-else-kind-lt2+else-kind-lt5 w ↦ omega arith ],
-      λ e. elim c.in_default.branch [ goal.in_default-via-then-kind-lt2 w ↦ omega arith | goal.in_default-via-else-kind-lt2+else-kind-lt5 w ↦ omega arith ],
-      λ e. elim c.in_default.branch [ goal.in_default-via-then-kind-lt2 w ↦ omega arith | goal.in_default-via-else-kind-lt2+else-kind-lt5 w ↦ omega arith ],
-    )
+of_short_event-requires c = (
+  c.requires.0,
+  λ e. elim c.in_default.branch [ goal.in_default-via-then-kind-lt2 w ↦ omega arith | goal.in_default-via-else-kind-lt2+else-kind-lt5 w ↦ omega arith ],
+  λ e. elim c.in_default.branch [ goal.in_default-via-then-kind-lt2 w ↦ omega arith | goal.in_default-via-else-kind-lt2+else-kind-lt5 w ↦ omega arith ],
+  λ e. elim c.in_default.branch [ goal.in_default-via-then-kind-lt2 w ↦ omega arith | goal.in_default-via-else-kind-lt2+else-kind-lt5 w ↦ omega arith ],
+)
 
 pub returns-in-2 : goal.returns-in-2
 returns-in-2 c =
