@@ -9,19 +9,6 @@ use Rattle.event_effects.specs.Effects.{LinksApplied}
 use Rattle.event_effects.proofs.Passes.{Passing, passing_none, as_passing, row_lent, can_lose, row_gone, row_kept, used_lent, links_taken, losses_taken, few_taken}
 use borrow.Author.Rules.{rules}
 use Rattle.event_effects.proofs.deletes.take_links.Goals as goal
-use Rattle.event_effects.proofs.deletes.take_links.Lts as lts
-use Rattle.event_effects.proofs.deletes.take_links.Reads as reads
-use Rattle.event_effects.proofs.deletes.take_links.Tie as tie
-
--- ---- a turn, once its link is looked at
-abbrev Looked : Type 0
-Looked = lts.After-ends_at tie.the-claims reads.Pre reads.Post goal.the-invariant-loop-row goal.the-decreases-loop-row
-
-abbrev turn : Looked → lts.In-loop tie.the-claims reads.Pre reads.Post goal.the-invariant-loop-row goal.the-decreases-loop-row
-turn c = c.before.before
-
-abbrev start : Looked → lts.Start tie.the-claims reads.Pre reads.Post goal.the-invariant-loop-row goal.the-decreases-loop-row
-start c = (turn c).before.before.before
 
 -- ---- needs
 pub loop-row-init : goal.loop-row-init
@@ -29,11 +16,11 @@ loop-row-init c = passing_none _ _ _ _ _
 
 pub put_loss-lost-requires : goal.put_loss-lost-requires
 put_loss-lost-requires c =
-    can_lose _ _ _ _ _ (start c.before.before).requires (turn c.before.before).loop-row.invariant (turn c.before.before).loop-row-test.true (sym c.ends_at.ensures ∙ c.if-ends_at.true)
+    can_lose _ _ _ _ _ c.requires c.loop-row.invariant c.loop-row-test.true (sym c.ends_at.ensures ∙ c.if-ends_at.true)
 
 pub keep_row-requires : goal.keep_row-requires
 keep_row-requires c =
-    row_lent _ _ _ _ _ (start c.before.before).requires (turn c.before.before).loop-row.invariant (turn c.before.before).loop-row-test.true
+    row_lent _ _ _ _ _ c.requires c.loop-row.invariant c.loop-row-test.true
 
 pub overflow_add-kept : goal.overflow_add-kept
 overflow_add-kept c =
@@ -41,15 +28,17 @@ overflow_add-kept c =
 
 pub loop-row-preserved : goal.loop-row-preserved
 loop-row-preserved c =
-    let can = (start c.before).requires in
-    let inv = (turn c.before).loop-row.invariant in
-    let below = (turn c.before).loop-row-test.true in
-    ⊎_elim
-    (λ w.
-    as_passing _ _ _ _ _ w.4 w.5 w.6 w.7
-    (row_gone _ _ _ _ _ can inv below (sym c.ends_at.ensures ∙ w.0.taken) w.3.ensures))
-    (λ w. as_passing _ _ _ _ _ (w.5 ∙ w.2.ensures) w.6 w.7 w.8 (row_kept _ _ _ _ _ can inv below (sym c.ends_at.ensures ∙ w.0.left)))
-    c.if-ends_at.branch
+    let can = c.requires in
+    let inv = c.loop-row.invariant in
+    let below = c.loop-row-test.true in
+    elim c.if-ends_at.branch [
+      goal.then-ends_at w ↦
+        as_passing _ _ _ _ _ w.links-is w.losses-is w.lost-is w.kept-is
+        (row_gone _ _ _ _ _ can inv below (sym c.ends_at.ensures ∙ w.if-ends_at.true) w.put_loss-lost.ensures)
+    | goal.else-ends_at w ↦
+        as_passing _ _ _ _ _ (w.links-is ∙ w.keep_row.ensures) w.losses-is w.lost-is w.kept-is
+        (row_kept _ _ _ _ _ can inv below (sym c.ends_at.ensures ∙ w.if-ends_at.false))
+    ]
 
 pub clear_rows-requires : goal.clear_rows-requires
 clear_rows-requires c =
@@ -57,14 +46,14 @@ clear_rows-requires c =
 
 pub shape_of-links : goal.shape_of-links
 shape_of-links c =
-    c.clear_rows.auto.0 ∙ c.loop-row.invariant.long
+    c.clear_rows.auto.links ∙ c.loop-row.invariant.long
 
 pub returns : goal.returns
 returns c =
     let inv = c.loop-row.invariant in
     let x = c.args in (
       λ S.
-          subst (λ t. LinksApplied S (delete x.id) x.held.links x.links.now c.loop-row.auto t) (sym c.clear_rows.ensures)
+          subst (λ t. LinksApplied S (delete x.id) x.held.links x.links.now c.loop-row.kept t) (sym c.clear_rows.ensures)
           (links_taken _ _ _ _ _ c.requires inv c.loop-row-test.false S),
       losses_taken _ _ _ _ _ c.requires inv c.loop-row-test.false,
       few_taken _ _ _ _ _ c.requires inv c.loop-row-test.false,

@@ -165,8 +165,6 @@ returns-in-6 c =
 pub returns-in_default : goal.returns-in_default
 returns-in_default c =
     let a = (start c.before.before).args in
-    let other = c.in_default.rest in
-    let early = other.0.0.0 in
     absurd
     ((start c.before.before).requires.1
-    (kind_unknown a.x a.y a.z a.kind early.0.0.0.1 early.0.0.1 early.0.1 early.1 other.0.0.1 other.0.1 other.1))
+    (kind_unknown a.x a.y a.z a.kind (λ e. omega arith) (λ e. omega arith) (λ e. omega arith) (λ e. omega arith) (λ e. omega arith) (λ e. omega arith) (λ e. omega arith)))

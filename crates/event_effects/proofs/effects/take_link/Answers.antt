@@ -20,7 +20,7 @@ returns-in-At c =
     λ S.
     subst (λ u. LinksApplied S (part x.relationship x.source x.target) x.count x.links.now (x.count - 1) u) (sym c.close_gap.ensures)
     (link_taken_out S x.count x.links.now x.relationship x.source x.target c.requires _ (found_some _ (sym c.in-At.is ∙ c.link_row.ensures)) (x.count - 1)
-    (omega (arith, overflow_sub-result c.before)))
+    (omega (arith, (link_found x.count x.links.now (link_of x.relationship x.source x.target) (found_some _ (sym c.in-At.is ∙ c.link_row.ensures))).0)))
 
 pub returns-in-Nothing : goal.returns-in-Nothing
 returns-in-Nothing c =

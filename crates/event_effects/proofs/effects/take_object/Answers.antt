@@ -20,7 +20,7 @@ returns-in-At c =
     λ S.
     subst (λ u. ObjectsApplied S (delete x.id) x.count x.objects.now (x.count - 1) u) (sym c.close_gap.ensures)
     (object_taken_out S x.count x.objects.now x.id c.requires _ (found_some _ (sym c.in-At.is ∙ c.object_row.ensures)) (x.count - 1)
-    (omega (arith, overflow_sub-result c.before)))
+    (omega (arith, (object_found x.count x.objects.now x.id (found_some _ (sym c.in-At.is ∙ c.object_row.ensures))).0)))
 
 pub returns-in-Nothing : goal.returns-in-Nothing
 returns-in-Nothing c =
