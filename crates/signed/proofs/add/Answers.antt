@@ -2,8 +2,6 @@
 use native.Mathlib.Omega.{arith}
 use Rattle.signed.proofs.Signed.{back, small_fits}
 use Rattle.meaning.proofs.Integers.{nat_abs_add}
-use Rattle.signed.proofs.add.Reads as reads
-use Rattle.signed.proofs.add.Lts as lts
 use Rattle.signed.proofs.add.Goals as goal
 
 pub overflow_add-result : goal.overflow_add-result

@@ -8,8 +8,6 @@ use Rattle.meaning.specs.Forms.{Comparison, le, lt, eq, ne, ge, gt}
 use Rattle.meaning.specs.Meaning.{compared}
 use Rattle.signed.specs.Comparing.{comparison_of}
 use Rattle.signed.proofs.Signed.{back, equal}
-use Rattle.signed.proofs.compare.Reads as reads
-use Rattle.signed.proofs.compare.Lts as lts
 use Rattle.signed.proofs.compare.Goals as goal
 
 abbrev five : List Comparison

@@ -7,8 +7,6 @@ use mir.Syntax.{w64}
 use mir.Val.{to_z, of_z}
 use Rattle.signed.proofs.Signed.{back, small_fits, word_small, minus, signed_low, signed_high}
 use borrow.Author.Rules.{rules}
-use Rattle.signed.proofs.from_word.Reads as reads
-use Rattle.signed.proofs.from_word.Lts as lts
 use Rattle.signed.proofs.from_word.Goals as goal
 
 pub overflow_sub-result : goal.overflow_sub-result

@@ -2,8 +2,6 @@
 use native.Mathlib.Omega.{arith}
 use Rattle.signed.proofs.Signed.{back, small_fits}
 use Rattle.meaning.proofs.Integers.{nat_abs_sub}
-use Rattle.signed.proofs.subtract.Reads as reads
-use Rattle.signed.proofs.subtract.Lts as lts
 use Rattle.signed.proofs.subtract.Goals as goal
 
 pub overflow_sub-result : goal.overflow_sub-result

@@ -3,12 +3,8 @@ use mathlib.Core.List.{flat_map}
 use Rattle.event_effects.specs.Losses.{losses_by}
 use Rattle.events.specs.Runs.{ran_over}
 use borrow.Author.Rules.{rules}
-use Rattle.events.proofs.runs.refused.Statement.{statement}
-use Rattle.events.proofs.runs.refused.Tie as tie
+use Rattle.events.proofs.runs.refused.Goals as goal
 
-returns : tie.Need-returns
+pub returns : goal.returns
 unfolding ran_over losses_by flat_map
 returns c = search rules
-
-pub refused_spec : {M : Type 1} → statement M
-refused_spec = tie.close (tie.spec returns)
