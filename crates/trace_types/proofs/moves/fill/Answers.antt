@@ -1,0 +1,29 @@
+-- `trace_types::moves::fill` meets its contract. The invariant: the events below this one are in the sets. The measure is the events left.
+use Prim.Native.Nat.{◌-◌, ◌≤◌}
+use mathlib.Core.Path.{◌≡◌, refl, ap}
+use mathlib.Core.List.{List}
+use native.Mathlib.Numerals.{add-one}
+use native.Mathlib.Omega.{arith}
+use lib.ListN.{get_or}
+use borrow.Author.Rules.{rules}
+use Rattle.meaning.specs.Limits.{max_types}
+use Rattle.meaning.specs.Register.{Link}
+use Rattle.tables.specs.Columns.{types_of, event_row}
+use Rattle.register.specs.Tables.{objects_with}
+use Rattle.trace_places.specs.Making.{event_moves, some_below, SetsWith}
+use Rattle.trace_types.proofs.Moving.{sets_as, sets_still, sets_then}
+use Rattle.trace_types.proofs.moves.fill.Goals as goal
+
+pub loop-i-init : goal.loop-i-init
+loop-i-init c = (omega arith, λ ls. sets_still _ _ _ (λ t d. refl))
+
+pub loop-i-preserved : goal.loop-i-preserved
+loop-i-preserved c =
+    (omega (arith, c.loop-i-test.true), λ ls. rw add-one (sets_then (c.loop-i.invariant.1 ls) (c.put_event.ensures ls)))
+
+pub returns : goal.returns
+returns c =
+    let a = c.args in
+    let last : c.loop-i.i ≡ a.event_count = omega (arith, c.loop-i.invariant.0, c.loop-i-test.false) in
+    λ ls. sets_as (c.loop-i.invariant.1 ls)
+    (λ t h d. ap (some_below (λ j. event_moves (types_of a.type_count a.types.now) (objects_with a.object_count a.objects.now ls) (event_row a.events.now j) (get_or a.met.now j 0) t d)) last)

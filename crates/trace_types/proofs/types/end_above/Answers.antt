@@ -1,0 +1,26 @@
+-- `trace_types::types::end_above` meets its contract.
+use mathlib.Core.Path.{sym, ap, ◌∙◌}
+use borrow.Author.Rules.{rules}
+use Rattle.meaning.specs.Schema.{under}
+use Rattle.tables.specs.Columns.{types_of}
+use Rattle.schema.proofs.Founds.{found_none, found_some}
+use Rattle.register.proofs.Searches.{under_found, under_missing}
+use Rattle.trace_types.proofs.Climbing.{no_truths, truths_as}
+use Rattle.trace_types.proofs.types.end_above.Goals as goal
+
+pub returns-in-At : goal.returns-in-At
+returns-in-At c =
+    let a = c.args in
+    let types = types_of a.type_count a.types.now in
+    λ ls.
+    truths_as c.above.ensures
+    (λ t.
+    ap (λ x. under types x t) c.type_of.ensures
+    ∙ sym (under_found types a.object_count a.objects.now ls a.id t (found_some _ (sym c.in-At.is ∙ c.object_row.ensures))))
+
+pub returns-in-Nothing : goal.returns-in-Nothing
+returns-in-Nothing c =
+    let a = c.args in
+    λ ls.
+    truths_as no_truths
+    (λ t. sym (under_missing _ a.object_count a.objects.now ls a.id t (found_none _ (sym c.in-Nothing.is ∙ c.object_row.ensures))))
