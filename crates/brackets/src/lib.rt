@@ -1,4 +1,6 @@
 // The body of a rule by the tokens of its line: whether it is one whole form, and its rows.
+#![tactic(auto)]
+
 ghost use Rattle.std.specs.Prelude.{◌≡◌, ℕ, ◌+◌, ◌*◌, ◌≤◌, length, drop};
 ghost use Rattle.text.specs.Bodies.{Written, rows_of};
 ghost use Rattle.text.specs.Texts.{max_text};

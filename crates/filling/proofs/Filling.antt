@@ -4,14 +4,13 @@ use mathlib.Core.Path.{◌≡◌, refl, sym, ap, ap₂, subst, ◌∙◌}
 use mathlib.Core.Bool.{Bool, true, false, ◌&&◌, ◌||◌, cond, false≢true}
 use mathlib.Core.List.{List, [], ◌∷◌, ◌++◌, append-nil, append_assoc}
 use mathlib.Core.Option.{some}
-use native.Mathlib.Nat.{add-mul, one-mul, div-mul-le_self, mul-le-mul_right, le_trans}
+use native.Mathlib.Nat.{add-mul, one-mul, div-mul-le_self, mul-le-mul_right}
 use native.Mathlib.Omega.{arith}
 use lib.Dec.{ltb, leb, eqb}
 use lib.ListN.{length, get_or, take, drop, set, replicate, length-append, replicate-append-replicate}
 use lib.Seq.{drop-drop, take_at, drop_at}
 use denote.Floats.{is_true}
 use borrow.Author.Tests.{leb-true, eqb-true, eqb-false, ltb-false, eq-eqb, ne_eqb}
-use Rattle.meaning.specs.Lists.{every}
 use Rattle.meaning.proofs.Lists.{every_get_d}
 use Rattle.lexical.specs.Lines.{line_in}
 use Rattle.lexical.proofs.Runs.{both}

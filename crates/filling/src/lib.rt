@@ -1,4 +1,6 @@
 // Lines put into the tables that they are rows of.
+#![tactic(auto)]
+
 ghost use Rattle.std.specs.Prelude.{◌≡◌, cond, List, [], ℕ, ◌+◌, ◌*◌, ◌≤◌, eqb, length, get_or, take, drop};
 ghost use Rattle.rows.specs.Rows.{with_row};
 ghost use Rattle.tables.specs.Layouts.{sheet_of, body_words, lines_lent};

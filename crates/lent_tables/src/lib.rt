@@ -1,4 +1,6 @@
 // Refusals 2 and 6 of lent tables, whatever their words say.
+#![tactic(auto)]
+
 ghost use Rattle.std.specs.Prelude.{◌≡◌, ◌||◌, not, []};
 ghost use Rattle.rows.specs.Rows.{whole_rows};
 ghost use Rattle.tables.specs.Layouts.{sheet_of, book_tables};

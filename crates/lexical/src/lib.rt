@@ -1,4 +1,6 @@
 // The lowest layer of the text: decimals, lines, and bytes put into a lent text.
+#![tactic(auto)]
+
 ghost use Rattle.std.specs.Prelude.{◌≡◌, ◌+◌, ◌≤◌, ◌<◌, length, drop};
 ghost use Rattle.rows.specs.Rows.{signed};
 ghost use Rattle.lexical.specs.Decimals.{digits_of, decimal_of, digits_in, cut_value, plain_value, negative, number_in, number_at};

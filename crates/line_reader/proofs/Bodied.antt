@@ -1,6 +1,6 @@
 -- The body of a rule's line: where it stands, and that it is whole.
-use Prim.Native.Nat.{ℕ, ◌+◌, ◌-◌, ◌≤◌, ◌<◌}
-use mathlib.Core.Path.{◌≡◌, refl, sym, ap, ap₂, subst, ◌∙◌}
+use Prim.Native.Nat.{ℕ, ◌+◌, ◌-◌, ◌≤◌}
+use mathlib.Core.Path.{◌≡◌, refl, sym, ap, subst, ◌∙◌}
 use mathlib.Core.Bool.{Bool, true, false, ◌&&◌, cond, false≢true}
 use mathlib.Core.List.{List, [], ◌∷◌}
 use mathlib.Core.Option.{Option, none, some, bind, none-ne-some}
@@ -11,8 +11,8 @@ use borrow.Author.Tests.{eqb-true, eqb-false}
 use Rattle.meaning.specs.Limits.{max_forms, cell_count}
 use Rattle.tables.specs.Layouts.{floor_table, link_table}
 use Rattle.text.specs.Names.{rule_name, type_name, floor_name, relationship_name, object_name, link_name, first_event, letters_in, place_of}
-use Rattle.text.specs.Tokens.{Token, begin, item, end, is_word, Bracket, token_in, tokens_in, bracket_in}
-use Rattle.text.specs.Bodies.{Written, forms_in, padded, Formed, form_in}
+use Rattle.text.specs.Tokens.{Token, item, is_word, token_in, tokens_in, bracket_in}
+use Rattle.text.specs.Bodies.{Written, forms_in, padded, form_in}
 use Rattle.text.specs.Entries.{Entry, row, rule, section_of, count_of, last_section, items_in, row_if, event_section, parent_word, is_type_line, is_relationship_line, is_object_line, is_plain_line, is_event_line, type_in, relationship_in, object_in, plain_in, event_in, row_in, only_end, body_in, rule_in, inside_in, in_order, entry_in}
 use Rattle.tokens.specs.Tokens.{found_at}
 use Rattle.brackets.specs.Whole.{WholeBody}

@@ -1,4 +1,6 @@
 // Text to tables. The whole text is looked through before a row is written.
+#![tactic(auto)]
+
 ghost use Rattle.std.specs.Prelude.{◌≡◌};
 ghost use Rattle.tables.specs.Layouts.{sheet_of, layouts, lines_lent};
 ghost use Rattle.tables.specs.Refusals.{not_whole};

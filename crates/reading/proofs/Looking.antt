@@ -8,16 +8,16 @@ use native.Mathlib.Numerals.{add-one}
 use native.Mathlib.Omega.{arith}
 use lib.Dec.{ltb, leb, eqb}
 use lib.ListN.{length, get_or, drop, set, replicate, length-append, length-drop, length-set, drop_of_length-le, get_or-append}
-use lib.Seq.{drop-drop, drop-nil, get_or-set_same, get_or-set_other, get_or-append-add}
+use lib.Seq.{drop-drop, get_or-set_same, get_or-set_other, get_or-append-add}
 use denote.Floats.{is_true}
-use borrow.Author.Tests.{not-true, not-false, leb-true, ltb-true, ltb-false, eqb-true, eqb-false, lt-ltb, le-ltb, eq-eqb, ne_eqb}
-use Rattle.meaning.specs.Limits.{max_types, max_forms}
+use borrow.Author.Tests.{not-true, leb-true, ltb-false, eqb-true, eqb-false, lt-ltb, le-ltb}
+use Rattle.meaning.specs.Limits.{max_forms}
 use Rattle.meaning.proofs.Lists.{every_get_d}
 use Rattle.lexical.specs.Lines.{is_inner, line_in, line_ended}
 use Rattle.lexical.proofs.Runs.{both, run_within}
 use Rattle.rows.specs.Rows.{word_at}
 use Rattle.text.specs.Names.{type_name, relationship_name, rule_name}
-use Rattle.text.specs.Bodies.{padded, forms_in}
+use Rattle.text.specs.Bodies.{padded}
 use Rattle.text.specs.Entries.{Entry, row, rule, section_of, entry_words, count_of, table_of, cells_in, last_section, entry_in}
 use Rattle.tables.specs.Layouts.{section_count, limit_of}
 use Rattle.text.specs.Texts.{max_text, too_long, no_room, Reading, taken, refused, entry_then, line_then, after_line, read_from, reading}
@@ -26,7 +26,7 @@ use Rattle.text.proofs.Determined.{last_one}
 use Rattle.text.proofs.Blocks.{count_append, table_append}
 use Rattle.line_reader.specs.declared.line.Row.{Row}
 use Rattle.reading.specs.declared.look.Seen.{Seen}
-use Rattle.line_reader.specs.Rows.{no_row, row_with, row_held, Follows}
+use Rattle.line_reader.specs.Rows.{row_held, Follows}
 use Rattle.line_reader.proofs.Flat.{value_padded}
 use Rattle.reading.specs.Looks.{Counted, refusal_number, refusal_line, Shown}
 

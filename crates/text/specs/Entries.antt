@@ -1,5 +1,5 @@
 -- The lines of the text as rows of tables: `(type n p c)`, `(floor t k)`, `(rel r s t)`, `(rule n t body)`, `(ent id t v..)`, `(link r a b)`, events.
-use Rattle.std.specs.Prelude.{ℕ, ◌+◌, ◌*◌, ◌-◌, ◌^◌, Bool, true, false, ◌&&◌, ◌||◌, cond, List, [], ◌∷◌, ◌++◌, ltb, leb, eqb, length, get_or, take, drop}
+use Rattle.std.specs.Prelude.{ℕ, ◌+◌, ◌-◌, ◌^◌, Bool, true, false, ◌&&◌, ◌||◌, cond, List, [], ◌∷◌, ◌++◌, ltb, leb, eqb, length, get_or, take, drop}
 use Rattle.std.proofs.Math.Option.{Option, none, some, bind, map}
 use Rattle.meaning.specs.Lists.{every, keep}
 use Rattle.meaning.specs.Limits.{cell_count}

@@ -1,5 +1,5 @@
 -- A whole text: its lines in order, each ended by byte 10, and the refusals that reading it meets, 1 and 2.
-use Rattle.std.specs.Prelude.{ℕ, zero, suc, ◌+◌, ◌-◌, min, Bool, false, ◌||◌, cond, List, [], ◌∷◌, ◌++◌, ltb, length, get_or, drop, replicate}
+use Rattle.std.specs.Prelude.{ℕ, zero, suc, ◌-◌, min, Bool, false, ◌||◌, cond, List, [], ◌∷◌, ◌++◌, ltb, length, get_or, drop, replicate}
 use Rattle.std.proofs.Math.Option.{Option, none, some}
 use Rattle.meaning.specs.Limits.{max_forms}
 use Rattle.tables.specs.Layouts.{limit_of}

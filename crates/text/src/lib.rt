@@ -1,3 +1,5 @@
+#![tactic(auto)]
+
 // Places among the text's names (specs/Names): the sections, whose places are their numbers, events from the last section's on, operators.
 pub const TYPE_SECTION: u32 = 0;
 

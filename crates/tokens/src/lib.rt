@@ -1,4 +1,6 @@
 // A line of the text by its bytes: names, tokens, and the items of a line without an inner bracket.
+#![tactic(auto)]
+
 ghost use Rattle.std.specs.Prelude.{◌≡◌, true, List, ℕ, ◌+◌, ◌-◌, ◌≤◌, ◌<◌, length, take, drop};
 ghost use Rattle.meaning.specs.Lists.{every};
 ghost use Rattle.text.specs.Names.{is_letter, letters_in, place_of};
