@@ -1,4 +1,6 @@
 // Whether the forms of a body are well typed. That asks nothing of the floors, so it is said of the schema without them.
+#![tactic(auto)]
+
 ghost use Rattle.std.specs.Prelude.{◌≡◌, ◌+◌, ◌≤◌, T, length, take, []};
 ghost use Rattle.meaning.specs.Forms.{collection};
 ghost use Rattle.tables.specs.Bodies.{reads, ending, whole_body};

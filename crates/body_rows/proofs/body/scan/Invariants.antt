@@ -1,9 +1,7 @@
 -- `body_rows::body::scan` meets its contract. The loop's invariant: the start and the mark of the form that ends before each row passed.
-use Prim.Native.Nat.{◌-◌, ◌≤◌, zero-le}
-use native.Mathlib.Nat.{le_trans}
-use native.Mathlib.Omega.{arith}
+use Prim.Native.Nat.{◌-◌, ◌≤◌}
 use Rattle.body_rows.specs.Marks.{body_of}
-use Rattle.body_rows.proofs.Kept.{Kept, kept_low, kept_parts, marked_parts, kept_none, kept_more}
+use Rattle.body_rows.proofs.Kept.{Kept}
 use Rattle.body_rows.proofs.body.scan.Given as goal
 
 abbrev pub invariant-loop-row : goal.invariant-loop-row

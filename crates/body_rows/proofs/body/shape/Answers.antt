@@ -1,5 +1,4 @@
 -- `body_rows::body::shape` meets its contract.
-use borrow.Author.Rules.{rules}
 use Rattle.body_rows.proofs.body.shape.Goals as goal
 
 pub returns : goal.returns

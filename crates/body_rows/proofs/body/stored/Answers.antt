@@ -1,5 +1,4 @@
 -- `body_rows::body::stored` meets its contract: antt computes that the table is that of the operators' shapes.
-use borrow.Author.Rules.{rules}
 use Rattle.tables.specs.Codes.{operators, shape_of}
 use Rattle.body_rows.proofs.Shapes.{shape_rows, shape_at}
 use Rattle.body_rows.proofs.body.stored.Goals as goal

@@ -3,7 +3,6 @@ use mathlib.Core.Path.{ap}
 use native.Mathlib.Omega.{arith}
 use lib.Dec.{eqb}
 use borrow.Author.Tests.{eq-eqb, ne_eqb, le-leb, lt-leb}
-use borrow.Author.Rules.{rules}
 use Rattle.body_rows.specs.Marks.{body_of}
 use Rattle.body_rows.proofs.Marks.{fields_test_lem}
 use Rattle.body_rows.proofs.body.unused.Goals as goal
