@@ -18,6 +18,10 @@ DECLARED = re.compile(r"^\s*(?:abbrev\s+|unfoldable\s+|pub\s+)*(" + NAME + r")\s
 BOUND = [re.compile(r"\blet\s+(" + NAME + r")\s*[:=]"), re.compile(r"[({]((?:" + NAME + r"\s+)*" + NAME + r")\s*:\s")]
 
 
+# constructors that share a line, and parameters that share brackets
+MORE = ["specialOf", "insertOf", "generalOf", "deleteOf", "replaceAt", "specialisedInto", "joinedBy", "partedBy", "generalisedFrom", "insertedInto", "linkCount", "underType", "floorCount", "ruleCount", "eventCount", "quantifiedBy"]
+
+
 def texts():
     for folder, dirs, files in os.walk("crates"):
         dirs[:] = sorted(d for d in dirs if d != "out")
@@ -68,6 +72,7 @@ def turns():
             others = [o for o in names if o != n]
             lemma = "-" in n and bool(others)
             turn[n] = to + "_lem" if lemma or to in library else to
+    turn |= {n: snake(n) for n in MORE}
     # a lemma that the kit's script has respelled to what a definition is called from here on
     apart = {to for to, names in alike.items() if to in names and to[0].islower() and any(re.search("[a-z0-9][A-Z]", n) for n in names)}
     return turn, apart

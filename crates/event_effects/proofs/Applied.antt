@@ -9,7 +9,7 @@ use native.Mathlib.Nat.{le_trans, zero-add}
 use native.Mathlib.Omega.{arith}
 use lib.Dec.{T, ltb, eqb}
 use lib.IntN.{ℤ, pos}
-use lib.ListN.{length, get_or, take, replicate, set as replaceAt}
+use lib.ListN.{length, get_or, take, replicate, set as replace_at}
 use lib.Seq.{get_or-set_other}
 use mir.Facts.{eqb_yes, yes_eqb, ltb_yes, ltb_no, T_not}
 use Rattle.meaning.specs.Lists.{same_list}
@@ -171,7 +171,7 @@ module _ (S : Schema) (n : ℕ) (objects : List ℕ) (id : ℕ) where
         other : (c : ℕ) → (c ≡ 2 + cell → ⊥) → word_at (with_word objects 10 r (2 + cell) word) 10 r c ≡ word_at objects 10 r c
         other = put_other (2 + cell) word column
 
-        cells : cells_at (with_word objects 10 r (2 + cell) word) r ≡ replaceAt (cells_at objects r) cell (signed word)
+        cells : cells_at (with_word objects 10 r (2 + cell) word) r ≡ replace_at (cells_at objects r) cell (signed word)
         cells =
             rows_set (λ k. signed (word_at objects 10 r (2 + k))) (λ k. signed (word_at (with_word objects 10 r (2 + cell) word) 10 r (2 + k))) (signed word) cell 0 cell_count h
             (ap (λ k. signed (word_at (with_word objects 10 r (2 + cell) word) 10 r (2 + k))) (zero-add cell) ∙ ap signed (put_own (2 + cell) word column))

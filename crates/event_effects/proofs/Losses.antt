@@ -10,7 +10,7 @@ use native.Mathlib.Numerals.{add-one}
 use native.Mathlib.Omega.{arith}
 use lib.Ieee.Bits.{is_true, is_false}
 use lib.Dec.{T, ltb, eqb}
-use lib.ListN.{length, get_or, set as replaceAt, length-set, length-append}
+use lib.ListN.{length, get_or, set as replace_at, length-set, length-append}
 use lib.Seq.{get_or-set_same, get_or-set_other, sets, length-sets}
 use mir.Facts.{not_T, and_yes, yes_and, or_yes, eqb_yes, yes_eqb, eqb_no, no_eqb, ltb_yes, yes_ltb, ltb_no}
 use Rattle.meaning.specs.Lists.{any, every, keep, ◌∈◌}
@@ -246,7 +246,7 @@ words_long (x ∷ more) = omega (arith, words_long more)
 sets_append : (l : List ℕ) (i : ℕ) (a b : List ℕ) → sets l i (a ++ b) ≡ sets (sets l i a) (i + length a) b
 sets_append l i [] b = ap (λ n. sets l n b) (sym (add-zero i))
 sets_append l i (x ∷ a) b =
-    sets_append (replaceAt l i x) (suc i) a b ∙ ap (λ n. sets (sets (replaceAt l i x) (suc i) a) n b) (let e : suc i + length a ≡ i + suc (length a) = omega arith in e)
+    sets_append (replace_at l i x) (suc i) a b ∙ ap (λ n. sets (sets (replace_at l i x) (suc i) a) n b) (let e : suc i + length a ≡ i + suc (length a) = omega arith in e)
 
 pub flat_append : {A B : Type 0} (f : A → List B) (a b : List A) → flat_map f (a ++ b) ≡ flat_map f a ++ flat_map f b
 unfolding flat_map
@@ -261,19 +261,19 @@ table_append losses k a b =
 -- one row more
 module _ (losses : List ℕ) (k role other : ℕ) (h : k * 2 + 2 ≤ length losses) where
   abbrev grown : List ℕ
-  grown = replaceAt (replaceAt losses (k * 2) role) (suc (k * 2)) other
+  grown = replace_at (replace_at losses (k * 2) role) (suc (k * 2)) other
 
   own_role_lem : word_at grown 2 k 0 ≡ role
   own_role_lem =
-      ap (λ i. get_or grown i 0) (omega arith) ∙ get_or-set_other (replaceAt losses (k * 2) role) (suc (k * 2)) (k * 2) other 0 (λ e. omega arith)
+      ap (λ i. get_or grown i 0) (omega arith) ∙ get_or-set_other (replace_at losses (k * 2) role) (suc (k * 2)) (k * 2) other 0 (λ e. omega arith)
       ∙ get_or-set_same losses (k * 2) role 0 (omega arith)
 
   own_id : word_at grown 2 k 1 ≡ other
-  own_id = ap (λ i. get_or grown i 0) (add-one (k * 2)) ∙ get_or-set_same (replaceAt losses (k * 2) role) (suc (k * 2)) other 0 (omega (arith, length-set losses (k * 2) role))
+  own_id = ap (λ i. get_or grown i 0) (add-one (k * 2)) ∙ get_or-set_same (replace_at losses (k * 2) role) (suc (k * 2)) other 0 (omega (arith, length-set losses (k * 2) role))
 
   earlier : (j c : ℕ) → j < k → c < 2 → word_at grown 2 j c ≡ word_at losses 2 j c
   earlier j c l b =
-      get_or-set_other (replaceAt losses (k * 2) role) (suc (k * 2)) (j * 2 + c) other 0 (λ e. omega arith)
+      get_or-set_other (replace_at losses (k * 2) role) (suc (k * 2)) (j * 2 + c) other 0 (λ e. omega arith)
       ∙ get_or-set_other losses (k * 2) (j * 2 + c) role 0 (λ e. omega arith)
 
   same_below : (n : ℕ) → n ≤ k → (r u : ℕ) → lost_in grown n r u ≡ lost_in losses n r u
@@ -327,9 +327,9 @@ unfolding flat_map
 none_added {k} = record { count_is = sym (add-zero k); losses_are = refl }
 
 -- one, by its two words
-pub one_added : {role from k : ℕ} {losses : List ℕ} → LossesAdded (loss role from) k losses (k + 1) (replaceAt (replaceAt losses (k * 2) role) (k * 2 + 1) from)
+pub one_added : {role from k : ℕ} {losses : List ℕ} → LossesAdded (loss role from) k losses (k + 1) (replace_at (replace_at losses (k * 2) role) (k * 2 + 1) from)
 unfolding flat_map
-one_added {role} {from} {k} {losses} = record { count_is = refl; losses_are = ap (λ n. replaceAt (replaceAt losses (k * 2) role) n from) (add-one (k * 2)) }
+one_added {role} {from} {k} {losses} = record { count_is = refl; losses_are = ap (λ n. replace_at (replace_at losses (k * 2) role) n from) (add-one (k * 2)) }
 
 -- what was added first, and then
 pub both_added : {a b : List Loss} {k : ℕ} {losses : List ℕ} {k' : ℕ} {losses' : List ℕ} {k'' : ℕ} {losses'' : List ℕ} → LossesAdded a k losses k' losses' → LossesAdded b k' losses' k'' losses''

@@ -8,7 +8,7 @@ use native.Mathlib.Omega.{arith}
 use borrow.Author.Tests.{eq-eqb, ne_eqb}
 use lib.Dec.{lit<, lit≤}
 use lib.ListN.{length, get_or, length-append}
-use Rattle.meaning.specs.EventList.{EventType, insertOf, deleteOf, set_of, join_of, part_of, specialOf, generalOf, event_type_words}
+use Rattle.meaning.specs.EventList.{EventType, insert_of, delete_of, set_of, join_of, part_of, special_of, general_of, event_type_words}
 use Rattle.rows.specs.Rows.{word_at, in_front}
 use Rattle.lexical.specs.Decimals.{digits_of}
 use Rattle.text.specs.Names.{names, name_of, first_event}
@@ -122,33 +122,33 @@ module _ (rule : ℕ) (list : List ℕ) (fits : rule < 2 ^ 32) (words : (k : ℕ
 
 three : (e : EventType) → length (event_type_words e) ≡ 3
 unfolding event_type_words
-three (insertOf t) = refl
-three (deleteOf t) = refl
+three (insert_of t) = refl
+three (delete_of t) = refl
 three (set_of t k) = refl
 three (join_of r) = refl
 three (part_of r) = refl
-three (specialOf t) = refl
-three (generalOf t) = refl
+three (special_of t) = refl
+three (general_of t) = refl
 
 type_back : (e : EventType) → event_type_of (get_or (event_type_words e) 0 0) (get_or (event_type_words e) 1 0) (get_or (event_type_words e) 2 0) ≡ e
 unfolding event_type_words event_type_of
-type_back (insertOf t) = refl
-type_back (deleteOf t) = refl
+type_back (insert_of t) = refl
+type_back (delete_of t) = refl
 type_back (set_of t k) = refl
 type_back (join_of r) = refl
 type_back (part_of r) = refl
-type_back (specialOf t) = refl
-type_back (generalOf t) = refl
+type_back (special_of t) = refl
+type_back (general_of t) = refl
 
 type_kind : (e : EventType) → get_or (event_type_words e) 0 0 < 7
 unfolding event_type_words
-type_kind (insertOf t) = lit< tt
-type_kind (deleteOf t) = lit< tt
+type_kind (insert_of t) = lit< tt
+type_kind (delete_of t) = lit< tt
 type_kind (set_of t k) = lit< tt
 type_kind (join_of r) = lit< tt
 type_kind (part_of r) = lit< tt
-type_kind (specialOf t) = lit< tt
-type_kind (generalOf t) = lit< tt
+type_kind (special_of t) = lit< tt
+type_kind (general_of t) = lit< tt
 
 module _ (es : List EventType) (list before : List ℕ) (e : list ≡ in_front (flat_map event_type_words es) before) where
   pub types_back : event_types_in list (length es) ≡ es

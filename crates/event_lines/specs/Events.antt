@@ -3,7 +3,7 @@
 use Rattle.std.specs.Prelude.{ℕ, zero, suc, ◌+◌, ◌*◌, cond, eqb}
 use mathlib.Core.List.{List, [], ◌∷◌, ◌++◌, flat_map}
 use Rattle.meaning.specs.Reach.{inserts, deletes, sets, joins, parts, specials, generals, kind_place}
-use Rattle.meaning.specs.EventList.{EventType, insertOf, deleteOf, set_of, join_of, part_of, specialOf, generalOf}
+use Rattle.meaning.specs.EventList.{EventType, insert_of, delete_of, set_of, join_of, part_of, special_of, general_of}
 use Rattle.rows.specs.Rows.{word_at, read_rows}
 use Rattle.text.specs.Names.{name_of, first_event}
 use Rattle.printing.specs.Lines.{spaced}
@@ -16,13 +16,13 @@ unfoldable pub kind_shown : ℕ → List ℕ → List ℕ
 kind_shown kind ns = (32 ∷ name_of (first_event + kind)) ++ spaced ns
 
 unfoldable pub event_shown : EventType → List ℕ
-event_shown (insertOf t) = kind_shown (kind_place inserts) (t ∷ [])
-event_shown (deleteOf t) = kind_shown (kind_place deletes) (t ∷ [])
+event_shown (insert_of t) = kind_shown (kind_place inserts) (t ∷ [])
+event_shown (delete_of t) = kind_shown (kind_place deletes) (t ∷ [])
 event_shown (set_of t k) = kind_shown (kind_place sets) (t ∷ k ∷ [])
 event_shown (join_of r) = kind_shown (kind_place joins) (r ∷ [])
 event_shown (part_of r) = kind_shown (kind_place parts) (r ∷ [])
-event_shown (specialOf t) = kind_shown (kind_place specials) (t ∷ [])
-event_shown (generalOf t) = kind_shown (kind_place generals) (t ∷ [])
+event_shown (special_of t) = kind_shown (kind_place specials) (t ∷ [])
+event_shown (general_of t) = kind_shown (kind_place generals) (t ∷ [])
 
 unfoldable pub events_shown : List EventType → List ℕ
 unfolding flat_map
@@ -38,13 +38,13 @@ cell_shown kind cell = cond (eqb kind (kind_place sets)) (cell ∷ []) []
 -- ---- "three 16-bit words each: place in that order from 0, type or relationship, cell or 0"
 
 unfoldable pub event_type_of : ℕ → ℕ → ℕ → EventType
-event_type_of zero x k = insertOf x
-event_type_of (suc zero) x k = deleteOf x
+event_type_of zero x k = insert_of x
+event_type_of (suc zero) x k = delete_of x
 event_type_of (suc (suc zero)) x k = set_of x k
 event_type_of (suc (suc (suc zero))) x k = join_of x
 event_type_of (suc (suc (suc (suc zero)))) x k = part_of x
-event_type_of (suc (suc (suc (suc (suc zero))))) x k = specialOf x
-event_type_of (suc (suc (suc (suc (suc (suc kind)))))) x k = generalOf x
+event_type_of (suc (suc (suc (suc (suc zero))))) x k = special_of x
+event_type_of (suc (suc (suc (suc (suc (suc kind)))))) x k = general_of x
 
 abbrev pub event_type_in : List ℕ → ℕ → EventType
 event_type_in list i = event_type_of (word_at list 3 i 0) (word_at list 3 i 1) (word_at list 3 i 2)

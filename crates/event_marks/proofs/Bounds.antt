@@ -15,7 +15,7 @@ use Rattle.meaning.specs.Limits.{max_types, max_relationships, max_forms, cell_c
 use Rattle.meaning.specs.Schema.{ObjectType, Relationship, Schema, known_type, known_relationship, known_role, type_at, cells_of, has_parent, under, relationship_of, forward, relationship_at, source_type, target_type, near_type, far_type, faulty_relationship, type_fault, floor_fault, relationship_fault}
 use Rattle.meaning.specs.Forms.{Sort, Form, compare, negate, connect, quantify, kind, num, cell, size, sum, combine, role, all, select, bind, variable, member_type, well_typed, form_count, Rule, Book, faulty_rule, rule_fault}
 use Rattle.meaning.specs.Reach.{Direction, up, down, opposite, Passing, same, reversed, either, through, left_of, right_of, negated, first_truth, second_truth, source_of, chosen_from, first_term, second_term, sum_source, floored_sum, quiet_insert, quiet_special}
-use Rattle.meaning.specs.EventList.{EventType, insertOf, deleteOf, set_of, join_of, part_of, specialOf, generalOf, event_type_words, where_parent, role_lists, all_lists, kind_lists, lists, context_lists, event_list}
+use Rattle.meaning.specs.EventList.{EventType, insert_of, delete_of, set_of, join_of, part_of, special_of, general_of, event_type_words, where_parent, role_lists, all_lists, kind_lists, lists, context_lists, event_list}
 use Rattle.meaning.specs.Answers.{refusal_at, book_refusal}
 use Rattle.meaning.proofs.Lists.{decide, first_of_none, every_at, every_append}
 use Rattle.meaning.proofs.Order.{put_from, fault_none}
@@ -103,17 +103,17 @@ module _ (S : Schema) (few_types : length S.types ≤ max_types) (few_relationsh
   role_placed r h up = one_placed (join_of (relationship_of r)) (number (relationship_of r) (few_role r h))
   role_placed r h down =
       let far = far_type S.relationships r in
-      yes_and (placed (part_of (relationship_of r))) _ (number (relationship_of r) (few_role r h)) (one_placed (deleteOf far) (number far (few far (far_types r h))))
+      yes_and (placed (part_of (relationship_of r))) _ (number (relationship_of r) (few_role r h)) (one_placed (delete_of far) (number far (few far (far_types r h))))
 
   kind_placed : (t : ℕ) → T (known_type S.types t) → (d : Direction) → Placed (kind_lists S t d)
   unfolding kind_lists event_type_words
-  kind_placed t h up = parent_placed S t (specialOf t) (number t (few t h))
-  kind_placed t h down = parent_placed S t (generalOf t) (number t (few t h))
+  kind_placed t h up = parent_placed S t (special_of t) (number t (few t h))
+  kind_placed t h down = parent_placed S t (general_of t) (number t (few t h))
 
   all_placed : (t : ℕ) → T (known_type S.types t) → (d : Direction) → Placed (all_lists S t d)
   unfolding all_lists kind_lists event_type_words
-  all_placed t h up = yes_and (placed (insertOf t)) _ (number t (few t h)) (kind_placed t h up)
-  all_placed t h down = yes_and (placed (deleteOf t)) _ (number t (few t h)) (kind_placed t h down)
+  all_placed t h up = yes_and (placed (insert_of t)) _ (number t (few t h)) (kind_placed t h up)
+  all_placed t h down = yes_and (placed (delete_of t)) _ (number t (few t h)) (kind_placed t h down)
 
   -- a type that the schema lacks has no cell
   celled : (t k : ℕ) → T (ltb k (cells_of S.types t)) → t < 32
@@ -189,10 +189,10 @@ module _ (S : Schema) (few_types : length S.types ≤ max_types) (few_relationsh
   context_placed r h =
       let t = r.context in
       let known = number t (few t h) in
-      let into = insertOf t ∷ [] in
-      let below = where_parent S t (specialOf t) in
+      let into = insert_of t ∷ [] in
+      let below = where_parent S t (special_of t) in
       both_placed (cond (quiet_insert S r) [] into) (cond (quiet_special S r) [] below)
-      (unless_placed (quiet_insert S r) into (one_placed (insertOf t) known)) (unless_placed (quiet_special S r) below (parent_placed S t (specialOf t) known))
+      (unless_placed (quiet_insert S r) into (one_placed (insert_of t) known)) (unless_placed (quiet_special S r) below (parent_placed S t (special_of t) known))
 
   -- what is put in order was there before
   sorted_from : (l : List EventType) {e : EventType} → e ∈ foldr (put_in_order event_type_words) [] l → e ∈ l

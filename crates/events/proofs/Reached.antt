@@ -7,7 +7,7 @@ use mathlib.Core.Option.{Option, none, some}
 use native.Mathlib.Nat.{sub-zero}
 use native.Mathlib.Numerals.{add-one}
 use native.Mathlib.Omega.{arith}
-use lib.ListN.{length, get_or, take, drop, set as replaceAt, replicate, length-set, length-replicate, take-append-drop, get_or-append}
+use lib.ListN.{length, get_or, take, drop, set as replace_at, replicate, length-set, length-replicate, take-append-drop, get_or-append}
 use lib.Seq.{length-take-le, take-suc-set, drop-set-lt, drop-drop, get_or-take}
 use borrow.Author.Tests.{le-leb}
 use Rattle.meaning.specs.Limits.{max_objects, max_links, max_events}
@@ -155,7 +155,7 @@ module _ (S : Schema) (lent : Lent) (start : Register) (read : ℕ → Event) (c
 
     -- past an event that has its effect
     pub reached_more : row < count → event_refusal S lent here (read row) ≡ none → {n' : ℕ} {objects' : List ℕ} {m' : ℕ} {links' : List ℕ} → Applied S (read row) n objects m links n' objects' m' links'
-        → {seen : ℕ} → seen ≡ met_type here (read row) → Reached (row + 1) n' objects' m' links' (replaceAt met row seen)
+        → {seen : ℕ} → seen ≡ met_type here (read row) → Reached (row + 1) n' objects' m' links' (replace_at met row seen)
     unfolding after steps_of
     reached_more h ok {n'} {objects'} {m'} {links'} a {seen} q =
         rw (add-one row)

@@ -8,7 +8,7 @@ use borrow.Author.Tests.{eqb-true}
 use Rattle.meaning.specs.Reach.{Change, Direction, up, down, role_moves, all_moves, cell_moves, kind_moves, specialised}
 use Rattle.directions.specs.Sets.{has, some_of}
 use Rattle.walks.specs.Site.{id_in}
-use Rattle.trace_places.specs.Questions.{asked, cell_set, joinedBy, partedBy, specialisedInto, generalisedFrom}
+use Rattle.trace_places.specs.Questions.{asked, cell_set, joined_by, parted_by, specialised_into, generalised_from}
 use Rattle.reach.proofs.Leaves.{asked_set, asked_joined, asked_parted, asked_specialised, asked_generalised}
 use Rattle.reach.proofs.Nodes.{always}
 use Rattle.going_back.specs.Back.{leaf_reached, Covered}
@@ -59,14 +59,14 @@ module _ (c : Change) (x y set : ℕ) (some_set : 0 < set) (small : set < 4) (ob
       coded e
       (covered_as (λ v u. sym (always set (eqb v x && cell_moves c u y) some_set small)) (at_variable (λ u. cell_moves c u y) (λ row h t. put row h (asked_set c (id_in objects row) y ∙ t))))
 
-  pub leaf_role : {code : ℕ} → code ≡ 20 → Put (λ u. (has set up && asked c (joinedBy y) u) || (has set down && asked c (partedBy y) u)) → Reached code false
+  pub leaf_role : {code : ℕ} → code ≡ 20 → Put (λ u. (has set up && asked c (joined_by y) u) || (has set down && asked c (parted_by y) u)) → Reached code false
   unfolding leaf_reached
   leaf_role e put =
-      coded e (both_ways (role_moves c y) (asked c (joinedBy y)) (asked c (partedBy y)) (λ u t. asked_joined c u y ∙ t) (λ u t. asked_parted c u y ∙ t) put)
+      coded e (both_ways (role_moves c y) (asked c (joined_by y)) (asked c (parted_by y)) (λ u t. asked_joined c u y ∙ t) (λ u t. asked_parted c u y ∙ t) put)
 
   -- of a special, whether its object is there at the end is not asked
-  pub leaf_kind : {code : ℕ} → code ≡ 13 → Put (λ u. (has set up && asked c (specialisedInto y) u) || (has set down && asked c (generalisedFrom y) u)) → Reached code false
+  pub leaf_kind : {code : ℕ} → code ≡ 13 → Put (λ u. (has set up && asked c (specialised_into y) u) || (has set down && asked c (generalised_from y) u)) → Reached code false
   unfolding leaf_reached kind_moves
   leaf_kind e put =
       coded e
-      (both_ways (λ u. kind_moves c u y) (asked c (specialisedInto y)) (asked c (generalisedFrom y)) (λ u t. asked_specialised c u y ∙ (both_true (specialised c u y) _ t).0) (λ u t. asked_generalised c u y ∙ t) put)
+      (both_ways (λ u. kind_moves c u y) (asked c (specialised_into y)) (asked c (generalised_from y)) (λ u t. asked_specialised c u y ∙ (both_true (specialised c u y) _ t).0) (λ u t. asked_generalised c u y ∙ t) put)

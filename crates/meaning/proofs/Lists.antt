@@ -9,7 +9,7 @@ use mathlib.Core.Option
 use mathlib.Core.Option.{Option, none, some, none-ne-some, some-injective}
 use native.Mathlib.Nat.{le_trans, le-suc}
 use lib.Dec.{T}
-use lib.ListN.{length, get_or, take, drop, replicate, get_elem?, set as replaceAt}
+use lib.ListN.{length, get_or, take, drop, replicate, get_elem?, set as replace_at}
 use mir.Facts.{and_yes, yes_and, or_yes, T_not, not_T}
 use Rattle.meaning.specs.Lists.{◌∈◌, any, every, keep, first, holds, first_of, Ascending}
 
@@ -300,10 +300,10 @@ module _ {A : Type 0} (p : A → Bool) where
   every_replicate zero x t = tt
   every_replicate (suc n) x t = yes_and (p x) (every p (replicate n x)) t (every_replicate n x t)
 
-  pub every_set : (l : List A) (i : ℕ) (x : A) → T (p x) → T (every p l) → T (every p (replaceAt l i x))
+  pub every_set : (l : List A) (i : ℕ) (x : A) → T (p x) → T (every p l) → T (every p (replace_at l i x))
   every_set [] i x u t = tt
   every_set (y ∷ ys) zero x u t = yes_and (p x) (every p ys) u (and_yes (p y) (every p ys) t).1
-  every_set (y ∷ ys) (suc i) x u t = let h = and_yes (p y) (every p ys) t in yes_and (p y) (every p (replaceAt ys i x)) h.0 (every_set ys i x u h.1)
+  every_set (y ∷ ys) (suc i) x u t = let h = and_yes (p y) (every p ys) t in yes_and (p y) (every p (replace_at ys i x)) h.0 (every_set ys i x u h.1)
 
 module _ {A : Type 0} where
   -- the only element that passes the test is the first

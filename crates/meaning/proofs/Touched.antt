@@ -17,7 +17,7 @@ use Rattle.meaning.specs.Events.{Event, insert, delete, set, join, part, special
 use Rattle.meaning.specs.Reach.{Step, step_at, Change, some_step, Kind, inserts, sets, joins, parts, specials, generals, among, part_named, leads_to, taken, sets_cell, inserts_into, specialises_into, deletes_from, generalises_from, anyone, Direction, up, down, opposite, Passing, same}
 use Rattle.meaning.specs.Reach.{reversed, either, through, left_of, right_of, negated, first_truth, second_truth, source_of, chosen_from, first_term, second_term, sum_source, floored_sum, role_moves, all_moves, cell_moves, kind_moves, moves}
 use Rattle.meaning.specs.Reach.{quiet_insert, quiet_special, inserted, specialised, brought_in, events_select, inspection, selected}
-use Rattle.meaning.specs.EventList.{EventType, insertOf, deleteOf, set_of, join_of, part_of, specialOf, generalOf, event_type_words, where_parent, role_lists, all_lists, kind_lists, lists, context_lists, event_list, occurs, touched}
+use Rattle.meaning.specs.EventList.{EventType, insert_of, delete_of, set_of, join_of, part_of, special_of, general_of, event_type_words, where_parent, role_lists, all_lists, kind_lists, lists, context_lists, event_list, occurs, touched}
 use Rattle.meaning.proofs.Lists.{holds_some, or_left, or_right, decide, cond_yes, cond_no, any_of, any_cases, keep_from}
 use Rattle.meaning.proofs.Order.{put_other, put_has, put_ascending}
 use Rattle.meaning.proofs.Schemas.{TypesFit, under_refl, under_linear, under_top}
@@ -90,28 +90,28 @@ module _ (S : Schema) (g : Register) where
 of_words : List ℕ → EventType
 of_words w =
     let t = get_or w 1 0 in
-    let kinds = insertOf t ∷ deleteOf t ∷ set_of t (get_or w 2 0) ∷ join_of t ∷ part_of t ∷ specialOf t ∷ generalOf t ∷ [] in
-    get_or kinds (get_or w 0 0) (insertOf t)
+    let kinds = insert_of t ∷ delete_of t ∷ set_of t (get_or w 2 0) ∷ join_of t ∷ part_of t ∷ special_of t ∷ general_of t ∷ [] in
+    get_or kinds (get_or w 0 0) (insert_of t)
 
 of_words_lem : (e : EventType) → of_words (event_type_words e) ≡ e
 unfolding of_words event_type_words
-of_words_lem (insertOf t) = refl
-of_words_lem (deleteOf t) = refl
+of_words_lem (insert_of t) = refl
+of_words_lem (delete_of t) = refl
 of_words_lem (set_of t k) = refl
 of_words_lem (join_of r) = refl
 of_words_lem (part_of r) = refl
-of_words_lem (specialOf t) = refl
-of_words_lem (generalOf t) = refl
+of_words_lem (special_of t) = refl
+of_words_lem (general_of t) = refl
 
 pub three_words : (e : EventType) → length (event_type_words e) ≡ 3
 unfolding event_type_words
-three_words (insertOf t) = refl
-three_words (deleteOf t) = refl
+three_words (insert_of t) = refl
+three_words (delete_of t) = refl
 three_words (set_of t k) = refl
 three_words (join_of r) = refl
 three_words (part_of r) = refl
-three_words (specialOf t) = refl
-three_words (generalOf t) = refl
+three_words (special_of t) = refl
+three_words (general_of t) = refl
 
 placed_ascends : (l : List EventType) → Ascending (Before event_type_words) (foldr (put_in_order event_type_words) [] l)
 placed_ascends [] = tt
@@ -229,17 +229,17 @@ module _ (c : Change) where
   selecting_cases r s = and_yes (is_under types c.end s r.context) (moves c r.body (s ∷ []) down || brought_in c r s)
 
   module _ (types_fit : TypesFit types) (end_fits : RegisterFits S c.end) (steps_fit : StepsFit c) where
-    special_listed : (t : ℕ) → T (occurs c (specialOf t)) → T (occur (where_parent S t (specialOf t)))
+    special_listed : (t : ℕ) → T (occurs c (special_of t)) → T (occur (where_parent S t (special_of t)))
     unfolding occurs
     special_listed t h =
         let s = step_of (specialises_into types t anyone) h in
-        where_parent_lem t (specialOf t) (special_parent S types_fit t s.0.met s.0.event (steps_fit s.0 s.1).0 s.2) h
+        where_parent_lem t (special_of t) (special_parent S types_fit t s.0.met s.0.event (steps_fit s.0 s.1).0 s.2) h
 
-    general_listed : (t : ℕ) → T (occurs c (generalOf t)) → T (occur (where_parent S t (generalOf t)))
+    general_listed : (t : ℕ) → T (occurs c (general_of t)) → T (occur (where_parent S t (general_of t)))
     unfolding occurs
     general_listed t h =
         let s = step_of (generalises_from types t anyone) h in
-        where_parent_lem t (generalOf t) (general_parent S types_fit t s.0.met s.0.event (steps_fit s.0 s.1).0 s.2) h
+        where_parent_lem t (general_of t) (general_parent S types_fit t s.0.met s.0.event (steps_fit s.0 s.1).0 s.2) h
 
     -- a delete that takes a link of a role takes an object out of the role's far type
     taken_out : (r u : ℕ) (s : Step) → RegisterFits S s.met → (e : Event) → T (taken r u (step_at s.met e)) → T (deletes_from types (far_type relationships r) anyone (step_at s.met e))
@@ -277,12 +277,12 @@ module _ (c : Change) where
     unfolding all_moves all_lists occurs
     all_listed t up h =
         let there : ℕ → Bool = λ x. is_under types c.end x t in
-        occur_either (some_step c (inserts_into types t there)) (some_step c (specialises_into types t there)) (insertOf t ∷ []) (where_parent S t (specialOf t))
-        (λ i. one_listed (insertOf t) (some_anyone inserts (λ x' x'' x3 x4. under types x3 t) there i)) (λ i. special_listed t (some_anyone specials (λ x' x'' x3 x4. under types x3 t && not (is_under types x'.met x'' t)) there i))
+        occur_either (some_step c (inserts_into types t there)) (some_step c (specialises_into types t there)) (insert_of t ∷ []) (where_parent S t (special_of t))
+        (λ i. one_listed (insert_of t) (some_anyone inserts (λ x' x'' x3 x4. under types x3 t) there i)) (λ i. special_listed t (some_anyone specials (λ x' x'' x3 x4. under types x3 t && not (is_under types x'.met x'' t)) there i))
         (some_either (inserts_into types t there) (specialises_into types t there) h)
     all_listed t down h =
-        occur_either (occurs c (deleteOf t)) (occurs c (generalOf t)) (deleteOf t ∷ []) (where_parent S t (generalOf t))
-        (one_listed (deleteOf t)) (general_listed t)
+        occur_either (occurs c (delete_of t)) (occurs c (general_of t)) (delete_of t ∷ []) (where_parent S t (general_of t))
+        (one_listed (delete_of t)) (general_listed t)
         (some_either (deletes_from types t anyone) (generalises_from types t anyone) h)
 
     kind_listed : (u t : ℕ) (d : Direction) → T (kind_moves c u t d) → T (occur (kind_lists S t d))
@@ -350,10 +350,10 @@ module _ (c : Change) where
     unfolding brought_in context_lists inserted specialised occurs
     context_listed r s =
         let t = r.context in
-        let into = insertOf t ∷ [] in
-        let below = where_parent S t (specialOf t) in
+        let into = insert_of t ∷ [] in
+        let below = where_parent S t (special_of t) in
         occur_either (inserted c s t && not (quiet_insert S r)) (specialised c s t && not (quiet_special S r)) (cond (quiet_insert S r) [] into) (cond (quiet_special S r) [] below)
-        (unless_quiet (inserted c s t) (quiet_insert S r) into (λ h. one_listed (insertOf t) (some_anyone inserts (λ x' x'' x3 x4. under c.schema.types x3 r.context) (eqb s) h)))
+        (unless_quiet (inserted c s t) (quiet_insert S r) into (λ h. one_listed (insert_of t) (some_anyone inserts (λ x' x'' x3 x4. under c.schema.types x3 r.context) (eqb s) h)))
         (unless_quiet (specialised c s t) (quiet_special S r) below (λ h. special_listed t (some_anyone specials (λ x' x'' x3 x4. under c.schema.types x3 r.context && not (is_under c.schema.types x'.met x'' r.context)) (eqb s) h)))
 
     selecting_touched : (r : Rule) → T (well_typed S (r.context ∷ []) r.body) → (s : ℕ) → T (events_select c r s) → T (touched c r)

@@ -9,7 +9,7 @@ use Rattle.meaning.specs.Register.{Object, Link, Register}
 use Rattle.meaning.specs.Forms.{truth, le, ge, gt, and, or, forall, exists, add, Form, compare, connect, quantify, kind, num, cell, size, sum, combine, role, all, select, Rule, Book}
 use Rattle.meaning.specs.Events.{Event, insert, delete, set, join, part, special, general, Lent, link_of, Refusal}
 use Rattle.meaning.specs.Reach.{Pair, pair_of}
-use Rattle.meaning.specs.EventList.{EventType, insertOf, deleteOf, set_of, join_of, part_of, specialOf, event_list}
+use Rattle.meaning.specs.EventList.{EventType, insert_of, delete_of, set_of, join_of, part_of, special_of, event_list}
 use Rattle.meaning.specs.Answers.{Answer, accepted, broken_at, refused, book_refusal, Outcome, batch_check}
 
 -- ---- what a case gives and what it must show
@@ -250,7 +250,7 @@ abbrev faulty_book : List Floor → ℕ → Case
 faulty_book floors place =
     record {
       given = rule_for (record { types = top 2 ∷ below 0 2 ∷ []; floors = floors; relationships = from_to 0 1 ∷ from_to 0 2 ∷ [] }) always;
-      expected = listing (some (record { number = 3; place = place })) (insertOf 0 ∷ []);
+      expected = listing (some (record { number = 3; place = place })) (insert_of 0 ∷ []);
     }
 
 -- ---- fewer looks after a special (Req 06)
@@ -319,10 +319,10 @@ table =
     ∷ case_a (join 0 10 20 ∷ []) (refused 9 0) [] register_a
     -- (j) to (m), and NotTooPendingSales
     ∷ case_of valid_ship_date (set_of 0 1 ∷ set_of 1 0 ∷ join_of 0 ∷ [])
-    ∷ case_of correct_product (insertOf 2 ∷ set_of 2 0 ∷ set_of 2 1 ∷ [])
-    ∷ case_of at_least_three_customers (insertOf 4 ∷ deleteOf 5 ∷ part_of 1 ∷ [])
-    ∷ case_of number_of_restricted_products (insertOf 3 ∷ specialOf 3 ∷ [])
-    ∷ case_of not_too_pending_sales (deleteOf 0 ∷ set_of 0 0 ∷ set_of 0 1 ∷ set_of 4 0 ∷ join_of 1 ∷ join_of 2 ∷ part_of 2 ∷ [])
+    ∷ case_of correct_product (insert_of 2 ∷ set_of 2 0 ∷ set_of 2 1 ∷ [])
+    ∷ case_of at_least_three_customers (insert_of 4 ∷ delete_of 5 ∷ part_of 1 ∷ [])
+    ∷ case_of number_of_restricted_products (insert_of 3 ∷ special_of 3 ∷ [])
+    ∷ case_of not_too_pending_sales (delete_of 0 ∷ set_of 0 0 ∷ set_of 0 1 ∷ set_of 4 0 ∷ join_of 1 ∷ join_of 2 ∷ part_of 2 ∷ [])
     -- beyond (m)
     ∷ case_by schema_a select_rule register_a (insert 12 0 ∷ []) accepted (pair_of 0 12 ∷ []) with_twelve
     ∷ case_by schema_k kind_rule register_k (general 10 0 ∷ special 10 1 ∷ []) accepted (pair_of 0 10 ∷ []) register_k
@@ -373,7 +373,7 @@ table =
     ∷ case_s (low of_servo) (drive_of 0 []) (special 10 2 ∷ []) accepted [] (drive_of 2 [])
     ∷ case_s (low of_drive) (drive_of 0 (link_of 0 10 21 ∷ [])) (special 10 2 ∷ []) (broken_at 0 10) (pair_of 0 10 ∷ []) (drive_of 0 (link_of 0 10 21 ∷ []))
     ∷ list_s (low of_servo) (set_of 3 0 ∷ join_of 1 ∷ [])
-    ∷ list_s (low of_drive) (set_of 3 0 ∷ join_of 0 ∷ specialOf 1 ∷ [])
+    ∷ list_s (low of_drive) (set_of 3 0 ∷ join_of 0 ∷ special_of 1 ∷ [])
     -- `or` needs one part that counts, `and` two
     ∷ case_s (connect or (low of_drive) (low of_servo)) (drive_of 0 []) (special 10 1 ∷ []) accepted [] (drive_of 1 [])
     ∷ case_s (connect and (low of_drive) (low of_servo)) (drive_of 0 []) (special 10 1 ∷ []) accepted (pair_of 0 10 ∷ []) (drive_of 1 [])

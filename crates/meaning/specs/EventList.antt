@@ -10,20 +10,20 @@ use Rattle.meaning.specs.Reach.{anyone, Direction, up, down, through, left_of, r
 
 -- What a rule lists: a kind of event with the type, the type and cell, or the relationship that it names.
 pub data EventType : Type 0 where
-  insertOf deleteOf : (type : ℕ) → EventType
+  insert_of delete_of : (type : ℕ) → EventType
   set_of : (type cell : ℕ) → EventType
   join_of part_of : (relationship : ℕ) → EventType
-  specialOf generalOf : (type : ℕ) → EventType
+  special_of general_of : (type : ℕ) → EventType
 
 -- "three 16-bit words each: place in that order from 0, type or relationship, cell or 0"
 unfoldable pub event_type_words : EventType → List ℕ
-event_type_words (insertOf t) = kind_place inserts ∷ t ∷ 0 ∷ []
-event_type_words (deleteOf t) = kind_place deletes ∷ t ∷ 0 ∷ []
+event_type_words (insert_of t) = kind_place inserts ∷ t ∷ 0 ∷ []
+event_type_words (delete_of t) = kind_place deletes ∷ t ∷ 0 ∷ []
 event_type_words (set_of t k) = kind_place sets ∷ t ∷ k ∷ []
 event_type_words (join_of r) = kind_place joins ∷ r ∷ 0 ∷ []
 event_type_words (part_of r) = kind_place parts ∷ r ∷ 0 ∷ []
-event_type_words (specialOf t) = kind_place specials ∷ t ∷ 0 ∷ []
-event_type_words (generalOf t) = kind_place generals ∷ t ∷ 0 ∷ []
+event_type_words (special_of t) = kind_place specials ∷ t ∷ 0 ∷ []
+event_type_words (general_of t) = kind_place generals ∷ t ∷ 0 ∷ []
 
 -- "`special t` and `general t` are left out where t has no parent."
 unfoldable pub where_parent : Schema → ℕ → EventType → List EventType
@@ -32,16 +32,16 @@ where_parent S t e = cond (has_parent S.types t) (e ∷ []) []
 -- "role gain lists join, loss part"; by Req 01 "delete of the type at the role's far end is listed too" where a loss is
 unfoldable pub role_lists : Schema → ℕ → Direction → List EventType
 role_lists S r up = join_of (relationship_of r) ∷ []
-role_lists S r down = part_of (relationship_of r) ∷ deleteOf (far_type S.relationships r) ∷ []
+role_lists S r down = part_of (relationship_of r) ∷ delete_of (far_type S.relationships r) ∷ []
 
 -- "`all t` gain lists insert t and special t, loss delete t and general t"
 unfoldable pub all_lists : Schema → ℕ → Direction → List EventType
-all_lists S t up = insertOf t ∷ where_parent S t (specialOf t)
-all_lists S t down = deleteOf t ∷ where_parent S t (generalOf t)
+all_lists S t up = insert_of t ∷ where_parent S t (special_of t)
+all_lists S t down = delete_of t ∷ where_parent S t (general_of t)
 
 unfoldable pub kind_lists : Schema → ℕ → Direction → List EventType
-kind_lists S t up = where_parent S t (specialOf t)
-kind_lists S t down = where_parent S t (generalOf t)
+kind_lists S t up = where_parent S t (special_of t)
+kind_lists S t down = where_parent S t (general_of t)
 
 -- What may move a form in a direction, by the types of its variables.
 unfoldable pub lists : {s : Sort} → Schema → Form s → List ℕ → Direction → List EventType
@@ -62,7 +62,7 @@ lists S (select c b) ts d = through ◌++◌ chosen_from (lists S c ts) d ++ thr
 -- "kind and context as above": an insert into the context type, and a special into it, each unless it is quiet
 unfoldable pub context_lists : Schema → Rule → List EventType
 context_lists S r =
-    cond (quiet_insert S r) [] (insertOf r.context ∷ []) ++ cond (quiet_special S r) [] (where_parent S r.context (specialOf r.context))
+    cond (quiet_insert S r) [] (insert_of r.context ∷ []) ++ cond (quiet_special S r) [] (where_parent S r.context (special_of r.context))
 
 -- "Order: the events' order above, then numbers, none twice"
 unfoldable pub event_list : Schema → Rule → List EventType
@@ -72,13 +72,13 @@ event_list S r = foldr (put_in_order event_type_words) [] (lists S r.body (r.con
 -- type its object is under at the end, with its cell; a join or part for its relationship. A listed event type occurs when an
 -- event of its kind in the batch counts for what it names."
 unfoldable pub occurs : Change → EventType → Bool
-occurs c (insertOf t) = some_step c (inserts_into c.schema.types t anyone)
-occurs c (deleteOf t) = some_step c (deletes_from c.schema.types t anyone)
+occurs c (insert_of t) = some_step c (inserts_into c.schema.types t anyone)
+occurs c (delete_of t) = some_step c (deletes_from c.schema.types t anyone)
 occurs c (set_of t k) = some_step c (sets_cell (λ x. is_under c.schema.types c.end x t) k)
 occurs c (join_of r) = some_step c (λ s. among joins (λ n a b. eqb n r) s.event)
 occurs c (part_of r) = some_step c (λ s. among parts (λ n a b. eqb n r) s.event)
-occurs c (specialOf t) = some_step c (specialises_into c.schema.types t anyone)
-occurs c (generalOf t) = some_step c (generalises_from c.schema.types t anyone)
+occurs c (special_of t) = some_step c (specialises_into c.schema.types t anyone)
+occurs c (general_of t) = some_step c (generalises_from c.schema.types t anyone)
 
 -- "The rules a batch touches": a listed event type occurs.
 unfoldable pub touched : Change → Rule → Bool

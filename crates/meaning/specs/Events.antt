@@ -1,5 +1,5 @@
 -- Document 01, "Events" and "After a batch": what each event does, refusals 7 to 13 and 15, and the register after a batch.
-use Rattle.std.specs.Prelude.{ℕ, suc, ◌-◌, min, Bool, ◌&&◌, ◌||◌, not, cond, List, [], ◌∷◌, ◌++◌, map, ltb, leb, eqb, length, take, replicate, set as replaceAt, ℤ, pos}
+use Rattle.std.specs.Prelude.{ℕ, suc, ◌-◌, min, Bool, ◌&&◌, ◌||◌, not, cond, List, [], ◌∷◌, ◌++◌, map, ltb, leb, eqb, length, take, replicate, set as replace_at, ℤ, pos}
 use Rattle.std.proofs.Math.Option
 use Rattle.std.proofs.Math.Option.{Option, none, some}
 use Rattle.meaning.specs.Lists.{any, keep, holds, first_of, put_in_order}
@@ -37,7 +37,7 @@ abbrev pub cleared_from : ℕ → List ℤ → List ℤ
 cleared_from n cells = take n cells ++ replicate (cell_count - n) (pos 0)
 
 abbrev pub with_cell : ℕ → ℤ → Object → Object
-with_cell k v o = record { id = o.id; type = o.type; cells = replaceAt o.cells k v }
+with_cell k v o = record { id = o.id; type = o.type; cells = replace_at o.cells k v }
 
 abbrev pub with_type : ℕ → Object → Object
 with_type t o = record { id = o.id; type = t; cells = o.cells }

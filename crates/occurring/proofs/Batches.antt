@@ -9,7 +9,7 @@ use lib.ListN.{get_or, get_elem?}
 use Rattle.meaning.specs.Schema.{ObjectType, under}
 use Rattle.meaning.specs.Register.{Link, is_under}
 use Rattle.meaning.specs.Reach.{Step, Change, some_step, deletes, joins, parts, specials, generals, among, sets_cell, inserts_into, specialises_into, deletes_from, generalises_from, anyone}
-use Rattle.meaning.specs.EventList.{EventType, insertOf, deleteOf, set_of, join_of, part_of, specialOf, generalOf, occurs}
+use Rattle.meaning.specs.EventList.{EventType, insert_of, delete_of, set_of, join_of, part_of, special_of, general_of, occurs}
 use Rattle.rows.specs.Rows.{read_rows}
 use Rattle.tables.specs.Columns.{types_of, link_row, event_row}
 use Rattle.tables.specs.declared.Counts.{Counts}
@@ -33,17 +33,17 @@ module _ {c : Change} {n : Counts} {types objects links events : List ℕ} {met 
     met_same : (t id : ℕ) → object_of s.event ≡ some id → is_under ts s.met id t ≡ met_under ts (met i) t
     met_same t id q = seen.met_is i s at id t q
 
-    step_deletes : (t : ℕ) → deletes_from ts t anyone s ≡ counts ts c.end s.event (met i) (deleteOf t)
+    step_deletes : (t : ℕ) → deletes_from ts t anyone s ≡ counts ts c.end s.event (met i) (delete_of t)
     unfolding counts
     step_deletes t = objects_same deletes (λ id u z. is_under ts s.met id t) (λ id u z. met_under ts (met i) t) refl refl s.event (λ id u z q. met_same t id q)
 
-    step_specials : (t : ℕ) → specialises_into ts t anyone s ≡ counts ts c.end s.event (met i) (specialOf t)
+    step_specials : (t : ℕ) → specialises_into ts t anyone s ≡ counts ts c.end s.event (met i) (special_of t)
     unfolding counts
     step_specials t =
         objects_same specials (λ id u z. under ts u t && not (is_under ts s.met id t)) (λ id u z. under ts u t && not (met_under ts (met i) t)) refl refl s.event
         (λ id u z q. ap (λ b. under ts u t && not b) (met_same t id q))
 
-    step_generals : (t : ℕ) → generalises_from ts t anyone s ≡ counts ts c.end s.event (met i) (generalOf t)
+    step_generals : (t : ℕ) → generalises_from ts t anyone s ≡ counts ts c.end s.event (met i) (general_of t)
     unfolding counts
     step_generals t =
         objects_same generals (λ id u z. is_under ts s.met id t && not (under ts u t)) (λ id u z. met_under ts (met i) t && not (under ts u t)) refl refl s.event
@@ -58,13 +58,13 @@ module _ {c : Change} {n : Counts} {types objects links events : List ℕ} {met 
   -- "A listed event type occurs when an event of its kind in the batch counts for what it names."
   occurs_below : (e : EventType) → occurs c e ≡ some_below (λ i. counts ts c.end (event_row events i) (met i) e) n.events
   unfolding occurs counts
-  occurs_below (insertOf t) = some_counts (insertOf t) (inserts_into ts t anyone) (λ i s at. refl)
-  occurs_below (deleteOf t) = some_counts (deleteOf t) (deletes_from ts t anyone) (λ i s at. step_deletes i s at t)
+  occurs_below (insert_of t) = some_counts (insert_of t) (inserts_into ts t anyone) (λ i s at. refl)
+  occurs_below (delete_of t) = some_counts (delete_of t) (deletes_from ts t anyone) (λ i s at. step_deletes i s at t)
   occurs_below (set_of t k) = some_counts (set_of t k) (sets_cell (λ x. is_under ts c.end x t) k) (λ i s at. refl)
   occurs_below (join_of r) = some_counts (join_of r) (λ s. among joins (λ n a b. eqb n r) s.event) (λ i s at. refl)
   occurs_below (part_of r) = some_counts (part_of r) (λ s. among parts (λ n a b. eqb n r) s.event) (λ i s at. refl)
-  occurs_below (specialOf t) = some_counts (specialOf t) (specialises_into ts t anyone) (λ i s at. step_specials i s at t)
-  occurs_below (generalOf t) = some_counts (generalOf t) (generalises_from ts t anyone) (λ i s at. step_generals i s at t)
+  occurs_below (special_of t) = some_counts (special_of t) (specialises_into ts t anyone) (λ i s at. step_specials i s at t)
+  occurs_below (general_of t) = some_counts (general_of t) (generalises_from ts t anyone) (λ i s at. step_generals i s at t)
 
 -- ---- marks, event by event
 

@@ -11,7 +11,7 @@ use Rattle.meaning.specs.Limits.{max_types}
 use Rattle.meaning.specs.Schema.{ObjectType, under}
 use Rattle.meaning.specs.Register.{Register, is_under}
 use Rattle.meaning.specs.Reach.{inserts, sets, joins, parts, specials, generals}
-use Rattle.meaning.specs.EventList.{EventType, insertOf, deleteOf, set_of, join_of, part_of, specialOf, generalOf, event_type_words}
+use Rattle.meaning.specs.EventList.{EventType, insert_of, delete_of, set_of, join_of, part_of, special_of, general_of, event_type_words}
 use Rattle.tables.specs.Columns.{event_of}
 use Rattle.trace_places.specs.Questions.{met_under}
 use Rattle.trace_places.specs.Making.{ForTypes, delete_words}
@@ -78,51 +78,51 @@ delete_read kind z = step (delete_words kind z) refl
 
 -- the words of an event type
 abbrev pub kind_of : EventType → ℕ
-kind_of (insertOf t) = 0
-kind_of (deleteOf t) = 1
+kind_of (insert_of t) = 0
+kind_of (delete_of t) = 1
 kind_of (set_of t k) = 2
 kind_of (join_of r) = 3
 kind_of (part_of r) = 4
-kind_of (specialOf t) = 5
-kind_of (generalOf t) = 6
+kind_of (special_of t) = 5
+kind_of (general_of t) = 6
 
 abbrev pub number_of : EventType → ℕ
-number_of (insertOf t) = t
-number_of (deleteOf t) = t
+number_of (insert_of t) = t
+number_of (delete_of t) = t
 number_of (set_of t k) = t
 number_of (join_of r) = r
 number_of (part_of r) = r
-number_of (specialOf t) = t
-number_of (generalOf t) = t
+number_of (special_of t) = t
+number_of (general_of t) = t
 
 abbrev pub cell_of : EventType → ℕ
-cell_of (insertOf t) = 0
-cell_of (deleteOf t) = 0
+cell_of (insert_of t) = 0
+cell_of (delete_of t) = 0
 cell_of (set_of t k) = k
 cell_of (join_of r) = 0
 cell_of (part_of r) = 0
-cell_of (specialOf t) = 0
-cell_of (generalOf t) = 0
+cell_of (special_of t) = 0
+cell_of (general_of t) = 0
 
 words_of : (e : EventType) → event_type_words e ≡ kind_of e ∷ number_of e ∷ cell_of e ∷ []
 unfolding event_type_words
-words_of (insertOf t) = refl
-words_of (deleteOf t) = refl
+words_of (insert_of t) = refl
+words_of (delete_of t) = refl
 words_of (set_of t k) = refl
 words_of (join_of r) = refl
 words_of (part_of r) = refl
-words_of (specialOf t) = refl
-words_of (generalOf t) = refl
+words_of (special_of t) = refl
+words_of (general_of t) = refl
 
 -- only a set has a cell
 no_cell : (e : EventType) → (kind_of e ≡ 2 → ⊥) → cell_of e ≡ 0
-no_cell (insertOf t) d = refl
-no_cell (deleteOf t) d = refl
+no_cell (insert_of t) d = refl
+no_cell (delete_of t) d = refl
 no_cell (set_of t k) d = absurd (d refl)
 no_cell (join_of r) d = refl
 no_cell (part_of r) d = refl
-no_cell (specialOf t) d = refl
-no_cell (generalOf t) d = refl
+no_cell (special_of t) d = refl
+no_cell (general_of t) d = refl
 
 -- By a row's first two fields, and by the types above the one that it names, the one that it met, and the object's at the end: what a row of a kind
 -- counts for, by the number and the cell of the event type.
@@ -194,17 +194,17 @@ module _ {these : List Bool} {f : ℕ → Bool} (of : ForTypes these f) where
 pub counts_row : (ts : List ObjectType) (end : Register) (kind x y z met : ℕ) (e : EventType)
     → counts ts end (event_of kind x y z) met e ≡ row_counts x y (under ts y) (met_under ts met) (is_under ts end x) (read_kind kind z) e
 unfolding counts
-counts_row ts end kind x y z met (insertOf t) = type_words_lem inserts (λ id u n. under ts u t) x y z refl refl refl refl kind ∙ type_read 0 (omega arith) refl refl refl refl (under ts y t) kind z
-counts_row ts end kind x y z met (deleteOf t) = delete_words_lem kind x y z (met_under ts met t) ∙ ap (λ b. b && met_under ts met t) (delete_read kind z)
+counts_row ts end kind x y z met (insert_of t) = type_words_lem inserts (λ id u n. under ts u t) x y z refl refl refl refl kind ∙ type_read 0 (omega arith) refl refl refl refl (under ts y t) kind z
+counts_row ts end kind x y z met (delete_of t) = delete_words_lem kind x y z (met_under ts met t) ∙ ap (λ b. b && met_under ts met t) (delete_read kind z)
 counts_row ts end kind x y z met (set_of t k) =
     let test : Bool = is_under ts end x t && eqb y k in
     whole_words sets (λ id j n. is_under ts end id t && eqb j k) x y z refl refl refl refl kind ∙ ap (λ b. b && test) (whole_read 2 (omega arith) refl refl refl refl kind z)
 counts_row ts end kind x y z met (join_of r) = whole_words joins (λ n a b. eqb n r) x y z refl refl refl refl kind ∙ ap (λ b. b && eqb x r) (whole_read 3 (omega arith) refl refl refl refl kind z)
 counts_row ts end kind x y z met (part_of r) = whole_words parts (λ n a b. eqb n r) x y z refl refl refl refl kind ∙ ap (λ b. b && eqb x r) (whole_read 4 (omega arith) refl refl refl refl kind z)
-counts_row ts end kind x y z met (specialOf t) =
+counts_row ts end kind x y z met (special_of t) =
     let test : Bool = under ts y t && not (met_under ts met t) in
     type_words_lem specials (λ id u n. under ts u t && not (met_under ts met t)) x y z refl refl refl refl kind ∙ type_read 5 (omega arith) refl refl refl refl test kind z
-counts_row ts end kind x y z met (generalOf t) =
+counts_row ts end kind x y z met (general_of t) =
     let test : Bool = met_under ts met t && not (under ts y t) in
     type_words_lem generals (λ id u n. met_under ts met t && not (under ts u t)) x y z refl refl refl refl kind ∙ type_read 6 (omega arith) refl refl refl refl test kind z
 

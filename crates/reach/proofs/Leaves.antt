@@ -13,7 +13,7 @@ use Rattle.tables.specs.declared.Counts.{Counts}
 use Rattle.directions.specs.Sets.{has, some_of}
 use Rattle.walks.specs.Site.{id_in}
 use Rattle.walks.proofs.Objects.{under_in}
-use Rattle.trace_places.specs.Questions.{answers, named, asked, cell_set, joinedBy, partedBy, insertedInto, specialisedInto, generalisedFrom}
+use Rattle.trace_places.specs.Questions.{answers, named, asked, cell_set, joined_by, parted_by, inserted_into, specialised_into, generalised_from}
 use Rattle.trace_places.specs.Traces.{Traced}
 use Rattle.reach.specs.Moves.{leaf_moves}
 use Rattle.reach.proofs.Nodes.{always}
@@ -38,11 +38,11 @@ any_either p q (x ∷ l) = turned (p x) (any p l) (q x) (any q l) ∙ ap (λ b. 
     turned false false c d = refl
 
 module _ (c : Change) (u x : ℕ) where
-  pub asked_joined : asked c (joinedBy x) u ≡ role_moves c x u up
+  pub asked_joined : asked c (joined_by x) u ≡ role_moves c x u up
   unfolding asked named answers role_moves
   asked_joined = or-false _
 
-  pub asked_parted : asked c (partedBy x) u ≡ role_moves c x u down
+  pub asked_parted : asked c (parted_by x) u ≡ role_moves c x u down
   unfolding asked named answers role_moves some_step
   asked_parted = any_either (part_named x u) (taken x u) c.steps
 
@@ -50,15 +50,15 @@ module _ (c : Change) (u x : ℕ) where
   unfolding asked named answers cell_moves
   asked_set = or-false _
 
-  pub asked_inserted : asked c (insertedInto x) u ≡ inserted c u x
+  pub asked_inserted : asked c (inserted_into x) u ≡ inserted c u x
   unfolding asked named answers inserted
   asked_inserted = or-false _
 
-  pub asked_specialised : asked c (specialisedInto x) u ≡ specialised c u x
+  pub asked_specialised : asked c (specialised_into x) u ≡ specialised c u x
   unfolding asked named answers specialised
   asked_specialised = or-false _
 
-  pub asked_generalised : asked c (generalisedFrom x) u ≡ kind_moves c u x down
+  pub asked_generalised : asked c (generalised_from x) u ≡ kind_moves c u x down
   unfolding asked named answers kind_moves
   asked_generalised = or-false _
 
@@ -69,7 +69,7 @@ module _ {c : Change} {n : Counts} {types objects links events trace : List ℕ}
       sym (ap₂ (λ ts g. is_under ts g (id_in objects row) t) traced.seen.types_are traced.seen.end_is
       ∙ under_in n.objects objects n.links links traced.ascends row there (types_of n.types types) t)
 
-  pub asked_kind : (t : ℕ) {b : Bool} → b ≡ under (types_of n.types types) (object_row objects row).type t → (b && asked c (specialisedInto t) (id_in objects row)) ≡ kind_moves c (id_in objects row) t up
+  pub asked_kind : (t : ℕ) {b : Bool} → b ≡ under (types_of n.types types) (object_row objects row).type t → (b && asked c (specialised_into t) (id_in objects row)) ≡ kind_moves c (id_in objects row) t up
   unfolding kind_moves
   asked_kind t e = ap₂ ◌&&◌ (e ∙ under_end t) (asked_specialised c (id_in objects row) t) ∙ and_comm (is_under c.schema.types c.end (id_in objects row) t) (specialised c (id_in objects row) t)
 

@@ -12,21 +12,21 @@ abbrev pub objects_with : ℕ → List ℕ → List Link → Register
 objects_with object_count objects links = record { objects = read_rows (object_row objects) object_count; links = links }
 
 abbrev pub links_with : List Object → ℕ → List ℕ → Register
-links_with objects linkCount links = record { objects = objects; links = read_rows (link_row links) linkCount }
+links_with objects link_count links = record { objects = objects; links = read_rows (link_row links) link_count }
 
 -- the used rows of the table ascend, none twice
 abbrev pub ObjectsAscend : ℕ → List ℕ → Type 0
 ObjectsAscend object_count objects = Ascending (Before object_key) (read_rows (object_row objects) object_count)
 
 abbrev pub LinksAscend : ℕ → List ℕ → Type 0
-LinksAscend linkCount links = Ascending (Before link_key) (read_rows (link_row links) linkCount)
+LinksAscend link_count links = Ascending (Before link_key) (read_rows (link_row links) link_count)
 
 -- the row of the object of an id, and that of a link
 abbrev pub object_place : ℕ → List ℕ → ℕ → Option ℕ
 object_place object_count objects id = first_fault (λ n previous o. eqb o.id id) (read_rows (object_row objects) object_count)
 
 abbrev pub link_place : ℕ → List ℕ → Link → Option ℕ
-link_place linkCount links l = first_fault (λ n previous k. same_link l k) (read_rows (link_row links) linkCount)
+link_place link_count links l = first_fault (λ n previous k. same_link l k) (read_rows (link_row links) link_count)
 
 -- the word in a cell of an object's row; "eight signed 32-bit cells", and 0 where there is none
 unfoldable pub cell_word : List ℕ → ℕ → ℕ → ℕ

@@ -81,7 +81,7 @@ abbrev pub types_of : ℕ → List ℕ → List ObjectType
 types_of type_count types = read_rows (type_row types) type_count
 
 abbrev pub floors_of : ℕ → List ℕ → List Floor
-floors_of floorCount floors = read_rows (floor_row floors) floorCount
+floors_of floor_count floors = read_rows (floor_row floors) floor_count
 
 abbrev pub relationships_of : ℕ → List ℕ → List Relationship
 relationships_of relationship_count relationships = read_rows (relationship_row relationships) relationship_count
@@ -92,14 +92,14 @@ schema_of type_count types floors relationship_count relationships =
     record { types = types_of type_count types; floors = floors; relationships = relationships_of relationship_count relationships }
 
 abbrev pub rules_of : ℕ → List ℕ → List ℕ → List Rule
-rules_of ruleCount rules bodies = read_rows (rule_row rules bodies) ruleCount
+rules_of rule_count rules bodies = read_rows (rule_row rules bodies) rule_count
 
 abbrev pub register_of : ℕ → List ℕ → ℕ → List ℕ → Register
-register_of object_count objects linkCount links =
-    record { objects = read_rows (object_row objects) object_count; links = read_rows (link_row links) linkCount }
+register_of object_count objects link_count links =
+    record { objects = read_rows (object_row objects) object_count; links = read_rows (link_row links) link_count }
 
 abbrev pub events_of : ℕ → List ℕ → List Event
-events_of eventCount events = read_rows (event_row events) eventCount
+events_of event_count events = read_rows (event_row events) event_count
 
 -- the book, the register and the batch of a sheet with so many used rows
 abbrev pub book_of : Counts → Sheet → Book

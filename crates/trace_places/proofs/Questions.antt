@@ -14,7 +14,7 @@ use Rattle.meaning.specs.Events.{Event, insert, delete, set, join, part, special
 use Rattle.meaning.specs.Reach.{Step, Change, Kind, inserts, deletes, sets, joins, parts, specials, generals, same_kind, kind_place, among}
 use Rattle.tables.specs.Columns.{no_event, event_of}
 use Rattle.tables.specs.Met.{object_of}
-use Rattle.trace_places.specs.Questions.{Question, cell_set, joinedBy, partedBy, insertedInto, specialisedInto, generalisedFrom, answers, met_under, answers_at}
+use Rattle.trace_places.specs.Questions.{Question, cell_set, joined_by, parted_by, inserted_into, specialised_into, generalised_from, answers, met_under, answers_at}
 use Rattle.trace_places.specs.Traces.{named_at}
 
 -- ---- an event by the words of its row
@@ -215,10 +215,10 @@ module _ (c : Change) (u : ℕ) (s : Step) (met : ℕ) (there : Bool)
   pub step_places : (q : Question) → answers c q u s ≡ places_answer q
   unfolding answers answers_at
   step_places (cell_set k) = object_places sets u (λ id j n. eqb j k) refl refl e
-  step_places (joinedBy r) =
+  step_places (joined_by r) =
       joins_same (λ n a b. starts_at r u (link_of n a b) && has_link c.end (link_of n a b)) (λ n a b. starts_at r u (link_of n a b) && there) e (λ n a b q. ap (λ x. starts_at r u (link_of n a b) && x) (sym (there_is n a b q)))
       ∙ link_places_lem joins u r (λ n a b. there) refl refl refl refl refl e
-  step_places (partedBy r) =
+  step_places (parted_by r) =
       let near : ℕ → ℕ → ℕ → ℕ → Bool = λ j n a b. eqb n (relationship_of r) && eqb j (r % 2) in
       let named : ℕ → ℕ → ℕ → ℕ → Bool = λ j n a b. eqb n (relationship_of r) && (eqb j (r % 2) && true) in
       parts_same (λ n a b. starts_at r u (link_of n a b)) (λ n a b. starts_at r u (link_of n a b) && true) e (λ n a b. sym (and-true (starts_at r u (link_of n a b))))
@@ -226,12 +226,12 @@ module _ (c : Change) (u : ℕ) (s : Step) (met : ℕ) (there : Bool)
       ∙ ap₂ (λ x y. (names u e 0 && x) || (names u e 1 && y))
       (parts_same (named 0) (near 0) e (λ n a b. ap (λ x. eqb n (relationship_of r) && x) (and-true (eqb 0 (r % 2)))))
       (parts_same (named 1) (near 1) e (λ n a b. ap (λ x. eqb n (relationship_of r) && x) (and-true (eqb 1 (r % 2)))))
-  step_places (insertedInto t) = object_places inserts u (λ id w n. under types w t) refl refl e
-  step_places (specialisedInto t) =
+  step_places (inserted_into t) = object_places inserts u (λ id w n. under types w t) refl refl e
+  step_places (specialised_into t) =
       objects_same specials (λ id w n. eqb u id && (under types w t && not (is_under types s.met id t))) (λ id w n. eqb u id && (under types w t && not (met_under types met t))) refl refl e
       (λ id w n q. ap (λ x. eqb u id && (under types w t && not x)) (met_is id t q))
       ∙ object_places specials u (λ id w n. under types w t && not (met_under types met t)) refl refl e
-  step_places (generalisedFrom t) =
+  step_places (generalised_from t) =
       objects_same generals (λ id w n. eqb u id && (is_under types s.met id t && not (under types w t))) (λ id w n. eqb u id && (met_under types met t && not (under types w t))) refl refl e
       (λ id w n q. ap (λ x. eqb u id && (x && not (under types w t))) (met_is id t q))
       ∙ object_places generals u (λ id w n. met_under types met t && not (under types w t)) refl refl e
@@ -246,24 +246,24 @@ module _ (ts : List ObjectType) (kind x y z j met : ℕ) (there : Bool) where
   unfolding answers_at
   set_answer k = sym (whole_words sets (λ id c n. eqb c k) x y z refl refl refl refl kind)
 
-  pub join_answer : (r : ℕ) → (eqb 3 kind && (eqb x (r / 2) && (eqb j (r % 2) && there))) ≡ answer (joinedBy r)
+  pub join_answer : (r : ℕ) → (eqb 3 kind && (eqb x (r / 2) && (eqb j (r % 2) && there))) ≡ answer (joined_by r)
   unfolding answers_at
   join_answer r = sym (whole_words joins (λ n a b. eqb n (relationship_of r) && (eqb j (r % 2) && there)) x y z refl refl refl refl kind)
 
-  pub part_answer : (r : ℕ) → (eqb 4 kind && (eqb x (r / 2) && (eqb j (r % 2) && true))) ≡ answer (partedBy r)
+  pub part_answer : (r : ℕ) → (eqb 4 kind && (eqb x (r / 2) && (eqb j (r % 2) && true))) ≡ answer (parted_by r)
   unfolding answers_at
   part_answer r =
       ap (λ b. eqb 4 kind && (eqb x (r / 2) && b)) (and-true (eqb j (r % 2)))
       ∙ sym (whole_words parts (λ n a b. eqb n (relationship_of r) && eqb j (r % 2)) x y z refl refl refl refl kind)
 
-  pub insert_answer : (t : ℕ) → (eqb 0 kind && (eqb z 0 && under ts y t)) ≡ answer (insertedInto t)
+  pub insert_answer : (t : ℕ) → (eqb 0 kind && (eqb z 0 && under ts y t)) ≡ answer (inserted_into t)
   unfolding answers_at
   insert_answer t = sym (type_words_lem inserts (λ id u n. under ts u t) x y z refl refl refl refl kind)
 
-  pub special_answer : (t : ℕ) → (eqb 5 kind && (eqb z 0 && (under ts y t && not (met_under ts met t)))) ≡ answer (specialisedInto t)
+  pub special_answer : (t : ℕ) → (eqb 5 kind && (eqb z 0 && (under ts y t && not (met_under ts met t)))) ≡ answer (specialised_into t)
   unfolding answers_at
   special_answer t = sym (type_words_lem specials (λ id u n. under ts u t && not (met_under ts met t)) x y z refl refl refl refl kind)
 
-  pub general_answer : (t : ℕ) → (eqb 6 kind && (eqb z 0 && (met_under ts met t && not (under ts y t)))) ≡ answer (generalisedFrom t)
+  pub general_answer : (t : ℕ) → (eqb 6 kind && (eqb z 0 && (met_under ts met t && not (under ts y t)))) ≡ answer (generalised_from t)
   unfolding answers_at
   general_answer t = sym (type_words_lem generals (λ id u n. met_under ts met t && not (under ts u t)) x y z refl refl refl refl kind)

@@ -9,17 +9,17 @@ use Rattle.tables.specs.Met.{no_type}
 
 pub data Question : Type 0 where
   cell_set : (cell : ℕ) → Question
-  joinedBy partedBy : (role : ℕ) → Question
-  insertedInto specialisedInto generalisedFrom : (type : ℕ) → Question
+  joined_by parted_by : (role : ℕ) → Question
+  inserted_into specialised_into generalised_from : (type : ℕ) → Question
 
 -- an event that names object u answers the question about it
 unfoldable pub answers : Change → Question → ℕ → Step → Bool
 answers c (cell_set k) u s = sets_cell (eqb u) k s
-answers c (joinedBy r) u s = joined r u (has_link c.end) s
-answers c (partedBy r) u s = part_named r u s
-answers c (insertedInto t) u s = inserts_into c.schema.types t (eqb u) s
-answers c (specialisedInto t) u s = specialises_into c.schema.types t (eqb u) s
-answers c (generalisedFrom t) u s = generalises_from c.schema.types t (eqb u) s
+answers c (joined_by r) u s = joined r u (has_link c.end) s
+answers c (parted_by r) u s = part_named r u s
+answers c (inserted_into t) u s = inserts_into c.schema.types t (eqb u) s
+answers c (specialised_into t) u s = specialises_into c.schema.types t (eqb u) s
+answers c (generalised_from t) u s = generalises_from c.schema.types t (eqb u) s
 
 -- some event of the batch that names it does
 unfoldable pub named : Change → Question → ℕ → Bool
@@ -28,11 +28,11 @@ named c q u = some_step c (answers c q u)
 -- a delete of another object does
 abbrev pub taken_from : Change → Question → ℕ → Bool
 taken_from c (cell_set k) u = false
-taken_from c (joinedBy r) u = false
-taken_from c (partedBy r) u = some_step c (taken r u)
-taken_from c (insertedInto t) u = false
-taken_from c (specialisedInto t) u = false
-taken_from c (generalisedFrom t) u = false
+taken_from c (joined_by r) u = false
+taken_from c (parted_by r) u = some_step c (taken r u)
+taken_from c (inserted_into t) u = false
+taken_from c (specialised_into t) u = false
+taken_from c (generalised_from t) u = false
 
 -- some event of the batch does
 unfoldable pub asked : Change → Question → ℕ → Bool
@@ -41,11 +41,11 @@ asked c q u = named c q u || taken_from c q u
 -- questions by their codes and what they are about
 abbrev pub question_of : ℕ → ℕ → Question
 question_of zero x = cell_set x
-question_of (suc zero) x = joinedBy x
-question_of (suc (suc zero)) x = partedBy x
-question_of (suc (suc (suc zero))) x = insertedInto x
-question_of (suc (suc (suc (suc zero)))) x = specialisedInto x
-question_of (suc (suc (suc (suc (suc code))))) x = generalisedFrom x
+question_of (suc zero) x = joined_by x
+question_of (suc (suc zero)) x = parted_by x
+question_of (suc (suc (suc zero))) x = inserted_into x
+question_of (suc (suc (suc (suc zero)))) x = specialised_into x
+question_of (suc (suc (suc (suc (suc code))))) x = generalised_from x
 
 -- ---- a question at a place of an event
 
@@ -57,8 +57,8 @@ met_under types m t = ltb m no_type && under types m t
 -- whether the link that it joined is there at the end. The near end of a role is the source (the first place) for a role forward.
 unfoldable pub answers_at : List ObjectType → Question → Event → ℕ → ℕ → Bool → Bool
 answers_at types (cell_set k) e j met there = among sets (λ id c n. eqb c k) e
-answers_at types (joinedBy r) e j met there = among joins (λ n a b. eqb n (relationship_of r) && (eqb j (r % 2) && there)) e
-answers_at types (partedBy r) e j met there = among parts (λ n a b. eqb n (relationship_of r) && eqb j (r % 2)) e
-answers_at types (insertedInto t) e j met there = among inserts (λ id u n. under types u t) e
-answers_at types (specialisedInto t) e j met there = among specials (λ id u n. under types u t && not (met_under types met t)) e
-answers_at types (generalisedFrom t) e j met there = among generals (λ id u n. met_under types met t && not (under types u t)) e
+answers_at types (joined_by r) e j met there = among joins (λ n a b. eqb n (relationship_of r) && (eqb j (r % 2) && there)) e
+answers_at types (parted_by r) e j met there = among parts (λ n a b. eqb n (relationship_of r) && eqb j (r % 2)) e
+answers_at types (inserted_into t) e j met there = among inserts (λ id u n. under types u t) e
+answers_at types (specialised_into t) e j met there = among specials (λ id u n. under types u t && not (met_under types met t)) e
+answers_at types (generalised_from t) e j met there = among generals (λ id u n. met_under types met t && not (under types u t)) e

@@ -12,7 +12,7 @@ use borrow.Author.Tests.{eq-eqb, eqb-true, eqb-false}
 use Rattle.meaning.specs.Lists.{same_list}
 use Rattle.meaning.specs.Schema.{Schema, has_parent}
 use Rattle.meaning.specs.Reach.{Direction, up, down}
-use Rattle.meaning.specs.EventList.{EventType, specialOf, generalOf, event_type_words, where_parent, all_lists, kind_lists}
+use Rattle.meaning.specs.EventList.{EventType, special_of, general_of, event_type_words, where_parent, all_lists, kind_lists}
 use Rattle.directions.specs.Sets.{has, some_of}
 use Rattle.type_marks.specs.Marks.{places, words_at, marked, Added}
 use Rattle.quietness.specs.declared.quiet.Still.{Still}
@@ -91,16 +91,16 @@ module _ (S : Schema) (whole parent : Bool) (t : ℕ) (is : parent ≡ has_paren
   type_up = (λ i. (whole && same_list (0 ∷ t ∷ 0 ∷ []) (words_at place)) || (is i && same_list (5 ∷ t ∷ 0 ∷ []) (words_at place))) ∙ step whole
     where
       step : (b : Bool) → ((b && same_list (0 ∷ t ∷ 0 ∷ []) (words_at place)) || (has_parent S.types t && same_list (5 ∷ t ∷ 0 ∷ []) (words_at place))) ≡ marked (type_lists S b t up) place
-      step true = ap (λ x. same_list (0 ∷ t ∷ 0 ∷ []) (words_at place) || x) (sym (parent_marked S t (specialOf t) place))
-      step false = sym (parent_marked S t (specialOf t) place)
+      step true = ap (λ x. same_list (0 ∷ t ∷ 0 ∷ []) (words_at place) || x) (sym (parent_marked S t (special_of t) place))
+      step false = sym (parent_marked S t (special_of t) place)
 
   pub type_down : either_kind 1 6 ≡ marked (type_lists S whole t down) place
   unfolding all_lists kind_lists event_type_words
   type_down = (λ i. (whole && same_list (1 ∷ t ∷ 0 ∷ []) (words_at place)) || (is i && same_list (6 ∷ t ∷ 0 ∷ []) (words_at place))) ∙ step whole
     where
       step : (b : Bool) → ((b && same_list (1 ∷ t ∷ 0 ∷ []) (words_at place)) || (has_parent S.types t && same_list (6 ∷ t ∷ 0 ∷ []) (words_at place))) ≡ marked (type_lists S b t down) place
-      step true = ap (λ x. same_list (1 ∷ t ∷ 0 ∷ []) (words_at place) || x) (sym (parent_marked S t (generalOf t) place))
-      step false = sym (parent_marked S t (generalOf t) place)
+      step true = ap (λ x. same_list (1 ∷ t ∷ 0 ∷ []) (words_at place) || x) (sym (parent_marked S t (general_of t) place))
+      step false = sym (parent_marked S t (general_of t) place)
 
 -- what brings an object into a context type, each unless it is still
 pub entry_marked : (S : Schema) (still : Still) (t : ℕ) {changing : Bool} → changing ≡ (not still.special && has_parent S.types t) → (place : ℕ)
@@ -116,9 +116,9 @@ entry_marked S still t is place = ap (λ b. (not still.insert && inserting) || (
 
     step : (insert special : Bool) → ((not insert && inserting) || ((not special && has_parent S.types t) && specialising)) ≡ marked (entry_lists S (record { insert = insert; special = special }) t) place
     step true true = refl
-    step true false = sym (parent_marked S t (specialOf t) place)
+    step true false = sym (parent_marked S t (special_of t) place)
     step false true = refl
-    step false false = ap (λ x. inserting || x) (sym (parent_marked S t (specialOf t) place))
+    step false false = ap (λ x. inserting || x) (sym (parent_marked S t (special_of t) place))
 
 -- ---- the place of words
 

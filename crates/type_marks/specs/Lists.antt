@@ -3,7 +3,7 @@ use Rattle.std.specs.Prelude.{ℕ, Bool, true, false, cond, List, [], ◌∷◌,
 use Rattle.meaning.specs.Schema.{Relationship, Schema}
 use Rattle.meaning.specs.Forms.{variable}
 use Rattle.meaning.specs.Reach.{Direction}
-use Rattle.meaning.specs.EventList.{EventType, insertOf, set_of, specialOf, where_parent, role_lists, all_lists, kind_lists, lists}
+use Rattle.meaning.specs.EventList.{EventType, insert_of, set_of, special_of, where_parent, role_lists, all_lists, kind_lists, lists}
 use Rattle.tables.specs.Bodies.{Part, part}
 use Rattle.directions.specs.Sets.{some_of}
 use Rattle.typing.specs.Types.{member_of}
@@ -28,7 +28,7 @@ type_lists S false t d = kind_lists S t d
 
 -- what brings an object into a context type, each unless it is still
 abbrev pub entry_lists : Schema → Still → ℕ → List EventType
-entry_lists S still t = cond still.insert [] (insertOf t ∷ []) ++ cond still.special [] (where_parent S t (specialOf t))
+entry_lists S still t = cond still.insert [] (insert_of t ∷ []) ++ cond still.special [] (where_parent S t (special_of t))
 
 -- what a row without parts lists, by its code and its first two fields: kind, all, role and cell; a num lists nothing
 unfoldable pub leaf_lists : Schema → List ℕ → ℕ → ℕ → ℕ → Direction → List EventType

@@ -14,7 +14,7 @@ use lib.ListN.{length, get_or, set}
 use lib.Seq.{set-set}
 use lib.IntN.{pos}
 use Rattle.meaning.specs.Forms as Forms
-use Rattle.meaning.specs.Meaning.{quantified as quantifiedBy}
+use Rattle.meaning.specs.Meaning.{quantified as quantified_by}
 use Rattle.meaning.specs.Lists.{keep}
 use Rattle.walks.specs.Site.{Site, site_of, code_at, id_in}
 use Rattle.operators.specs.Operators.{quantifier_of}
@@ -197,7 +197,7 @@ abbrev quantified_Inv_loop : quantified-lts.invariant-loop
 quantified_Inv_loop n types objects links index bodies starts vars code rule e row depth start from inner₀ d word₀ inner word =
     let w = site_of n types objects links index bodies rule in
     Stands w start vars word
-    × (truth_of w e vars depth ≡ quantifiedBy (quantifier_of code) (under_one w row vars depth) (left_at w start vars depth word))
+    × (truth_of w e vars depth ≡ quantified_by (quantifier_of code) (under_one w row vars depth) (left_at w start vars depth word))
     × BindsAs inner vars depth
 
 abbrev quantified_μ_loop : quantified-lts.decreases-loop

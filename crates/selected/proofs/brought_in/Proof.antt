@@ -4,7 +4,7 @@ use mathlib.Core.Path.{◌≡◌, sym, ◌∙◌}
 use mathlib.Core.Bool.{true, ◌&&◌, not}
 use Rattle.meaning.specs.Reach.{Change, inserted}
 use Rattle.walks.specs.Site.{id_in}
-use Rattle.trace_places.specs.Questions.{asked, insertedInto, specialisedInto}
+use Rattle.trace_places.specs.Questions.{asked, inserted_into, specialised_into}
 use Rattle.trace_places.specs.Traces.{Traced}
 use Rattle.reach.proofs.Leaves.{asked_inserted, asked_specialised}
 use Rattle.selected.proofs.Asked.{first_holds, second_decides, unless_still}
@@ -29,11 +29,11 @@ abbrev u : tie.Start → ℕ
 u s = id_in s.args.objects.now s.args.row
 
 insert_asked : (c : tie.After-ask-if) (k : Change) → let s = insert-start c in
-    SeenBy k s → c.ask-if.result ≡ (not s.args.still.insert && (true && asked k (insertedInto s.args.context) (u s)))
+    SeenBy k s → c.ask-if.result ≡ (not s.args.still.insert && (true && asked k (inserted_into s.args.context) (u s)))
 insert_asked c = c.ask-if.ensures
 
 special_asked : (c : tie.After-ask-if2) (k : Change) → let s = insert-start (special-insert c) in
-    SeenBy k s → c.ask-if2.result ≡ (not s.args.still.special && (true && asked k (specialisedInto s.args.context) (u s)))
+    SeenBy k s → c.ask-if2.result ≡ (not s.args.still.special && (true && asked k (specialised_into s.args.context) (u s)))
 special_asked c = c.ask-if2.ensures
 
 -- so an insert that is not still brought it in
