@@ -1,4 +1,6 @@
 // Refusal 4: each rule of lent tables has a known context type, and a body that is one whole form, well typed, whatever the floors.
+#![tactic(auto)]
+
 ghost use Rattle.std.specs.Prelude.{◌≡◌, List};
 ghost use Rattle.std.proofs.Math.Option.{Option};
 ghost use Rattle.meaning.specs.Schema.{Floor};

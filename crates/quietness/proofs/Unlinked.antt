@@ -1,5 +1,5 @@
 -- When a form is quiet, by its row and its parts.
-use Prim.Native.Nat.{ℕ, suc, ◌-◌, ◌<◌}
+use Prim.Native.Nat.{ℕ, suc, ◌<◌}
 use mathlib.Core.Path.{◌≡◌, refl, sym, ap, subst, ◌∙◌}
 use mathlib.Core.Bool.{Bool, true, false, not, ◌&&◌, ◌||◌, cond}
 use mathlib.Core.List.{List}
@@ -86,7 +86,12 @@ Asks asks sort o = T (asks (code_of o)) → sort (shape_of o).parts < 3
 
 asks_first : (o : Operator) → Asks (λ code. connects code || quantifies code) first_sort o
 unfolding code_of shape_of
-asks_first (comparing o) = elim o [ le ↦ λ t. absurd t | lt ↦ λ t. absurd t | eq ↦ λ t. absurd t | ne ↦ λ t. absurd t | ge ↦ λ t. absurd t | gt ↦ λ t. absurd t ]
+asks_first (comparing le) = λ t. absurd t
+asks_first (comparing lt) = λ t. absurd t
+asks_first (comparing eq) = λ t. absurd t
+asks_first (comparing ne) = λ t. absurd t
+asks_first (comparing ge) = λ t. absurd t
+asks_first (comparing gt) = λ t. absurd t
 asks_first negating = λ t. absurd t
 asks_first (connecting o) = λ t. omega arith
 asks_first (quantifying q) = λ t. omega arith

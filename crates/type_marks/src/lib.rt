@@ -1,4 +1,6 @@
 // Marks of event types, and those of forms without parts.
+#![tactic(auto)]
+
 ghost use Rattle.std.specs.Prelude.{◌≡◌, ◌&&◌, ◌||◌, List, [], ◌∷◌, ◌≤◌, ◌<◌, length, take};
 ghost use Rattle.meaning.specs.Lists.{same_list};
 ghost use Rattle.meaning.specs.Schema.{ObjectType, Floor, Relationship};
