@@ -6,10 +6,10 @@ use mathlib.Core.Bool.{Bool, true, false, not, cond}
 use mathlib.Core.List.Memᴰ
 use mathlib.Core.List.{List, [], ◌∷◌}
 use mathlib.Core.Option.{Option, none, some}
-use native.Mathlib.Nat.{le_of_lt, le_refl}
+use native.Mathlib.Nat.{le_of_lt}
 use native.Mathlib.Omega.{arith}
 use lib.Dec.{T, leb, ltb}
-use mir.Facts.{not_T, leb_yes, yes_leb, ltb_yes, yes_ltb, no_leb, no_ltb}
+use mir.Facts.{yes_leb, yes_ltb, no_leb, no_ltb}
 use Rattle.meaning.specs.Lists.{keep, first, ◌∈◌, Ascending}
 use Rattle.meaning.proofs.Lists.{cond_yes, cond_no, first_some, decide}
 use Rattle.walks.specs.Walks.{is_from}

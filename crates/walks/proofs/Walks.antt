@@ -1,16 +1,15 @@
 -- Walks over the three collections: how each begins, and its steps.
 use Prim.Native.Nat.{ℕ, zero, suc, ◌+◌, ◌*◌, ◌≤◌, ◌<◌, zero-le}
-use mathlib.Core.Path.{◌≡◌, refl, sym, ap, subst, ◌∙◌}
+use mathlib.Core.Path.{◌≡◌, refl, sym, ap, ◌∙◌}
 use mathlib.Core.Bool.{Bool, true, false, cond}
-use mathlib.Core.List.{List, [], ◌∷◌}
-use mathlib.Core.Option.{none, some}
+use mathlib.Core.List.{List, ◌∷◌}
+use mathlib.Core.Option.{none}
 use native.Mathlib.Nat.{lt_trans}
-use native.Mathlib.Omega.{arith}
-use lib.Dec.{T, leb, ltb}
+use lib.Dec.{leb, ltb}
 use lib.ListN.{get_or}
 use mir.Facts.{yes_leb, ltb_yes, yes_ltb}
-use Rattle.meaning.specs.Lists.{keep, first, Ascending}
-use Rattle.meaning.specs.Register.{instances, far_ends}
+use Rattle.meaning.specs.Lists.{keep, Ascending}
+use Rattle.meaning.specs.Register.{far_ends}
 use Rattle.meaning.specs.Forms.{truth, collection, Form, role, all, select, bind, variable}
 use Rattle.meaning.specs.Meaning.{meaning}
 use Rattle.link_index.specs.Slots.{far_id, Place, Indexed}
@@ -18,7 +17,6 @@ use Rattle.link_index.proofs.Walk.{first_placed, first_far_lem, place_slot, far_
 use Rattle.walks.specs.Site.{Site, types_at, register_at, id_in, ids_of}
 use Rattle.walks.specs.Walks.{id_from, is_from, left_in, instances_from, StandsIn, Anywhere, BegunIn, Went, Stepped, WalkedIn, far_step}
 use Rattle.walks.specs.declared.Step.{Step}
-use Rattle.walks.specs.declared.Step.TheVariants.{At, Done}
 use Rattle.walks.proofs.Members.{keep_all, keep_none, keep_swap, from_first, from_member}
 use Rattle.walks.proofs.Objects.{left_from, from_start}
 use Rattle.walks.proofs.Steps.{stepped_done, stepped_at}

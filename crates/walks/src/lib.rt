@@ -1,4 +1,6 @@
 // Variables and members by the rows of their objects, and the steps of a walk over members.
+#![tactic(auto)]
+
 ghost use Rattle.std.specs.Prelude.{◌≡◌, ◌<◌, ◌≤◌, get_or};
 ghost use Rattle.tables.specs.Columns.{types_of};
 ghost use Rattle.walks.specs.Values.{cell_in, weight_of};
