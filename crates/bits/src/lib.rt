@@ -1,5 +1,7 @@
 // Rules as "one bit each of a 32-bit word, taken lowest first". "Trailing zeros give the next touched rule; count of ones says how
 // many rules remain."
+#![tactic(auto)]
+
 ghost use Rattle.std.specs.Prelude.{◌≡◌, ◌||◌, ℕ, ◌<◌, eqb, length, drop};
 ghost use Rattle.bits.specs.Bits.{bit_at, bits_in, lowest_in};
 

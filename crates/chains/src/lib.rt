@@ -1,4 +1,6 @@
 // Chains over a key in one table of half words: a slot holds a row, another column has the slot after it, a third the first slot of each key.
+#![tactic(auto)]
+
 ghost use Rattle.std.specs.Prelude.{◌≡◌, ◌+◌, ◌<◌, ◌≤◌, length};
 ghost use Rattle.chains.specs.Chains.{pushed};
 

@@ -1,4 +1,6 @@
 // Which way a movement passes from a part to its form: one table, by form, part and direction, and nothing else says a direction.
+#![tactic(auto)]
+
 ghost use Rattle.std.specs.Prelude.{◌≡◌, [], ◌+◌, ◌*◌, ◌<◌, get_or};
 ghost use Rattle.direction_table.specs.Entries.{rule_table};
 

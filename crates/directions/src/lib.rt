@@ -1,4 +1,6 @@
 // Sets of directions, and what the table of directions says of them.
+#![tactic(auto)]
+
 ghost use Rattle.std.specs.Prelude.{◌≡◌, ◌&&◌, cond, [], ◌+◌, ◌-◌, ◌*◌, ◌<◌, get_or};
 ghost use Rattle.std.proofs.Math.Option.{some};
 ghost use Rattle.tables.specs.Codes.{Operator, operator_of};

@@ -1,4 +1,6 @@
 // What one of document 01's events does to the register's tables.
+#![tactic(auto)]
+
 mod deletes;
 mod effects;
 

@@ -1,4 +1,6 @@
 // Document 01's refusals 7 to 13 of one event, and 15 of Req 02, on the register that it meets.
+#![tactic(auto)]
+
 ghost use Rattle.std.specs.Prelude.{◌≡◌, List, ℕ, ◌≤◌};
 ghost use Rattle.meaning.specs.Schema.{ObjectType, Floor, Relationship, Schema};
 ghost use Rattle.meaning.specs.Register.{Link};

@@ -1,4 +1,6 @@
 // What the refusals of an event ask of the register that it meets.
+#![tactic(auto)]
+
 ghost use Rattle.std.specs.Prelude.{◌≡◌, ◌&&◌, not, List, min, leb, eqb};
 ghost use Rattle.meaning.specs.Schema.{Floor, Relationship, under, source_type, target_type};
 ghost use Rattle.meaning.specs.Register.{Object, Link, present, is_under, has_link};

@@ -1,4 +1,6 @@
 // Document 01's events on the register's tables: a refusal or an effect as one step, and the run of a batch.
+#![tactic(auto)]
+
 mod runs;
 
 ghost use Rattle.std.specs.Prelude.{ℕ};

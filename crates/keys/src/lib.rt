@@ -1,4 +1,6 @@
 // Rows by their keys: the order of a row and a key, and the place of a key among ascending rows.
+#![tactic(auto)]
+
 ghost use Rattle.std.specs.Prelude.{◌≡◌};
 ghost use Rattle.meaning.specs.Lists.{before};
 ghost use Rattle.keys.specs.Keys.{key_at, KeysAscend, LowerBound};

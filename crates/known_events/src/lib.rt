@@ -1,4 +1,6 @@
 // Refusal 7 of an event by itself: its kind, type, relationship, cell and ids.
+#![tactic(auto)]
+
 ghost use Rattle.std.specs.Prelude.{◌≡◌, ◌&&◌, List, ℕ, ltb, eqb};
 ghost use Rattle.meaning.specs.Limits.{cell_count, valid_id, fits_word};
 ghost use Rattle.meaning.specs.Schema.{Floor, known_type, known_relationship};

@@ -5,7 +5,7 @@
 --   16384 to 81919   for each role and row, 1 + the first slot of that role from that object; 0 where there is none
 -- Link i has two places, so that a place's parity is that of its role: 2 i, forward from its source, at slot i, and 2 i + 1, backward from
 -- its target, at slot 4096 + i.
-use Rattle.std.specs.Prelude.{ℕ, zero, suc, ◌+◌, ◌*◌, ◌/◌, ◌%◌, ◌≤◌, ◌<◌, ◌≡◌, List, get_or, set}
+use Rattle.std.specs.Prelude.{ℕ, zero, suc, ◌+◌, ◌*◌, ◌/◌, ◌%◌, ◌≤◌, ◌<◌, ◌≡◌, List, get_or}
 use Rattle.std.proofs.Math.Option.{Option, none, some}
 use Rattle.meaning.specs.Limits.{max_relationships, max_objects, max_links}
 use Rattle.meaning.specs.Register.{near_end, far_end}

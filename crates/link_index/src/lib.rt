@@ -1,4 +1,6 @@
 // An index of the links in both directions, by slots: `specs/Slots` has its table. A walk along a role holds a slot and steps to the next one.
+#![tactic(auto)]
+
 ghost use Rattle.std.specs.Prelude.{◌≡◌, ℕ, ◌+◌, ◌*◌, ◌<◌, length, get_or};
 ghost use Rattle.register.specs.Tables.{ObjectsAscend, LinksAscend, row_at};
 ghost use Rattle.link_index.specs.Slots.{laid_link, Indexable, Indexed};

@@ -20,7 +20,7 @@ use Rattle.meaning.specs.Schema.{ObjectType, Relationship, Schema, known_type, k
 use Rattle.meaning.specs.Register.{Object, Link, Register, object_key, link_key, object_at, present, is_under, cell_at, same_link, has_link, near_end, far_end, starts_at, is_zero, negative, below_floor, object_fits, link_fits}
 use Rattle.meaning.specs.Events.{Event, insert, delete, set, join, part, special, general, Lent, link_of, new_object, cleared_from, with_cell, with_type, with_higher_type, amended, ends_at, apply, Check}
 use Rattle.meaning.specs.Events.{◌when◌, first_met, needs_type, type_needed, strictly_above, strictly_under, has_cell, set_below, brought_below, checks, event_refusal, known_event}
-use Rattle.meaning.specs.Reach.{step_at, joined, leads_to, taken, parted, sets_cell, inserts_into, specialises_into, deletes_from, generalises_from}
+use Rattle.meaning.specs.Reach.{step_at, joined, leads_to, parted, sets_cell, inserts_into, specialises_into, deletes_from, generalises_from}
 use Rattle.meaning.proofs.Lists.{not_and_left, not_sub, decide, first_absent, first_keep, first_map, every_drop, every_take, every_append, every_replicate, every_set, holds_some, cond_yes, cond_no, any_none, keep_in, keep_from, length_keep, ascending_keep, ascending_map}
 use Rattle.meaning.proofs.Order.{first_put, length_put, put_from, put_other, put_has, put_ascending}
 use Rattle.meaning.proofs.Schemas.{TypesFit, under_trans, under_cells}

@@ -1,3 +1,5 @@
+#![tactic(auto)]
+
 // The limits of document 01, "Schema, register, batch", and of Req 02 and 07, as `specs/Limits` has them.
 pub const MAX_TYPES: u32 = 32;
 

@@ -1,4 +1,6 @@
 // Document 01's register as lent tables: the columns of its rows, and the rows of ids and links.
+#![tactic(auto)]
+
 pub mod columns;
 pub mod floors;
 pub mod search;

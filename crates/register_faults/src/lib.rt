@@ -1,4 +1,6 @@
 // Refusal 5 of a lent register.
+#![tactic(auto)]
+
 mod faults;
 
 ghost use Rattle.std.specs.Prelude.{◌≡◌};

@@ -1,4 +1,6 @@
 // Document 01's schema as lent tables: what is under what, floors, the ends of relationships and roles, and refusal 3.
+#![tactic(auto)]
+
 pub mod floors;
 
 ghost use Rattle.std.specs.Prelude.{◌≡◌, cond, List, ℕ, ltb};

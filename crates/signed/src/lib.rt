@@ -1,4 +1,6 @@
 // Signed numbers, exact: by document 01's limits none passes 2 to the 47th, so 64 bits hold every sum and difference.
+#![tactic(auto)]
+
 ghost use Rattle.std.specs.Prelude.{◌≡◌, ◌≤◌, ◌^◌, nat_abs, ◌+ℤ◌, ◌-ℤ◌};
 ghost use Rattle.meaning.specs.Register.{negative};
 ghost use Rattle.meaning.specs.Meaning.{compared};

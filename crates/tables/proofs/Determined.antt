@@ -5,7 +5,7 @@ use mathlib.Core.Path.{◌≡◌, refl, sym, ap, subst, ◌∙◌}
 use mathlib.Core.Logic.{◌≢◌, ⊎_elim}
 use mathlib.Core.Bool.{Bool, true, false, cond}
 use mathlib.Core.List.{List, [], ◌∷◌, map}
-use mathlib.Core.Option.{Option, none, some}
+use mathlib.Core.Option.{none, some}
 use native.Mathlib.Nat.{not-suc-le-zero, le_of_suc-le-suc, add-zero, add-suc, suc-add, zero-add, div-add-mod', mod-lt, div-lt_iff_lt-mul}
 use native.Mathlib.Omega.{arith}
 use borrow.Author.Tests.{eqb-true}
@@ -13,10 +13,8 @@ use lib.Dec.{T, ltb, eqb, ltb→lt, nltb→le, lit<}
 use lib.ListN.{length, get_or, drop}
 use lib.Seq.{ext_get_or, get_or-take, get_or-drop}
 use Rattle.meaning.specs.Limits.{cell_count, max_forms}
-use Rattle.meaning.specs.Schema.{ObjectType, Relationship}
-use Rattle.meaning.specs.Register.{Object, Link}
 use Rattle.meaning.specs.Forms.{Rule}
-use Rattle.meaning.specs.Events.{Event, insert, delete, set, join, part, special, general}
+use Rattle.meaning.specs.Events.{Event, insert, delete, special, general}
 use Rattle.meaning.proofs.Lists.{decide}
 use Rattle.rows.specs.Rows.{word_at, rows_from, read_rows, zero_past, signed, word_of}
 use Rattle.rows.proofs.Words.{word_signed}

@@ -1,4 +1,5 @@
 // What the checks of lent tables are given and what they answer.
+#![tactic(auto)]
 
 // The words of a row of each table (specs/Layouts).
 pub const TYPE_WIDTH: u32 = 2;

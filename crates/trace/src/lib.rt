@@ -1,4 +1,6 @@
 // What is kept of a batch that was run, for the reach rules: a trace of its events by the rows of the register at the end.
+#![tactic(auto)]
+
 ghost use Rattle.std.specs.Prelude.{◌≡◌, ℕ, get_or};
 ghost use Rattle.meaning.specs.Reach.{Change, some_step, taken};
 ghost use Rattle.tables.specs.Losses.{lost_in};

@@ -1,6 +1,5 @@
 -- `bits::rest` meets its contract.
 use mathlib.Core.Path.{sym, ap, ◌∙◌}
-use borrow.Author.Rules.{rules}
 use lib.ListN.{drop}
 use Rattle.bits.specs.Bits.{bits_in}
 use Rattle.bits.proofs.Digits.{rest_is}

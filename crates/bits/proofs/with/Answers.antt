@@ -1,5 +1,4 @@
 -- `bits::with` meets its contract.
-use borrow.Author.Rules.{rules}
 use Rattle.bits.proofs.Words.{with_is}
 use Rattle.bits.proofs.with.Goals as goal
 

@@ -1,7 +1,6 @@
 -- `direction_table::entry` meets its contract.
 use mathlib.Core.Path.{ap}
 use mathlib.Core.List.{[]}
-use borrow.Author.Rules.{rules}
 use Prim.Native.Nat.{◌+◌, ◌*◌}
 use lib.ListN.{get_or}
 use Rattle.direction_table.proofs.entry.Goals as goal

@@ -1,6 +1,5 @@
 -- `directions::asked` meets its contract.
 use mathlib.Core.Path.{sym, ◌∙◌}
-use borrow.Author.Rules.{rules}
 use Rattle.directions.proofs.asked.Goals as goal
 
 pub returns-then-contains : goal.returns-then-contains

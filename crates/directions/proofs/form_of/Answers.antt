@@ -1,5 +1,4 @@
 -- `directions::form_of` meets its contract.
-use borrow.Author.Rules.{rules}
 use borrow.Author.Tests.{eq-eqb, ne_eqb}
 use Rattle.directions.proofs.form_of.Goals as goal
 

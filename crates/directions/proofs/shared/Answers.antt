@@ -1,6 +1,5 @@
 -- `directions::shared` meets its contract.
 use mathlib.Core.Path.{sym, ◌∙◌}
-use borrow.Author.Rules.{rules}
 use Rattle.directions.proofs.shared.Goals as goal
 
 pub returns-then-contains : goal.returns-then-contains

@@ -2,7 +2,6 @@
 use mathlib.Core.Path.{sym, ap, ◌∙◌}
 use mathlib.Core.Bool.{not}
 use Rattle.meaning.specs.Events.{first_met, known_event, checks, event_refusal}
-use borrow.Author.Rules.{rules}
 use Rattle.event_refusals.proofs.of_delete.Goals as goal
 
 pub returns-then-not-valid_id : goal.returns-then-not-valid_id

@@ -6,10 +6,8 @@ use Rattle.meaning.specs.Register.{Link, Register}
 use Rattle.meaning.specs.Events.{Lent}
 use Rattle.rows.specs.Rows.{read_rows}
 use Rattle.tables.specs.Columns.{link_row, floors_of, relationships_of, schema_of, register_of}
-use mathlib.Core.Logic.{⊎_elim}
 use native.Mathlib.Omega.{arith}
 use Rattle.event_refusals.proofs.Fields.{as_event, kind_set}
-use borrow.Author.Rules.{rules}
 use Rattle.event_refusals.proofs.of_event.Goals as goal
 use Rattle.event_refusals.proofs.of_event.Lts as lts
 use Rattle.event_refusals.proofs.of_event.Reads as reads

@@ -4,7 +4,6 @@ use mathlib.Core.Bool.{not}
 use Rattle.meaning.specs.Events.{first_met, known_event, checks, event_refusal}
 use Rattle.rows.specs.Rows.{read_rows}
 use Rattle.tables.specs.Columns.{object_row, link_row}
-use borrow.Author.Rules.{rules}
 use Rattle.event_refusals.proofs.of_general.Goals as goal
 
 pub returns-then-not-known_type : goal.returns-then-not-known_type

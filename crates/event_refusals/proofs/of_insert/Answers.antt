@@ -7,7 +7,6 @@ use Rattle.meaning.specs.Limits.{max_objects}
 use Rattle.meaning.specs.Events.{first_met, known_event, checks, event_refusal}
 use Rattle.tables.specs.Columns.{object_row}
 use Rattle.schema.proofs.Rows.{length_rows}
-use borrow.Author.Rules.{rules}
 use Rattle.event_refusals.proofs.of_insert.Goals as goal
 
 pub returns-then-not-known_type : goal.returns-then-not-known_type

@@ -8,7 +8,6 @@ use Rattle.meaning.specs.Events.{first_met, known_event, checks, event_refusal}
 use Rattle.rows.specs.Rows.{read_rows}
 use Rattle.tables.specs.Columns.{object_row, link_row}
 use Rattle.schema.proofs.Rows.{length_rows}
-use borrow.Author.Rules.{rules}
 use Rattle.event_refusals.proofs.of_join.Goals as goal
 
 pub returns-then-not-known_link : goal.returns-then-not-known_link

@@ -7,7 +7,6 @@ use Rattle.meaning.specs.Register.{Register}
 use Rattle.meaning.specs.Events.{Lent}
 use Rattle.tables.specs.Columns.{types_of, schema_of, register_of}
 use Rattle.event_refusals.proofs.Fields.{as_event, kind_join, kind_part}
-use borrow.Author.Rules.{rules}
 use Rattle.event_refusals.proofs.of_link_event.Goals as goal
 use Rattle.event_refusals.proofs.of_link_event.Lts as lts
 use Rattle.event_refusals.proofs.of_link_event.Reads as reads

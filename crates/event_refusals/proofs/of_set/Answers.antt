@@ -2,7 +2,6 @@
 use mathlib.Core.Path.{sym, ap, ◌∙◌}
 use mathlib.Core.Bool.{not}
 use Rattle.meaning.specs.Events.{first_met, known_event, checks, event_refusal}
-use borrow.Author.Rules.{rules}
 use Rattle.event_refusals.proofs.of_set.Goals as goal
 
 pub returns-then-not-known_cell : goal.returns-then-not-known_cell

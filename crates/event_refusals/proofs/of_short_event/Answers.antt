@@ -7,7 +7,6 @@ use Rattle.meaning.specs.Events.{Lent}
 use Rattle.rows.specs.Rows.{read_rows}
 use Rattle.tables.specs.Columns.{link_row, floors_of, relationships_of, schema_of, register_of}
 use Rattle.event_refusals.proofs.Fields.{as_event, refused, third_unused, kind_unknown, second_unused, kind_insert, kind_delete, kind_special, kind_general}
-use borrow.Author.Rules.{rules}
 use Rattle.event_refusals.proofs.of_short_event.Goals as goal
 use Rattle.event_refusals.proofs.of_short_event.Lts as lts
 use Rattle.event_refusals.proofs.of_short_event.Reads as reads

@@ -1,6 +1,5 @@
 -- `event_refusals::refusal` meets its contract.
 use Rattle.tables.specs.Columns.{event_row}
-use borrow.Author.Rules.{rules}
 use Rattle.event_refusals.proofs.refusal.Goals as goal
 
 pub returns : goal.returns

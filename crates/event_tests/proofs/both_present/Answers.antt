@@ -1,5 +1,4 @@
 -- `event_tests::both_present` meets its contract.
-use borrow.Author.Rules.{rules}
 use Rattle.event_tests.proofs.both_present.Goals as goal
 
 pub returns-then-is_present : goal.returns-then-is_present

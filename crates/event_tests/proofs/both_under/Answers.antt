@@ -1,5 +1,4 @@
 -- `event_tests::both_under` meets its contract.
-use borrow.Author.Rules.{rules}
 use Rattle.event_tests.proofs.both_under.Goals as goal
 
 pub returns-then-is_under : goal.returns-then-is_under

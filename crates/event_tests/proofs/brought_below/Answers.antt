@@ -3,7 +3,6 @@ use mathlib.Core.Path.{sym, ◌∙◌}
 use Rattle.meaning.specs.Events.{brought_below}
 use Rattle.schema.proofs.Founds.{found_none, found_some}
 use Rattle.event_tests.proofs.Tests.{test_found, test_missing}
-use borrow.Author.Rules.{rules}
 use Rattle.event_tests.proofs.brought_below.Goals as goal
 
 pub returns-in-At : goal.returns-in-At

@@ -1,6 +1,5 @@
 -- `event_tests::end_needs` meets its contract.
 use borrow.Author.Tests.{eq-eqb, ne_eqb}
-use borrow.Author.Rules.{rules}
 use Rattle.event_tests.proofs.end_needs.Goals as goal
 
 pub returns-then-end-id : goal.returns-then-end-id

@@ -1,5 +1,5 @@
 -- `event_tests::full` meets its contract.
-use Prim.Native.Nat.{min, ◌≤◌}
+use Prim.Native.Nat.{min}
 use mathlib.Core.Path.{sym}
 use native.Mathlib.Omega.{arith}
 use borrow.Author.Tests.{le-leb}

@@ -6,7 +6,6 @@ use Rattle.meaning.specs.Events.{has_cell}
 use Rattle.tables.specs.Columns.{types_of}
 use Rattle.schema.proofs.Founds.{found_none, found_some}
 use Rattle.event_tests.proofs.Tests.{test_found, test_missing}
-use borrow.Author.Rules.{rules}
 use Rattle.event_tests.proofs.has_cell.Goals as goal
 
 pub returns-in-At : goal.returns-in-At

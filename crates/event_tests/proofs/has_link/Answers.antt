@@ -3,7 +3,6 @@ use mathlib.Core.Path.{sym, ◌∙◌}
 use Rattle.meaning.specs.Events.{link_of}
 use Rattle.schema.proofs.Founds.{found_none, found_some}
 use Rattle.event_tests.proofs.Tests.{link_present, link_absent}
-use borrow.Author.Rules.{rules}
 use Rattle.event_tests.proofs.has_link.Goals as goal
 
 pub returns-in-At : goal.returns-in-At

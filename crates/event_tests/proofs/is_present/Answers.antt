@@ -4,7 +4,6 @@ use mathlib.Core.Bool.{true}
 use Rattle.meaning.specs.Register.{present}
 use Rattle.schema.proofs.Founds.{found_none, found_some}
 use Rattle.event_tests.proofs.Tests.{test_found, test_missing}
-use borrow.Author.Rules.{rules}
 use Rattle.event_tests.proofs.is_present.Goals as goal
 
 pub returns-in-At : goal.returns-in-At

@@ -1,6 +1,5 @@
 -- `event_tests::needs_type` meets its contract.
 use Rattle.meaning.specs.Events.{needs_type}
-use borrow.Author.Rules.{rules}
 use Rattle.event_tests.proofs.needs_type.Goals as goal
 
 pub returns-then-end_needs : goal.returns-then-end_needs

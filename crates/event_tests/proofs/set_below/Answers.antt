@@ -6,7 +6,6 @@ use Rattle.meaning.specs.Events.{set_below}
 use Rattle.tables.specs.Columns.{types_of, floors_of}
 use Rattle.schema.proofs.Founds.{found_none, found_some}
 use Rattle.event_tests.proofs.Tests.{test_found, test_missing}
-use borrow.Author.Rules.{rules}
 use mathlib.Core.Bool.{not}
 use Rattle.event_tests.proofs.set_below.Goals as goal
 

@@ -7,7 +7,6 @@ use Rattle.meaning.specs.Events.{strictly_under}
 use Rattle.tables.specs.Columns.{types_of}
 use Rattle.schema.proofs.Founds.{found_none, found_some}
 use Rattle.event_tests.proofs.Tests.{test_found, test_missing}
-use borrow.Author.Rules.{rules}
 use Rattle.event_tests.proofs.strictly_under.Goals as goal
 
 pub returns-then-under : goal.returns-then-under

@@ -1,12 +1,7 @@
 -- `event_tests::type_needed` meets its contract. The invariant: no link before the row needs the object out of the type. The measure is what is left of them.
-use Prim.Native.Nat.{◌-◌}
 use mathlib.Core.Path.{sym, ◌∙◌}
-use mathlib.Core.List.{List}
-use native.Mathlib.Omega.{arith}
-use Rattle.meaning.specs.Schema.{Floor}
-use Rattle.meaning.specs.Events.{needs_type, type_needed}
-use Rattle.tables.specs.Columns.{schema_of, link_row}
-use Rattle.schema.proofs.Scan.{Missed, missed_none, missed_more, missed_hit, missed_all}
+use Rattle.meaning.specs.Events.{type_needed}
+use Rattle.schema.proofs.Scan.{missed_none, missed_more, missed_hit, missed_all}
 use Rattle.event_tests.proofs.type_needed.Goals as goal
 
 pub loop-row-init : goal.loop-row-init

@@ -11,7 +11,6 @@ use Rattle.tables.specs.declared.Found.TheVariants.{At, Nothing}
 use Rattle.schema.proofs.Founds.{found_none}
 use Rattle.events.proofs.Allowed.{can, some_event}
 use native.Mathlib.Omega.{arith}
-use borrow.Author.Rules.{rules}
 use Rattle.events.proofs.step.Goals as goal
 use Rattle.events.proofs.step.Lts as lts
 use Rattle.events.proofs.step.Reads as reads

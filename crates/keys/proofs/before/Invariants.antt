@@ -1,12 +1,10 @@
 -- `keys::before` meets its contract. The loop's invariant: the answer is that of the columns from this one on.
 use Prim.Native.Nat.{◌-◌}
-use mathlib.Core.Path.{◌≡◌, sym, ◌∙◌}
-use native.Mathlib.Omega.{arith}
-use borrow.Author.Rules.{rules}
+use mathlib.Core.Path.{◌≡◌}
 use Rattle.meaning.specs.Lists.{before}
 use Rattle.rows.specs.Rows.{word_at}
 use Rattle.keys.specs.Keys.{key_at}
-use Rattle.keys.proofs.Keys.{before_from, before_start, before_short, before_differs, before_alike, before_end}
+use Rattle.keys.proofs.Keys.{before_from}
 use Rattle.keys.proofs.before.Given as goal
 
 abbrev pub invariant-loop-column : goal.invariant-loop-column

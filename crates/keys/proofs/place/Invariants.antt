@@ -1,9 +1,7 @@
 -- `keys::place` meets its contract. The invariant: the place lies from low to high. The measure is the distance of the two.
 use Prim.Native.Nat.{◌-◌}
-use mathlib.Core.Path.{sym, ◌∙◌}
-use native.Mathlib.Omega.{arith}
 use Rattle.keys.specs.Keys.{key_at}
-use Rattle.keys.proofs.Keys.{Bracket, bracket_start, bracket_up, bracket_down, bracket_end}
+use Rattle.keys.proofs.Keys.{Bracket}
 use Rattle.keys.proofs.place.Given as goal
 
 abbrev pub invariant-loop-low : goal.invariant-loop-low

@@ -1,7 +1,6 @@
 -- `known_events::alone` meets its contract.
 use mathlib.Core.Path.{sym, ◌∙◌}
 use borrow.Author.Tests.{eq-eqb, ne_eqb}
-use borrow.Author.Rules.{rules}
 use Rattle.known_events.proofs.alone.Goals as goal
 
 pub returns-then-y-ne0 : goal.returns-then-y-ne0

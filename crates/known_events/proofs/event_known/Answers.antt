@@ -3,9 +3,8 @@ use native.Mathlib.Omega.{arith}
 use mathlib.Core.Path.{◌≡◌, ◌∙◌}
 use Rattle.meaning.specs.Schema.{Schema}
 use Rattle.meaning.specs.Events.{known_event}
-use Rattle.tables.specs.Columns.{event_of, event_row, schema_of}
+use Rattle.tables.specs.Columns.{event_of, event_row}
 use Rattle.known_events.proofs.Known.{unknown_kind, known_delete, known_set, known_join, known_part, known_typed}
-use borrow.Author.Rules.{rules}
 use Rattle.known_events.proofs.event_known.Goals as goal
 use Rattle.known_events.proofs.event_known.Lts as lts
 use Rattle.known_events.proofs.event_known.Reads as reads

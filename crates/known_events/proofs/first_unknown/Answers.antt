@@ -1,13 +1,8 @@
 -- `known_events::first_unknown` meets its contract. The invariant: the events before `row` are passed.
-use Prim.Native.Nat.{ℕ, ◌-◌}
 use mathlib.Core.Path.{sym, ap, ◌∙◌}
 use mathlib.Core.Bool.{not}
-use mathlib.Core.List.{List}
-use borrow.Author.Rules.{rules}
-use Rattle.meaning.specs.Schema.{Floor}
-use Rattle.meaning.specs.Events.{known_event}
-use Rattle.tables.specs.Columns.{floors_of, schema_of, event_row}
-use Rattle.schema.proofs.Scan.{Passed, passed_none, passed_more, passed_found, passed_all}
+use Rattle.tables.specs.Columns.{floors_of}
+use Rattle.schema.proofs.Scan.{passed_none, passed_more, passed_found, passed_all}
 use Rattle.tables.specs.Refusals.{event_fault}
 use Rattle.known_events.proofs.first_unknown.Goals as goal
 

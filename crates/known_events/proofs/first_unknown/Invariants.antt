@@ -1,14 +1,11 @@
 -- `known_events::first_unknown` meets its contract. The invariant: the events before `row` are passed.
 use Prim.Native.Nat.{ℕ, ◌-◌}
-use mathlib.Core.Path.{sym, ap, ◌∙◌}
 use mathlib.Core.Bool.{not}
 use mathlib.Core.List.{List}
-use borrow.Author.Rules.{rules}
 use Rattle.meaning.specs.Schema.{Floor}
 use Rattle.meaning.specs.Events.{known_event}
-use Rattle.tables.specs.Columns.{floors_of, schema_of, event_row}
-use Rattle.schema.proofs.Scan.{Passed, passed_none, passed_more, passed_found, passed_all}
-use Rattle.tables.specs.Refusals.{event_fault}
+use Rattle.tables.specs.Columns.{schema_of, event_row}
+use Rattle.schema.proofs.Scan.{Passed}
 use Rattle.known_events.proofs.first_unknown.Given as goal
 
 abbrev pub invariant-loop-row : goal.invariant-loop-row

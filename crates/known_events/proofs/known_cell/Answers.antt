@@ -6,7 +6,6 @@ use lib.Signed.{mag}
 use Rattle.meaning.specs.Limits.{fits_word}
 use Rattle.rows.specs.Rows.{signed}
 use Rattle.rows.proofs.Words.{signed_fits}
-use borrow.Author.Rules.{rules}
 use Rattle.known_events.proofs.known_cell.Goals as goal
 
 pub returns-then-valid_id : goal.returns-then-valid_id

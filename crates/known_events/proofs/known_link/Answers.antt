@@ -1,7 +1,6 @@
 -- `known_events::known_link` meets its contract.
 use borrow.Author.Tests.{lt-ltb, le-ltb}
 use Rattle.schema.proofs.Types.{relationship_known}
-use borrow.Author.Rules.{rules}
 use Rattle.known_events.proofs.known_link.Goals as goal
 
 pub returns-then-relationship-relationship_count : goal.returns-then-relationship-relationship_count

@@ -1,6 +1,5 @@
 -- `known_events::known_type` meets its contract.
 use Rattle.schema.proofs.Types.{type_known}
-use borrow.Author.Rules.{rules}
 use Rattle.known_events.proofs.known_type.Goals as goal
 
 pub returns-then-valid_id : goal.returns-then-valid_id

@@ -1,5 +1,5 @@
 -- `known_events::valid_id` meets its contract.
-use borrow.Author.Tests.{le-leb, lt-leb}
+use borrow.Author.Tests.{le-leb}
 use native.Mathlib.Omega.{arith}
 use Rattle.meaning.specs.Limits.{valid_id}
 use Rattle.known_events.proofs.valid_id.Goals as goal

@@ -1,7 +1,6 @@
 -- `known_events::with_type` meets its contract.
 use mathlib.Core.Path.{sym, ◌∙◌}
 use borrow.Author.Tests.{eq-eqb, ne_eqb}
-use borrow.Author.Rules.{rules}
 use Rattle.known_events.proofs.with_type.Goals as goal
 
 pub returns-then-z-ne0 : goal.returns-then-z-ne0

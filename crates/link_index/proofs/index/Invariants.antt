@@ -1,15 +1,6 @@
 -- `link_index::index` meets its contract. The invariant: the places from those of this row on have their slots. The measure is the row.
-use Prim.Native.Nat.{ℕ, ◌-◌, ◌*◌, ◌≤◌, ◌<◌}
-use mathlib.Core.Path.{◌≡◌, ap, subst, ◌∙◌}
-use native.Mathlib.Nat.{le_refl}
-use native.Mathlib.Omega.{arith}
-use borrow.Author.Rules.{rules}
-use Rattle.meaning.specs.Register.{Link}
-use Rattle.tables.specs.Columns.{link_row}
-use Rattle.register.specs.Tables.{row_at}
+use Prim.Native.Nat.{◌*◌, ◌≤◌}
 use Rattle.link_index.specs.Slots.{Slotted}
-use Rattle.register.proofs.Rows.{row_few}
-use Rattle.link_index.proofs.Laid.{slotted_none, slotted_link}
 use Rattle.link_index.proofs.index.Given as goal
 
 abbrev pub invariant-loop-row : goal.invariant-loop-row

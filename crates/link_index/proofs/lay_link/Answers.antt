@@ -1,7 +1,6 @@
 -- `link_index::lay_link` meets its contract.
 use Prim.Native.Nat.{◌+◌, ◌*◌}
 use mathlib.Core.Path.{ap, ◌∙◌}
-use borrow.Author.Rules.{rules}
 use Rattle.link_index.specs.Slots.{laid}
 use Rattle.link_index.proofs.lay_link.Goals as goal
 

@@ -1,6 +1,5 @@
 -- `link_index::row_of` meets its contract.
 use mathlib.Core.Path.{sym, ap, ◌∙◌}
-use borrow.Author.Rules.{rules}
 use Rattle.schema.proofs.Founds.{found_none, found_some}
 use Rattle.register.specs.Tables.{object_place}
 use Rattle.register.specs.Tables.{or_zero, row_at}

@@ -1,7 +1,6 @@
 -- `register_faults::check` meets its contract. Objects of which none is faulty ascend, so the links can be checked by search.
 use mathlib.Core.Path.{sym, ◌∙◌}
 use mathlib.Core.List.{List}
-use borrow.Author.Rules.{rules}
 use Rattle.meaning.specs.Schema.{ObjectType, Floor, Schema}
 use Rattle.meaning.specs.Register.{Register, object_fault, link_fault}
 use Rattle.tables.specs.Columns.{types_of, floors_of, schema_of, register_of}

@@ -1,5 +1,4 @@
 -- `schema::cells_of` meets its contract. A cell count is a used word of the types.
-use borrow.Author.Rules.{rules}
 use Rattle.schema.proofs.Types.{cells_used}
 use Rattle.schema.proofs.cells_of.Goals as goal
 

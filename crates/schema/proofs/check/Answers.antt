@@ -1,6 +1,5 @@
 -- `schema::check` meets its contract. The first of the places is that of `first_of`.
 use mathlib.Core.Path.{◌∙◌}
-use borrow.Author.Rules.{rules}
 use Rattle.meaning.specs.Lists.{first_of}
 use Rattle.meaning.specs.Schema.{Schema, type_fault, floor_fault, relationship_fault}
 use Rattle.tables.specs.Columns.{floors_of, schema_of}

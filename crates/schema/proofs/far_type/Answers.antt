@@ -1,6 +1,5 @@
 -- `schema::far_type` meets its contract. Whether the role is even picks the end.
 use borrow.Author.Tests.{eq-eqb, ne_eqb}
-use borrow.Author.Rules.{rules}
 use Rattle.meaning.specs.Schema.{far_type}
 use Rattle.schema.proofs.far_type.Goals as goal
 

@@ -1,6 +1,5 @@
 -- `schema::faulty_relationship` meets its contract. Each return has met the tests that decide `faulty_relationship`.
 use borrow.Author.Tests.{lt-ltb, le-ltb}
-use borrow.Author.Rules.{rules}
 use Rattle.meaning.specs.Schema.{faulty_relationship}
 use Rattle.tables.specs.Columns.{relationship_row}
 use Rattle.schema.proofs.Tests.{not_ltb}

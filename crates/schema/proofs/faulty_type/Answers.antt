@@ -1,7 +1,6 @@
 -- `schema::faulty_type` meets its contract. Each return has met the tests that decide `faulty_type`.
 use mathlib.Core.Path.{sym}
 use borrow.Author.Tests.{lt-ltb, le-ltb, le-leb, lt-leb, eq-eqb, ne_eqb}
-use borrow.Author.Rules.{rules}
 use Rattle.meaning.specs.Schema.{faulty_type, parent_fits}
 use Rattle.tables.specs.Columns.{type_row}
 use Rattle.schema.proofs.Tests.{not_leb, not_not, and-false, and-true}

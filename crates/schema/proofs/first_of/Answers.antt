@@ -1,5 +1,4 @@
 -- `schema::first_of` meets its contract. The variant is known in each arm.
-use borrow.Author.Rules.{rules}
 use Rattle.schema.proofs.first_of.Goals as goal
 
 pub returns-in-At : goal.returns-in-At

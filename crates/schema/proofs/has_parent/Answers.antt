@@ -1,7 +1,6 @@
 -- `schema::has_parent` meets its contract.
 use mathlib.Core.Path.{sym, ap, ◌∙◌}
 use mathlib.Core.Bool.{true}
-use borrow.Author.Rules.{rules}
 use Rattle.meaning.specs.Lists.{holds}
 use Rattle.meaning.specs.Schema.{parent_of, has_parent}
 use Rattle.tables.specs.Columns.{types_of}

@@ -1,6 +1,5 @@
 -- `schema::near_type` meets its contract. Whether the role is even picks the end.
 use borrow.Author.Tests.{eq-eqb, ne_eqb}
-use borrow.Author.Rules.{rules}
 use Rattle.meaning.specs.Schema.{near_type}
 use Rattle.schema.proofs.near_type.Goals as goal
 

@@ -1,6 +1,5 @@
 -- `schema::parent_of` meets its contract. The type is a used row or not, and its first word is that of no parent or not.
 use borrow.Author.Tests.{lt-ltb, le-ltb, eq-eqb, ne_eqb}
-use borrow.Author.Rules.{rules}
 use Rattle.tables.specs.Columns.{type_row}
 use Rattle.schema.proofs.Types.{parent_used}
 use Rattle.schema.proofs.parent_of.Goals as goal

@@ -1,11 +1,7 @@
 -- `schema::relationship_fault` meets its contract. The invariant: the relationships before this one are passed. The measure is what is left of them.
-use Prim.Native.Nat.{ℕ, ◌-◌}
 use mathlib.Core.Path.{sym, ◌∙◌}
-use mathlib.Core.List.{List}
-use native.Mathlib.Omega.{arith}
-use Rattle.meaning.specs.Schema.{faulty_relationship, relationship_fault}
-use Rattle.tables.specs.Columns.{relationship_row, types_of}
-use Rattle.schema.proofs.Scan.{Passed, passed_none, passed_more, passed_found, passed_all}
+use Rattle.meaning.specs.Schema.{relationship_fault}
+use Rattle.schema.proofs.Scan.{passed_none, passed_more, passed_found, passed_all}
 use Rattle.schema.proofs.relationship_fault.Goals as goal
 
 pub loop-relationship-init : goal.loop-relationship-init

@@ -1,5 +1,4 @@
 -- `schema::source_type` meets its contract. A source is a used word of the relationships.
-use borrow.Author.Rules.{rules}
 use Rattle.schema.proofs.Types.{source_used}
 use Rattle.schema.proofs.source_type.Goals as goal
 

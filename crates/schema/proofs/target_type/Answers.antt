@@ -1,5 +1,4 @@
 -- `schema::target_type` meets its contract. A target is a used word of the relationships.
-use borrow.Author.Rules.{rules}
 use Rattle.schema.proofs.Types.{target_used}
 use Rattle.schema.proofs.target_type.Goals as goal
 

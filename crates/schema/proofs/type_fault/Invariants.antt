@@ -1,10 +1,8 @@
 -- `schema::type_fault` meets its contract. The invariant: the types before t are passed. The measure is what is left of them.
 use Prim.Native.Nat.{◌-◌}
-use mathlib.Core.Path.{sym, ◌∙◌}
-use native.Mathlib.Omega.{arith}
-use Rattle.meaning.specs.Schema.{faulty_type, type_fault}
+use Rattle.meaning.specs.Schema.{faulty_type}
 use Rattle.tables.specs.Columns.{type_row, types_of}
-use Rattle.schema.proofs.Scan.{Passed, passed_none, passed_more, passed_found, passed_all}
+use Rattle.schema.proofs.Scan.{Passed}
 use Rattle.schema.proofs.type_fault.Given as goal
 
 abbrev pub invariant-loop-t : goal.invariant-loop-t

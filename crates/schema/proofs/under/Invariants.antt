@@ -1,10 +1,7 @@
 -- `schema::under` meets its contract. The invariant: what is left of the way up decides. The measure is the number of steps left.
-use mathlib.Core.Path.{◌≡◌, refl, sym, ◌∙◌}
-use native.Mathlib.Omega.{arith}
-use borrow.Author.Rules.{rules}
+use mathlib.Core.Path.{◌≡◌}
 use Rattle.meaning.specs.Schema.{climbs, under}
 use Rattle.tables.specs.Columns.{types_of}
-use Rattle.schema.proofs.Climb.{climb_there, climb_end, climb_top, climb_up}
 use Rattle.schema.proofs.under.Given as goal
 
 abbrev pub invariant-loop-left : goal.invariant-loop-left

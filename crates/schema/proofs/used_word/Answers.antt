@@ -1,6 +1,5 @@
 -- `schema::used_word` meets its contract. The test on the count picks the case of the contract.
 use borrow.Author.Tests.{lt-ltb, le-ltb}
-use borrow.Author.Rules.{rules}
 use Rattle.schema.proofs.used_word.Goals as goal
 
 pub returns-then-row-count : goal.returns-then-row-count

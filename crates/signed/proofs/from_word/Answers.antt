@@ -6,7 +6,6 @@ use lib.IntN.{pos, negsuc, ◌-ℤ◌}
 use mir.Syntax.{w64}
 use mir.Val.{to_z, of_z}
 use Rattle.signed.proofs.Signed.{back, small_fits, word_small, minus, signed_low, signed_high}
-use borrow.Author.Rules.{rules}
 use Rattle.signed.proofs.from_word.Goals as goal
 
 pub overflow_sub-result : goal.overflow_sub-result

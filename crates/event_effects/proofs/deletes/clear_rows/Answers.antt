@@ -5,7 +5,6 @@ use native.Mathlib.Omega.{arith}
 use borrow.Rule.Slice.PartMut.{put_mid}
 use Rattle.rows.proofs.Parts.{put_zeros}
 use Rattle.event_effects.proofs.Passes.{cleared_all}
-use borrow.Author.Rules.{rules}
 use Rattle.event_effects.proofs.deletes.clear_rows.Goals as goal
 
 pub returns : goal.returns

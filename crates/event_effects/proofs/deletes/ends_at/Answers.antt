@@ -1,6 +1,5 @@
 -- `event_effects::deletes::ends_at` meets its contract.
 use borrow.Author.Tests.{eq-eqb, ne_eqb}
-use borrow.Author.Rules.{rules}
 use Rattle.event_effects.proofs.deletes.ends_at.Goals as goal
 
 pub returns-then-source-id : goal.returns-then-source-id

@@ -5,7 +5,6 @@ use Rattle.meaning.specs.Register.{link_key}
 use Rattle.rows.specs.Rows.{with_row}
 use Rattle.tables.specs.Columns.{link_row}
 use Rattle.event_effects.proofs.Passes.{put_same}
-use borrow.Author.Rules.{rules}
 use Rattle.event_effects.proofs.deletes.keep_row.Goals as goal
 
 pub returns-then-kept-row : goal.returns-then-kept-row

@@ -1,13 +1,10 @@
 -- `event_effects::deletes::take_links` meets its contract. The invariant: what the pass has done before this row (`Passing`).
 -- The measure is what is left of the rows.
-use Prim.Native.Nat.{◌-◌}
 use mathlib.Core.Path.{sym, subst, ◌∙◌}
-use mathlib.Core.Logic.{⊎_elim}
 use native.Mathlib.Omega.{arith}
 use Rattle.meaning.specs.Events.{delete}
 use Rattle.event_effects.specs.Effects.{LinksApplied}
-use Rattle.event_effects.proofs.Passes.{Passing, passing_none, as_passing, row_lent, can_lose, row_gone, row_kept, used_lent, links_taken, losses_taken, few_taken}
-use borrow.Author.Rules.{rules}
+use Rattle.event_effects.proofs.Passes.{passing_none, as_passing, row_lent, can_lose, row_gone, row_kept, used_lent, links_taken, losses_taken, few_taken}
 use Rattle.event_effects.proofs.deletes.take_links.Goals as goal
 
 -- ---- needs
@@ -32,12 +29,12 @@ loop-row-preserved c =
     let inv = c.loop-row.invariant in
     let below = c.loop-row-test.true in
     elim c.if-ends_at.branch [
-      goal.then-ends_at w ↦
-        as_passing _ _ _ _ _ w.links-is w.losses-is w.lost-is w.kept-is
-        (row_gone _ _ _ _ _ can inv below (sym c.ends_at.ensures ∙ w.if-ends_at.true) w.put_loss-lost.ensures)
-    | goal.else-ends_at w ↦
-        as_passing _ _ _ _ _ (w.links-is ∙ w.keep_row.ensures) w.losses-is w.lost-is w.kept-is
-        (row_kept _ _ _ _ _ can inv below (sym c.ends_at.ensures ∙ w.if-ends_at.false))
+      | goal.then-ends_at w ↦
+          as_passing _ _ _ _ _ w.links-is w.losses-is w.lost-is w.kept-is
+          (row_gone _ _ _ _ _ can inv below (sym c.ends_at.ensures ∙ w.if-ends_at.true) w.put_loss-lost.ensures)
+      | goal.else-ends_at w ↦
+          as_passing _ _ _ _ _ (w.links-is ∙ w.keep_row.ensures) w.losses-is w.lost-is w.kept-is
+          (row_kept _ _ _ _ _ can inv below (sym c.ends_at.ensures ∙ w.if-ends_at.false))
     ]
 
 pub clear_rows-requires : goal.clear_rows-requires

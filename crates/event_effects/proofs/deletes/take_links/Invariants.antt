@@ -1,13 +1,7 @@
 -- `event_effects::deletes::take_links` meets its contract. The invariant: what the pass has done before this row (`Passing`).
 -- The measure is what is left of the rows.
 use Prim.Native.Nat.{◌-◌}
-use mathlib.Core.Path.{sym, subst, ◌∙◌}
-use mathlib.Core.Logic.{⊎_elim}
-use native.Mathlib.Omega.{arith}
-use Rattle.meaning.specs.Events.{delete}
-use Rattle.event_effects.specs.Effects.{LinksApplied}
-use Rattle.event_effects.proofs.Passes.{Passing, passing_none, as_passing, row_lent, can_lose, row_gone, row_kept, used_lent, links_taken, losses_taken, few_taken}
-use borrow.Author.Rules.{rules}
+use Rattle.event_effects.proofs.Passes.{Passing}
 use Rattle.event_effects.proofs.deletes.take_links.Given as goal
 
 abbrev pub invariant-loop-row : goal.invariant-loop-row

@@ -12,7 +12,6 @@ use Rattle.event_effects.specs.Losses.{lost_at}
 use Rattle.event_effects.specs.Effects.{Can, Applied, ObjectsApplied, LinksApplied, LossesKept}
 use Rattle.event_effects.proofs.Applied.{objects_applied, links_applied, joined_few, parted_few, losses_stay, as_applied, as_kept}
 use Rattle.event_refusals.proofs.Fields.{kind_unknown, kind_set, kind_join, kind_part, is_insert, is_delete, is_special, is_general}
-use borrow.Author.Rules.{rules}
 use Rattle.event_effects.proofs.effects.effect.Goals as goal
 use Rattle.event_effects.proofs.effects.effect.Lts as lts
 use Rattle.event_effects.proofs.effects.effect.Reads as reads

@@ -5,7 +5,6 @@ use Rattle.rows.specs.Rows.{signed}
 use Rattle.schema.proofs.Founds.{found_none, found_some}
 use Rattle.event_effects.specs.Effects.{ObjectsApplied}
 use Rattle.event_effects.proofs.Applied.{cell_put}
-use borrow.Author.Rules.{rules}
 use Rattle.event_effects.proofs.effects.put_cell.Goals as goal
 
 pub returns-in-At : goal.returns-in-At

@@ -8,7 +8,6 @@ use Rattle.tables.specs.Columns.{types_of}
 use Rattle.schema.proofs.Founds.{found_none, found_some}
 use Rattle.event_effects.specs.Effects.{ObjectsApplied}
 use Rattle.event_effects.proofs.Applied.{higher_type_put}
-use borrow.Author.Rules.{rules}
 use Rattle.event_effects.proofs.effects.put_higher_type.Goals as goal
 
 pub returns-in-At : goal.returns-in-At

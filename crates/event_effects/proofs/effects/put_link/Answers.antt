@@ -7,7 +7,6 @@ use Rattle.rows.specs.Rows.{with_row}
 use Rattle.register.proofs.Searches.{link_keys}
 use Rattle.event_effects.specs.Effects.{LinksApplied}
 use Rattle.event_effects.proofs.Applied.{link_put_in}
-use borrow.Author.Rules.{rules}
 use Rattle.event_effects.proofs.effects.put_link.Goals as goal
 
 pub place-at-requires : goal.place-at-requires

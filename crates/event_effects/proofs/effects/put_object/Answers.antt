@@ -6,7 +6,6 @@ use Rattle.rows.specs.Rows.{with_row}
 use Rattle.register.proofs.Searches.{object_keys}
 use Rattle.event_effects.specs.Effects.{ObjectsApplied}
 use Rattle.event_effects.proofs.Applied.{object_put_in, new_words}
-use borrow.Author.Rules.{rules}
 use Rattle.event_effects.proofs.effects.put_object.Goals as goal
 
 pub place-at-requires : goal.place-at-requires

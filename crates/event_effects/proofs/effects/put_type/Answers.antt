@@ -4,7 +4,6 @@ use Rattle.meaning.specs.Events.{special}
 use Rattle.schema.proofs.Founds.{found_none, found_some}
 use Rattle.event_effects.specs.Effects.{ObjectsApplied}
 use Rattle.event_effects.proofs.Applied.{type_put}
-use borrow.Author.Rules.{rules}
 use Rattle.event_effects.proofs.effects.put_type.Goals as goal
 
 pub returns-in-At : goal.returns-in-At

@@ -4,7 +4,6 @@ use Rattle.meaning.specs.Events.{Event}
 use Rattle.tables.specs.Columns.{types_of, event_of, event_row}
 use Rattle.event_effects.specs.Effects.{Can}
 use Rattle.event_effects.proofs.Applied.{as_applied, as_kept}
-use borrow.Author.Rules.{rules}
 use Rattle.event_effects.proofs.effects.row_effect.Goals as goal
 use Rattle.event_effects.proofs.effects.row_effect.Lts as lts
 use Rattle.event_effects.proofs.effects.row_effect.Reads as reads

@@ -1,12 +1,11 @@
 -- `event_effects::effects::take_link` meets its contract: the row that the search finds is taken out.
-use Prim.Native.Nat.{suc, ◌-◌}
-use mathlib.Core.Path.{◌≡◌, sym, subst, ◌∙◌}
+use Prim.Native.Nat.{◌-◌}
+use mathlib.Core.Path.{sym, subst, ◌∙◌}
 use native.Mathlib.Omega.{arith}
 use Rattle.meaning.specs.Events.{part, link_of}
 use Rattle.schema.proofs.Founds.{found_none, found_some}
 use Rattle.event_effects.specs.Effects.{LinksApplied}
 use Rattle.event_effects.proofs.Applied.{link_found, link_taken_out}
-use borrow.Author.Rules.{rules}
 use Rattle.event_effects.proofs.effects.take_link.Goals as goal
 
 pub overflow_sub-result : goal.overflow_sub-result

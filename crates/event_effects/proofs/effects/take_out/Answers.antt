@@ -3,7 +3,6 @@ use native.Mathlib.Omega.{arith}
 use Rattle.meaning.specs.Events.{delete}
 use Rattle.event_effects.specs.Losses.{lost_at}
 use Rattle.event_effects.proofs.Applied.{both_applied}
-use borrow.Author.Rules.{rules}
 use Rattle.event_effects.proofs.effects.take_out.Goals as goal
 
 pub returns : goal.returns

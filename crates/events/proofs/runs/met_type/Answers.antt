@@ -5,7 +5,6 @@ use Rattle.tables.specs.Columns.{event_row}
 use Rattle.register.specs.Tables.{objects_with}
 use Rattle.tables.specs.Met.{type_in}
 use Rattle.events.proofs.MetTypes.{met_named, met_unnamed, no_object, first_named}
-use borrow.Author.Rules.{rules}
 use Rattle.events.proofs.runs.met_type.Goals as goal
 
 pub returns-then-kind-eq3 : goal.returns-then-kind-eq3

@@ -1,7 +1,6 @@
 -- `events::runs::run` meets its contract: the copied rows are the register that was lent.
 use mathlib.Core.Path.{refl}
 use Rattle.events.proofs.Reached.{Copies, copy_fits, copy_done}
-use borrow.Author.Rules.{rules}
 use Rattle.events.proofs.runs.run.Goals as goal
 use Rattle.events.proofs.runs.run.Lts as lts
 use Rattle.events.proofs.runs.run.Reads as reads

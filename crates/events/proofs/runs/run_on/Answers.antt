@@ -1,12 +1,10 @@
 -- `events::runs::run_on` meets its contract. The invariant: what is left of the batch before this event (`Reached`), whatever words are lent for a list, and
 -- its losses (`Lost`).
 -- The measure is what is left of the events.
-use Prim.Native.Nat.{ℕ, ◌-◌}
+use Prim.Native.Nat.{ℕ}
 use mathlib.Core.Path.{◌≡◌, refl, sym, ap, ◌∙◌}
 use mathlib.Core.Option.{none}
 use native.Mathlib.Omega.{arith}
-use borrow.Author.Rules.{rules}
-use lib.ListN.{length}
 use Rattle.meaning.specs.Schema.{Schema}
 use Rattle.meaning.specs.Register.{Register}
 use Rattle.meaning.specs.Events.{Event, Lent, event_refusal}
@@ -20,8 +18,8 @@ use Rattle.schema.proofs.Rows.{length_rows}
 use Rattle.events.specs.declared.Ran.{Ran}
 use Rattle.events.proofs.Allowed.{some_event}
 use Rattle.events.proofs.Answers.{verdict_over, ran_refused}
-use Rattle.events.proofs.Lost.{Lost, lost_none, lost_room, lost_more}
-use Rattle.events.proofs.Reached.{Reached, reached_none, reached_refused, reached_more, reached_left, reached_ran, fit_words}
+use Rattle.events.proofs.Lost.{lost_none, lost_room, lost_more}
+use Rattle.events.proofs.Reached.{reached_none, reached_refused, reached_more, reached_left, reached_ran, fit_words}
 use Rattle.events.proofs.runs.run_on.Invariants.{lent_of}
 use Rattle.events.proofs.runs.run_on.Goals as goal
 use Rattle.events.proofs.runs.run_on.Lts as lts

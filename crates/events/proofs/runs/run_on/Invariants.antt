@@ -2,26 +2,12 @@
 -- its losses (`Lost`).
 -- The measure is what is left of the events.
 use Prim.Native.Nat.{ℕ, ◌-◌}
-use mathlib.Core.Path.{◌≡◌, refl, sym, ap, ◌∙◌}
-use mathlib.Core.Option.{none}
-use native.Mathlib.Omega.{arith}
-use borrow.Author.Rules.{rules}
+use mathlib.Core.Path.{◌≡◌}
 use lib.ListN.{length}
-use Rattle.meaning.specs.Schema.{Schema}
-use Rattle.meaning.specs.Register.{Register}
-use Rattle.meaning.specs.Events.{Event, Lent, event_refusal}
-use Rattle.rows.specs.Rows.{read_rows}
-use Rattle.tables.specs.Columns.{object_row, link_row, floors_of, schema_of, register_of, event_row}
-use Rattle.tables.specs.declared.Found.TheVariants.{Nothing}
-use Rattle.tables.specs.declared.Verdict.TheVariants.{Clear, Refused}
-use Rattle.schema.proofs.Founds.{found_none, found_some}
-use Rattle.tables.specs.Met.{met_type}
-use Rattle.schema.proofs.Rows.{length_rows}
-use Rattle.events.specs.declared.Ran.{Ran}
-use Rattle.events.proofs.Allowed.{some_event}
-use Rattle.events.proofs.Answers.{verdict_over, ran_refused}
-use Rattle.events.proofs.Lost.{Lost, lost_none, lost_room, lost_more}
-use Rattle.events.proofs.Reached.{Reached, reached_none, reached_refused, reached_more, reached_left, reached_ran, fit_words}
+use Rattle.meaning.specs.Events.{Lent}
+use Rattle.tables.specs.Columns.{floors_of, schema_of, register_of, event_row}
+use Rattle.events.proofs.Lost.{Lost}
+use Rattle.events.proofs.Reached.{Reached}
 use Rattle.events.proofs.runs.run_on.Given as goal
 
 abbrev pub lent_of : ℕ → ℕ → ℕ → Lent

@@ -2,7 +2,6 @@
 use mathlib.Core.Path.{sym, ◌∙◌}
 use Rattle.schema.proofs.Founds.{found_none, found_some}
 use Rattle.events.proofs.MetTypes.{type_found, type_missing}
-use borrow.Author.Rules.{rules}
 use Rattle.events.proofs.runs.type_in.Goals as goal
 
 pub returns-in-At : goal.returns-in-At

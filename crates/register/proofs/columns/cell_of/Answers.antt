@@ -1,6 +1,5 @@
 -- `register::columns::cell_of` meets its contract. A cell is a word of the row.
 use borrow.Author.Tests.{lt-ltb, le-ltb}
-use borrow.Author.Rules.{rules}
 use Rattle.register.specs.Tables.{cell_word}
 use Rattle.register.proofs.columns.cell_of.Goals as goal
 

@@ -1,5 +1,4 @@
 -- `register::columns::id_of` meets its contract. An id is a word of the row.
-use borrow.Author.Rules.{rules}
 use Rattle.tables.specs.Columns.{object_row}
 use Rattle.register.proofs.columns.id_of.Goals as goal
 

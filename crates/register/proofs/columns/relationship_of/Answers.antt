@@ -1,5 +1,4 @@
 -- `register::columns::relationship_of` meets its contract. A relationship is a word of the row.
-use borrow.Author.Rules.{rules}
 use Rattle.tables.specs.Columns.{link_row}
 use Rattle.register.proofs.columns.relationship_of.Goals as goal
 

@@ -1,5 +1,4 @@
 -- `register::columns::source_of` meets its contract. A source is a word of the row.
-use borrow.Author.Rules.{rules}
 use Rattle.tables.specs.Columns.{link_row}
 use Rattle.register.proofs.columns.source_of.Goals as goal
 

@@ -1,5 +1,4 @@
 -- `register::columns::target_of` meets its contract. A target is a word of the row.
-use borrow.Author.Rules.{rules}
 use Rattle.tables.specs.Columns.{link_row}
 use Rattle.register.proofs.columns.target_of.Goals as goal
 

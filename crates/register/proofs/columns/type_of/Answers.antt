@@ -1,5 +1,4 @@
 -- `register::columns::type_of` meets its contract. A type is a word of the row.
-use borrow.Author.Rules.{rules}
 use Rattle.tables.specs.Columns.{object_row}
 use Rattle.register.proofs.columns.type_of.Goals as goal
 

@@ -1,11 +1,9 @@
 -- `register::floors::below_floor` meets its contract. The invariant: no cell before this one is below 0 and floored. The measure is how
 -- many cells are left.
 use Prim.Native.Nat.{◌-◌}
-use mathlib.Core.Path.{sym, ◌∙◌}
-use native.Mathlib.Omega.{arith}
 use Rattle.meaning.specs.Limits.{cell_count}
 use Rattle.tables.specs.Columns.{types_of, floors_of}
-use Rattle.register.proofs.Below.{NoneBelow, none_first, none_more, cell_hit, none_hit}
+use Rattle.register.proofs.Below.{NoneBelow}
 use Rattle.register.proofs.floors.below_floor.Given as goal
 
 abbrev pub invariant-loop-cell : goal.invariant-loop-cell

@@ -1,6 +1,5 @@
 -- `register::floors::cell_below` meets its contract.
 use mathlib.Core.Path.{sym, ◌∙◌}
-use borrow.Author.Rules.{rules}
 use Rattle.register.proofs.Cells.{cell_negative}
 use Rattle.register.proofs.floors.cell_below.Goals as goal
 

@@ -1,11 +1,7 @@
 -- `register::search::guesses` meets its contract. The invariant: the rows from this one on, put into the table, make the table that is promised.
-use Prim.Native.Nat.{suc, ◌-◌}
-use mathlib.Core.Path.{◌≡◌, sym, ap, ◌∙◌}
-use native.Mathlib.Nat.{sub-zero}
-use native.Mathlib.Numerals.{add-one}
-use native.Mathlib.Omega.{arith}
-use borrow.Author.Rules.{rules}
-use Rattle.register.specs.Guesses.{with_guess, with_guesses}
+use Prim.Native.Nat.{◌-◌}
+use mathlib.Core.Path.{◌≡◌}
+use Rattle.register.specs.Guesses.{with_guesses}
 use Rattle.register.proofs.search.guesses.Given as goal
 
 abbrev pub invariant-loop-row : goal.invariant-loop-row

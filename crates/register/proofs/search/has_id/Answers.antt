@@ -1,5 +1,4 @@
 -- `register::search::has_id` meets its contract.
-use borrow.Author.Rules.{rules}
 use borrow.Author.Tests.{lt-ltb, le-ltb}
 use Rattle.register.proofs.search.has_id.Goals as goal
 

@@ -1,6 +1,5 @@
 -- `register::search::is_link` meets its contract. The first number in which the links differ decides.
 use borrow.Author.Tests.{eq-eqb, ne_eqb}
-use borrow.Author.Rules.{rules}
 use Rattle.schema.proofs.Tests.{and-true}
 use Rattle.register.proofs.search.is_link.Goals as goal
 

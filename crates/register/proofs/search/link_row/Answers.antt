@@ -1,7 +1,6 @@
 -- `register::search::link_row` meets its contract. At its place stands the link, or it is not there.
 use mathlib.Core.Path.{sym, ◌∙◌}
 use native.Mathlib.Omega.{arith}
-use borrow.Author.Rules.{rules}
 use Rattle.register.proofs.Searches.{link_keys, link_found, link_missing}
 use Rattle.register.proofs.search.link_row.Goals as goal
 

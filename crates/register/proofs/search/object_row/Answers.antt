@@ -1,7 +1,6 @@
 -- `register::search::object_row` meets its contract. At its place stands the object of the id, or it is not there.
 use mathlib.Core.Path.{sym, ◌∙◌}
 use native.Mathlib.Omega.{arith}
-use borrow.Author.Rules.{rules}
 use Rattle.register.proofs.Searches.{object_keys, object_found, object_missing}
 use Rattle.register.proofs.search.object_row.Goals as goal
 

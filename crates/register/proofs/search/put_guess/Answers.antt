@@ -8,7 +8,6 @@ use lib.ListN.{get_or, set}
 use mir.Facts.{yes_eqb, no_eqb}
 use Rattle.meaning.proofs.Lists.{cond_yes, cond_no}
 use Rattle.register.specs.Guesses.{guess_place, with_guess}
-use borrow.Author.Rules.{rules}
 use Rattle.register.proofs.search.put_guess.Goals as goal
 
 module _ (table : List ℕ) (id row : ℕ) where

@@ -1,5 +1,4 @@
 -- `register::search::quick_row` meets its contract. A row that has the id is the object's, however it was come by.
-use borrow.Author.Rules.{rules}
 use Rattle.register.proofs.Rows.{tested_place}
 use Rattle.register.proofs.search.quick_row.Goals as goal
 

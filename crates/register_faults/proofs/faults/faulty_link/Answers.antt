@@ -1,5 +1,4 @@
 -- `register_faults::faults::faulty_link` meets its contract. Order and limits decide `faulty_link`.
-use borrow.Author.Rules.{rules}
 use Rattle.meaning.specs.Register.{faulty_link}
 use Rattle.register_faults.proofs.faults.faulty_link.Goals as goal
 

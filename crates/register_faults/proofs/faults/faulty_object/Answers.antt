@@ -1,5 +1,4 @@
 -- `register_faults::faults::faulty_object` meets its contract. Order and limits decide `faulty_object`.
-use borrow.Author.Rules.{rules}
 use Rattle.meaning.specs.Register.{faulty_object}
 use Rattle.register_faults.proofs.faults.faulty_object.Goals as goal
 

@@ -1,6 +1,5 @@
 -- `register_faults::faults::is_under` meets its contract. The object is that of the row that the search finds.
 use mathlib.Core.Path.{sym, ap, ◌∙◌}
-use borrow.Author.Rules.{rules}
 use Rattle.meaning.specs.Schema.{under}
 use Rattle.tables.specs.Columns.{types_of}
 use Rattle.schema.proofs.Founds.{found_none, found_some}

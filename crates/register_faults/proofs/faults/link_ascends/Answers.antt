@@ -1,5 +1,4 @@
 -- `register_faults::faults::link_ascends` meets its contract. Row 0 has no row before it.
-use borrow.Author.Rules.{rules}
 use Rattle.tables.specs.Columns.{link_row}
 use Rattle.schema.proofs.Scan.{previous_row_lem}
 use Rattle.register_faults.proofs.faults.link_ascends.Goals as goal

@@ -1,12 +1,10 @@
 -- `register_faults::faults::link_fault` meets its contract. The invariant: the links before the row are passed. The measure is what is left of them.
 use Prim.Native.Nat.{◌-◌}
-use mathlib.Core.Path.{sym, ◌∙◌}
 use mathlib.Core.List.{List}
-use native.Mathlib.Omega.{arith}
 use Rattle.meaning.specs.Schema.{Floor}
-use Rattle.meaning.specs.Register.{faulty_link, link_fault}
+use Rattle.meaning.specs.Register.{faulty_link}
 use Rattle.tables.specs.Columns.{link_row, schema_of, register_of}
-use Rattle.schema.proofs.Scan.{Passed, passed_none, passed_more, passed_found, passed_all}
+use Rattle.schema.proofs.Scan.{Passed}
 use Rattle.register_faults.proofs.faults.link_fault.Given as goal
 
 abbrev pub invariant-loop-row : goal.invariant-loop-row

@@ -1,6 +1,5 @@
 -- `register_faults::faults::link_fits` meets its contract. Each return has met the tests that decide `link_fits`.
 use borrow.Author.Tests.{lt-ltb, le-ltb}
-use borrow.Author.Rules.{rules}
 use Rattle.meaning.specs.Register.{link_fits}
 use Rattle.schema.proofs.Types.{relationship_known}
 use Rattle.register_faults.proofs.faults.link_fits.Goals as goal

@@ -1,10 +1,8 @@
 -- `register_faults::faults::object_fault` meets its contract. The invariant: the objects before the row are passed. The measure is what is left of them.
 use Prim.Native.Nat.{◌-◌}
-use mathlib.Core.Path.{sym, ◌∙◌}
-use native.Mathlib.Omega.{arith}
-use Rattle.meaning.specs.Register.{faulty_object, object_fault}
+use Rattle.meaning.specs.Register.{faulty_object}
 use Rattle.tables.specs.Columns.{object_row, types_of, floors_of}
-use Rattle.schema.proofs.Scan.{Passed, passed_none, passed_more, passed_found, passed_all}
+use Rattle.schema.proofs.Scan.{Passed}
 use Rattle.register_faults.proofs.faults.object_fault.Given as goal
 
 abbrev pub invariant-loop-row : goal.invariant-loop-row

@@ -5,7 +5,6 @@ use mathlib.Core.Bool.{Bool, ◌&&◌, not}
 use mathlib.Core.List.{List}
 use native.Mathlib.Omega.{arith}
 use borrow.Author.Tests.{lt-ltb, le-ltb, le-leb, lt-leb}
-use borrow.Author.Rules.{rules}
 use Rattle.meaning.specs.Limits.{valid_id}
 use Rattle.meaning.specs.Schema.{ObjectType, known_type}
 use Rattle.meaning.specs.Register.{Object, cells_fit, below_floor, object_fits}

@@ -1,12 +1,5 @@
 -- `register_faults::faults::zero_from` meets its contract. The invariant: the cells passed are 0. The measure is what is left of the eight.
-use Prim.Native.Nat.{◌-◌}
-use mathlib.Core.Path.{◌≡◌, refl, sym, ◌∙◌}
-use native.Mathlib.Omega.{arith}
-use lib.ListN.{drop}
-use Rattle.meaning.specs.Lists.{every}
-use Rattle.meaning.specs.Limits.{cell_count}
-use Rattle.meaning.specs.Register.{is_zero}
-use Rattle.tables.specs.Columns.{object_row}
+use mathlib.Core.Path.{sym, ◌∙◌}
 use Rattle.register.proofs.Cells.{cells_used, cells_on, cells_end}
 use Rattle.register_faults.proofs.faults.zero_from.Goals as goal
 

@@ -1,5 +1,4 @@
 -- `schema::floors::cell_of` meets its contract. A cell is a word of the row.
-use borrow.Author.Rules.{rules}
 use Rattle.tables.specs.Columns.{floor_row}
 use Rattle.schema.proofs.floors.cell_of.Goals as goal
 

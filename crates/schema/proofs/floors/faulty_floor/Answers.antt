@@ -1,5 +1,4 @@
 -- `schema::floors::faulty_floor` meets its contract. Order and the type's cells decide `faulty_floor`.
-use borrow.Author.Rules.{rules}
 use Rattle.meaning.specs.Schema.{faulty_floor}
 use Rattle.schema.proofs.Tests.{not_ltb}
 use Rattle.schema.proofs.floors.faulty_floor.Goals as goal

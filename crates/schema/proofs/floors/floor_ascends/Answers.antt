@@ -1,5 +1,4 @@
 -- `schema::floors::floor_ascends` meets its contract. Row 0 has no row before it.
-use borrow.Author.Rules.{rules}
 use Rattle.tables.specs.Columns.{floor_row}
 use Rattle.schema.proofs.Scan.{previous_row_lem}
 use Rattle.schema.proofs.floors.floor_ascends.Goals as goal

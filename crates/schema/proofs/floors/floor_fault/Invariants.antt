@@ -1,10 +1,8 @@
 -- `schema::floors::floor_fault` meets its contract. The invariant: the floors before the row are passed. The measure is what is left of them.
 use Prim.Native.Nat.{◌-◌}
-use mathlib.Core.Path.{sym, ◌∙◌}
-use native.Mathlib.Omega.{arith}
-use Rattle.meaning.specs.Schema.{faulty_floor, floor_fault}
+use Rattle.meaning.specs.Schema.{faulty_floor}
 use Rattle.tables.specs.Columns.{floor_row, types_of}
-use Rattle.schema.proofs.Scan.{Passed, passed_none, passed_more, passed_found, passed_all}
+use Rattle.schema.proofs.Scan.{Passed}
 use Rattle.schema.proofs.floors.floor_fault.Given as goal
 
 abbrev pub invariant-loop-row : goal.invariant-loop-row

@@ -1,12 +1,7 @@
 -- `schema::floors::floored` meets its contract. The invariant: no floor before the row floors the cell. The measure is what is left of them.
-use Prim.Native.Nat.{◌-◌}
 use mathlib.Core.Path.{sym, ◌∙◌}
-use mathlib.Core.Bool.{◌&&◌}
-use native.Mathlib.Omega.{arith}
-use lib.Dec.{eqb}
-use Rattle.meaning.specs.Schema.{under, floored}
-use Rattle.tables.specs.Columns.{floor_row, types_of}
-use Rattle.schema.proofs.Scan.{Missed, missed_none, missed_more, missed_hit, missed_all}
+use Rattle.meaning.specs.Schema.{floored}
+use Rattle.schema.proofs.Scan.{missed_none, missed_more, missed_hit, missed_all}
 use Rattle.schema.proofs.floors.floored.Goals as goal
 
 pub loop-row-init : goal.loop-row-init

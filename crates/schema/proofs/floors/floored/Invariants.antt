@@ -1,12 +1,10 @@
 -- `schema::floors::floored` meets its contract. The invariant: no floor before the row floors the cell. The measure is what is left of them.
 use Prim.Native.Nat.{◌-◌}
-use mathlib.Core.Path.{sym, ◌∙◌}
 use mathlib.Core.Bool.{◌&&◌}
-use native.Mathlib.Omega.{arith}
 use lib.Dec.{eqb}
-use Rattle.meaning.specs.Schema.{under, floored}
+use Rattle.meaning.specs.Schema.{under}
 use Rattle.tables.specs.Columns.{floor_row, types_of}
-use Rattle.schema.proofs.Scan.{Missed, missed_none, missed_more, missed_hit, missed_all}
+use Rattle.schema.proofs.Scan.{Missed}
 use Rattle.schema.proofs.floors.floored.Given as goal
 
 abbrev pub invariant-loop-row : goal.invariant-loop-row

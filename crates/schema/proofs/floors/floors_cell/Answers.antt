@@ -1,5 +1,4 @@
 -- `schema::floors::floors_cell` meets its contract.
-use borrow.Author.Rules.{rules}
 use borrow.Author.Tests.{eq-eqb, ne_eqb}
 use Rattle.schema.proofs.Tests.{and-true, and-false}
 use Rattle.schema.proofs.floors.floors_cell.Goals as goal

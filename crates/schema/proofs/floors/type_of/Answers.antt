@@ -1,5 +1,4 @@
 -- `schema::floors::type_of` meets its contract. A type is a word of the row.
-use borrow.Author.Rules.{rules}
 use Rattle.tables.specs.Columns.{floor_row}
 use Rattle.schema.proofs.floors.type_of.Goals as goal
 

@@ -8,7 +8,6 @@ use Rattle.meaning.specs.Events.{join, link_of}
 use Rattle.schema.proofs.Founds.{found_none, found_some}
 use Prim.Native.Nat.{ℕ}
 use mathlib.Core.Path.{◌≡◌, sym, ap, ◌∙◌}
-use borrow.Author.Rules.{rules}
 use Rattle.trace_places.proofs.keep.is_there.Goals as goal
 use Rattle.trace_places.proofs.keep.is_there.Lts as lts
 use Rattle.trace_places.proofs.keep.is_there.Reads as reads

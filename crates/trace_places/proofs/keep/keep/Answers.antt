@@ -3,9 +3,7 @@ use native.Mathlib.Numerals.{add-one}
 use mathlib.Core.Path.{◌≡◌, refl, subst, ◌∙◌}
 use Rattle.trace_places.proofs.Keeping.{kept_none, kept_more}
 use Rattle.trace_places.specs.Making.{Kept}
-use borrow.Author.Rules.{rules}
 use native.Mathlib.Omega.{arith}
-use Prim.Native.Nat.{◌-◌, ◌≤◌}
 use Rattle.trace_places.proofs.keep.keep.Goals as goal
 
 pub loop-i-init : goal.loop-i-init

@@ -1,7 +1,6 @@
 -- `trace_places::keep::write` meets its contract.
 use lib.ListN.{length-set}
 use native.Mathlib.Omega.{arith}
-use borrow.Author.Rules.{rules}
 use Rattle.trace_places.proofs.keep.write.Goals as goal
 
 pub bounds-trace-second : goal.bounds-trace-second

@@ -3,7 +3,6 @@ use mathlib.Core.Path.{sym, ap, ◌∙◌}
 use Rattle.schema.proofs.Founds.{found_none, found_some}
 use Rattle.register.specs.Tables.{object_place}
 use Rattle.trace_places.specs.Traces.{or_past}
-use borrow.Author.Rules.{rules}
 use Rattle.trace_places.proofs.places.end_row.Goals as goal
 
 pub returns-in-At : goal.returns-in-At

@@ -2,7 +2,6 @@
 use mathlib.Core.Path.{sym, ap, ◌∙◌}
 use Rattle.tables.specs.Columns.{event_of, event_row}
 use Rattle.trace_places.specs.Traces.{named_at, row_named}
-use borrow.Author.Rules.{rules}
 use Rattle.trace_places.proofs.places.first_row.Goals as goal
 
 pub returns : goal.returns

@@ -1,9 +1,8 @@
 -- `trace_places::places::place` meets its contract. The invariant: the places from those of this event on are put. The measure is the event.
-use Prim.Native.Nat.{suc, ◌-◌, ◌*◌, ◌≤◌}
+use Prim.Native.Nat.{suc, ◌-◌, ◌*◌}
 use mathlib.Core.Path.{◌≡◌, sym, subst}
 use native.Mathlib.Nat.{le_refl}
 use native.Mathlib.Omega.{arith}
-use borrow.Author.Rules.{rules}
 use Rattle.trace_places.specs.Making.{Placed}
 use Rattle.trace_places.proofs.Placing.{placed_none, placed_event_lem}
 use Rattle.trace_places.proofs.places.place.Goals as goal

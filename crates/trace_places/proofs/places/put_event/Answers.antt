@@ -3,7 +3,6 @@ use native.Mathlib.Omega.{arith}
 use Rattle.tables.specs.Columns.{event_row}
 use Rattle.trace_places.specs.Traces.{named_at}
 use Rattle.trace_places.proofs.Placing.{or_past_lem, placed_both}
-use borrow.Author.Rules.{rules}
 use Rattle.trace_places.proofs.places.put_event.Goals as goal
 
 pub put-requires : goal.put-requires

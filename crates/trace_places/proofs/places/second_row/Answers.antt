@@ -4,7 +4,6 @@ use Rattle.rows.specs.Rows.{word_at}
 use Rattle.tables.specs.Columns.{event_of, event_row}
 use Rattle.trace_places.specs.Traces.{named_at, row_named}
 use Rattle.trace_places.proofs.Naming.{join_second, part_second, no_second}
-use borrow.Author.Rules.{rules}
 use Rattle.trace_places.proofs.places.second_row.Goals as goal
 
 pub returns-then-kind-eq-JOIN : goal.returns-then-kind-eq-JOIN

@@ -1,16 +1,11 @@
 -- `trace_types::moves::fill` meets its contract. The invariant: the events below this one are in the sets. The measure is the events left.
-use Prim.Native.Nat.{◌-◌, ◌≤◌}
 use mathlib.Core.Path.{◌≡◌, refl, ap}
-use mathlib.Core.List.{List}
 use native.Mathlib.Numerals.{add-one}
 use native.Mathlib.Omega.{arith}
 use lib.ListN.{get_or}
-use borrow.Author.Rules.{rules}
-use Rattle.meaning.specs.Limits.{max_types}
-use Rattle.meaning.specs.Register.{Link}
 use Rattle.tables.specs.Columns.{types_of, event_row}
 use Rattle.register.specs.Tables.{objects_with}
-use Rattle.trace_places.specs.Making.{event_moves, some_below, SetsWith}
+use Rattle.trace_places.specs.Making.{event_moves, some_below}
 use Rattle.trace_types.proofs.Moving.{sets_as, sets_still, sets_then}
 use Rattle.trace_types.proofs.moves.fill.Goals as goal
 

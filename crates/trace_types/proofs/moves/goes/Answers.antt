@@ -1,6 +1,5 @@
 -- `trace_types::moves::goes` meets its contract.
 use mathlib.Core.Path.{sym, ◌∙◌}
-use borrow.Author.Rules.{rules}
 use borrow.Author.Tests.{not-true, not-false}
 use Rattle.trace_types.proofs.Coming.{goes_still, goes_delete, goes_other, goes_general}
 use mathlib.Core.Path.{ap}

@@ -1,7 +1,6 @@
 -- `trace_types::moves::put` meets its contract.
 use mathlib.Core.Path.{ap, ◌∙◌}
 use mathlib.Core.Bool.{◌||◌}
-use borrow.Author.Rules.{rules}
 use Rattle.directions.specs.Sets.{has}
 use Rattle.trace_places.specs.Making.{either_way}
 use Rattle.trace_types.proofs.Moving.{set_put}

@@ -1,11 +1,9 @@
 -- `trace_types::moves::put_all` meets its contract. The invariant: the sets of the types below this one are done. The measure is the types left.
-use Prim.Native.Nat.{◌-◌, ◌≤◌}
 use mathlib.Core.Path.{◌≡◌, ap, subst, ◌∙◌}
 use mathlib.Core.Bool.{false, ◌&&◌}
 use native.Mathlib.Numerals.{add-one}
 use native.Mathlib.Omega.{arith}
 use lib.ListN.{get_or}
-use borrow.Author.Rules.{rules}
 use Rattle.meaning.specs.Limits.{max_types}
 use Rattle.trace_places.specs.Making.{either_way, SetsWith}
 use Rattle.trace_types.proofs.Moving.{truths_move, sets_none, sets_more}

@@ -1,7 +1,6 @@
 -- `trace_types::moves::put_event` meets its contract.
 use mathlib.Core.Path.{◌≡◌, sym, ap, ◌∙◌}
 use mathlib.Core.List.{List}
-use borrow.Author.Rules.{rules}
 use Rattle.meaning.specs.Limits.{max_types}
 use Rattle.meaning.specs.Schema.{ObjectType}
 use Rattle.meaning.specs.Register.{Link, Register}

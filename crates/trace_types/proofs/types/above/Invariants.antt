@@ -1,13 +1,10 @@
 -- `trace_types::types::above` meets its contract. The invariant: the types that the walk has put, and those that are left of it, are those above t. The
 -- measure is the number of steps left.
-use mathlib.Core.Path.{◌≡◌, refl, sym, ap, ◌∙◌}
-use mathlib.Core.Option.{some}
+use mathlib.Core.Path.{◌≡◌}
 use lib.ListN.{length}
 use Rattle.meaning.specs.Limits.{max_types}
-use borrow.Author.Rules.{rules}
-use borrow.Author.Tests.{not-true, not-false}
 use Rattle.tables.specs.Columns.{types_of}
-use Rattle.trace_types.proofs.Climbing.{no_truths, Walked, no_parent_lem, parent_word_lem, walk_none, walk_up, walk_top, walk_end}
+use Rattle.trace_types.proofs.Climbing.{Walked}
 use Rattle.trace_types.proofs.types.above.Given as goal
 
 abbrev pub invariant-loop-left : goal.invariant-loop-left

@@ -1,6 +1,5 @@
 -- `trace_types::types::end_above` meets its contract.
 use mathlib.Core.Path.{sym, ap, ◌∙◌}
-use borrow.Author.Rules.{rules}
 use Rattle.meaning.specs.Schema.{under}
 use Rattle.tables.specs.Columns.{types_of}
 use Rattle.schema.proofs.Founds.{found_none, found_some}

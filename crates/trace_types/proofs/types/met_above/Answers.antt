@@ -1,7 +1,6 @@
 -- `trace_types::types::met_above` meets its contract.
 use mathlib.Core.Path.{sym, ap}
 use mathlib.Core.Bool.{◌&&◌}
-use borrow.Author.Rules.{rules}
 use borrow.Author.Tests.{lt-ltb, le-ltb}
 use Rattle.meaning.specs.Limits.{max_types}
 use Rattle.meaning.specs.Schema.{under}

@@ -1,5 +1,4 @@
 -- `trace_types::types::put` meets its contract.
-use borrow.Author.Rules.{rules}
 use Rattle.trace_types.proofs.Climbing.{truth_put, truth_past}
 use Rattle.trace_types.proofs.types.put.Goals as goal
 

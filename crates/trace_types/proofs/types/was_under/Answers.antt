@@ -1,7 +1,6 @@
 -- `trace_types::types::was_under` meets its contract.
 use mathlib.Core.Path.{◌∙◌}
 use borrow.Author.Tests.{lt-ltb, le-ltb}
-use borrow.Author.Rules.{rules}
 use Rattle.trace_types.proofs.types.was_under.Goals as goal
 
 pub returns-then-met-lt-MAX_TYPES : goal.returns-then-met-lt-MAX_TYPES
