@@ -1,4 +1,6 @@
 // The event list of a rule as marks: what its body and its context list, by document 01's reach rules without objects.
+#![tactic(auto)]
+
 ghost use Rattle.std.specs.Prelude.{◌≡◌, T, length};
 ghost use Rattle.meaning.specs.EventList.{event_list};
 ghost use Rattle.rows.specs.Rows.{word_at};

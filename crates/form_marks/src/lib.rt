@@ -1,4 +1,6 @@
 // What the forms of a rule's body list.
+#![tactic(auto)]
+
 ghost use Rattle.std.specs.Prelude.{◌≡◌, List, ◌+◌, ◌≤◌, ◌<◌, T, length, take};
 ghost use Rattle.meaning.specs.Schema.{Floor};
 ghost use Rattle.meaning.specs.Forms.{collection};

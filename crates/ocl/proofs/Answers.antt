@@ -1,6 +1,6 @@
 -- What each evaluator answers is the meaning of its form, by what it is told of the parts.
-use Prim.Native.Nat.{ℕ, suc, ◌+◌, ◌-◌, ◌*◌, ◌^◌, ◌≤◌, ◌<◌}
-use mathlib.Core.Path.{◌≡◌, refl, sym, ap, ap₂, subst, ◌∙◌}
+use Prim.Native.Nat.{ℕ, ◌+◌, ◌-◌, ◌*◌, ◌^◌, ◌≤◌, ◌<◌}
+use mathlib.Core.Path.{◌≡◌, sym, ap, ap₂, subst, ◌∙◌}
 use mathlib.Core.Bool.{Bool, true, false, not, cond}
 use mathlib.Core.List.{List, [], ◌∷◌, map}
 use native.Mathlib.Omega.{arith}
@@ -15,7 +15,7 @@ use Rattle.meaning.specs.Forms.{truth, number, collection, role, select, variabl
 use Rattle.meaning.specs.Meaning.{compared, connected, quantified, combined, total}
 use Rattle.meaning.proofs.Integers.{nat_abs_add}
 use Rattle.rows.specs.Rows.{signed}
-use Rattle.tables.specs.Bodies.{BodyRow, as_collection, as_truth}
+use Rattle.tables.specs.Bodies.{BodyRow, as_truth}
 use Rattle.tables.specs.Columns.{object_row}
 use Rattle.signed.specs.Comparing.{comparison_of}
 use Rattle.walks.specs.Site.{Site, types_at, register_at, rows_at, form_at, code_at, id_in, ids_of}
@@ -24,7 +24,6 @@ use Rattle.walks.specs.Values.{truth_of, number_of, members_of, cell_in, weight_
 use Rattle.walks.specs.Walks.{Went, BegunIn, WalkedIn, Stepped, Anywhere, instances_from, far_step, left_in, StandsIn, collection_at, left_at, Stands, Begun, Walked}
 use Rattle.ocl.specs.Ready.{Ready}
 use Rattle.walks.specs.declared.Step.{Step}
-use Rattle.walks.specs.declared.Step.TheVariants.{At, Done}
 use Rattle.walks.proofs.Objects.{under_in, cell_in_lem}
 use Rattle.ocl.proofs.Loops.{quantified_none, quantified_stop, quantified_on, weighed, total_none, total_more}
 use Rattle.ocl.proofs.Nums.{members_few, number_within}

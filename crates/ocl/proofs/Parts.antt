@@ -1,6 +1,6 @@
 -- The parts of a form are ready where the form is, and its meaning is made of theirs.
 use Prim.Native.Nat.{ℕ, suc, ◌+◌, ◌-◌, ◌≤◌, ◌<◌}
-use mathlib.Core.Path.{◌≡◌, refl, sym, ap, ap₂, subst, ◌∙◌}
+use mathlib.Core.Path.{◌≡◌, refl, sym, ap, subst, ◌∙◌}
 use mathlib.Core.Logic.{⊎_elim}
 use mathlib.Core.Bool.{Bool, true, false, ◌&&◌, not}
 use mathlib.Core.List.{List, [], ◌∷◌, map}
@@ -9,14 +9,13 @@ use native.Mathlib.Nat.{eq-or-lt_of_le}
 use native.Mathlib.Numerals.{add-one}
 use native.Mathlib.Omega.{arith}
 use lib.Dec.{T, ltb, eqb}
-use lib.ListN.{length, get_or, take, set, length-set}
+use lib.ListN.{get_or, set, length-set}
 use lib.Seq.{get_or-set_same, get_or-set_other}
 use lib.IntN.{ℤ}
 use mir.Facts.{and_yes, ltb_yes}
 use borrow.Author.Tests.{eqb-true, eqb-false}
-use Rattle.meaning.specs.Limits.{max_relationships}
 use Rattle.meaning.specs.Register.{is_under, cell_at}
-use Rattle.meaning.specs.Forms.{Sort, truth, number, collection, Form, role, all, select, bind, variable}
+use Rattle.meaning.specs.Forms.{Sort, truth, number, collection, role, all, select, bind, variable}
 use Rattle.meaning.specs.Meaning.{compared, connected, quantified, combined, total, meaning}
 use Rattle.rows.specs.Rows.{signed}
 use Rattle.tables.specs.Codes.{Operator, comparing, negating, connecting, quantifying, kind_of, literal, cell_of, size_of, sum_of, combining, role_of, all_of, selecting, operators, operator_of, shape_of}

@@ -1,4 +1,6 @@
 // The evaluators of rule bodies over an indexed register. Variables stand for objects by their rows.
+#![tactic(auto)]
+
 ghost use Rattle.std.specs.Prelude.{◌≡◌, [], ◌∷◌, ◌<◌, ◌≤◌};
 ghost use Rattle.meaning.specs.Forms.{truth, number, collection};
 ghost use Rattle.walks.specs.Site.{Site, site_of, code_at};
