@@ -1,4 +1,6 @@
 // The event list of a rule, as one line.
+#![tactic(auto)]
+
 ghost use Rattle.std.specs.Prelude.{◌∷◌, ℕ, ◌+◌, ◌*◌, ◌≤◌, ◌<◌, length};
 ghost use Rattle.rows.specs.Rows.{word_at};
 ghost use Rattle.text.specs.Names.{name_of, first_event};

@@ -1,4 +1,6 @@
 // What a program prints of an answer and its pairs.
+#![tactic(auto)]
+
 mod outcome;
 pub mod pieces;
 

@@ -1,4 +1,6 @@
 // The writer: lent tables as their one text.
+#![tactic(auto)]
+
 ghost use Rattle.std.specs.Prelude.{◌≡◌, List, ℕ, ◌+◌, ◌<◌, ◌≤◌, length};
 ghost use Rattle.tables.specs.Layouts.{sheet_of, section_count};
 ghost use Rattle.tables.specs.Refusals.{verdict_of, sheet_refusal};

@@ -5,7 +5,6 @@ use mathlib.Core.List.{[], ◌∷◌, ◌++◌}
 use Rattle.text.specs.Tokens.{spell_token, item}
 use Rattle.line_writer.proofs.Puts.{put_of, put_then, put_as}
 use Rattle.line_writer.proofs.Spellings.{closing_none, closing_one, closing_two}
-use borrow.Author.Rules.{rules}
 use Rattle.line_writer.proofs.lines.close.Goals as goal
 
 pub returns-then-fields-eq0 : goal.returns-then-fields-eq0

@@ -8,7 +8,6 @@ use Rattle.text.specs.Entries.{event_fields}
 use Rattle.line_writer.specs.Lines.{row_line, event_line}
 use Rattle.line_writer.proofs.Puts.{put_as}
 use Rattle.line_writer.proofs.Spellings.{few_fields}
-use borrow.Author.Rules.{rules}
 use Rattle.line_writer.proofs.lines.event_line.Goals as goal
 
 pub row_line-requires : goal.row_line-requires

@@ -7,7 +7,6 @@ use Rattle.rows.specs.Rows.{word_at}
 use Rattle.text.specs.Names.{object_name}
 use Rattle.line_writer.specs.Lines.{row_line, cells_for, object_line}
 use Rattle.line_writer.proofs.Puts.{put_as}
-use borrow.Author.Rules.{rules}
 use Rattle.line_writer.proofs.lines.object_line.Goals as goal
 
 pub row_line-requires : goal.row_line-requires

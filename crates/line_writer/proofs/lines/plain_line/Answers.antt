@@ -1,6 +1,5 @@
 -- `line_writer::lines::plain_line` meets its contract.
 use Rattle.line_writer.specs.Lines.{plain_line}
-use borrow.Author.Rules.{rules}
 use Rattle.line_writer.proofs.lines.plain_line.Goals as goal
 
 pub returns : goal.returns

@@ -4,7 +4,6 @@ use mathlib.Core.List.{[], ◌∷◌}
 use Rattle.text.specs.Names.{relationship_name}
 use Rattle.line_writer.specs.Lines.{row_line, relationship_line}
 use Rattle.line_writer.proofs.Puts.{put_as}
-use borrow.Author.Rules.{rules}
 use Rattle.line_writer.proofs.lines.relationship_line.Goals as goal
 
 pub returns : goal.returns

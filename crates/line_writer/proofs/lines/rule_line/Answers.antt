@@ -11,7 +11,6 @@ use Rattle.text.specs.Tokens.{spell_token, item}
 use Rattle.line_writer.specs.Lines.{spell_form}
 use Rattle.line_writer.proofs.Puts.{put_then, put_as}
 use Rattle.line_writer.proofs.Bodies.{rule_spelled}
-use borrow.Author.Rules.{rules}
 use Rattle.line_writer.proofs.lines.rule_line.Goals as goal
 
 pub scan-spans-requires : goal.scan-spans-requires

@@ -7,7 +7,6 @@ use Rattle.text.specs.Entries.{parent_item}
 use Rattle.line_writer.specs.Lines.{type_line}
 use Rattle.line_writer.proofs.Puts.{put_then, put_as}
 use Rattle.line_writer.proofs.Spellings.{three_line}
-use borrow.Author.Rules.{rules}
 use Rattle.line_writer.proofs.lines.type_line.Goals as goal
 
 pub returns : goal.returns

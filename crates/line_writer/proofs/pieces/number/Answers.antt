@@ -2,7 +2,6 @@
 use native.Mathlib.Omega.{arith}
 use Rattle.line_writer.proofs.Puts.{put_of, put_then, put_as}
 use Rattle.line_writer.proofs.Spellings.{number_token}
-use borrow.Author.Rules.{rules}
 use Rattle.line_writer.proofs.pieces.number.Goals as goal
 
 pub returns : goal.returns

@@ -4,7 +4,6 @@ use mathlib.Core.Path.{ap}
 use mathlib.Core.List.{◌∷◌}
 use Rattle.line_writer.proofs.Puts.{put_of, put_then, put_as}
 use Rattle.line_writer.proofs.Names.{starts, letters, named}
-use borrow.Author.Rules.{rules}
 use Rattle.line_writer.proofs.pieces.open.Goals as goal
 
 pub slice_bounds-write_bytes-count : goal.slice_bounds-write_bytes-count

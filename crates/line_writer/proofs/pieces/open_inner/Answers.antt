@@ -1,7 +1,6 @@
 -- `line_writer::pieces::open_inner` meets its contract.
 use Rattle.text.specs.Tokens.{spell_token}
 use Rattle.line_writer.proofs.Puts.{put_of, put_then}
-use borrow.Author.Rules.{rules}
 use Rattle.line_writer.proofs.pieces.open_inner.Goals as goal
 
 pub returns : goal.returns

@@ -1,7 +1,6 @@
 -- `line_writer::pieces::parent` meets its contract.
 use Rattle.line_writer.proofs.Puts.{put_of, put_as}
 use Rattle.line_writer.proofs.Spellings.{no_parent_lem, some_parent}
-use borrow.Author.Rules.{rules}
 use Rattle.line_writer.proofs.pieces.parent.Goals as goal
 
 pub returns-then-word-eq-NO_PARENT : goal.returns-then-word-eq-NO_PARENT

@@ -1,7 +1,6 @@
 -- `line_writer::pieces::row_line` meets its contract.
 use Rattle.line_writer.proofs.Puts.{put_then, put_as, put_within}
 use Rattle.line_writer.proofs.Spellings.{row_line_lem}
-use borrow.Author.Rules.{rules}
 use Rattle.line_writer.proofs.pieces.row_line.Goals as goal
 
 pub numbers-b-requires : goal.numbers-b-requires
