@@ -1,5 +1,7 @@
 // The marks of a batch: "one mark for each of the 1,024 entity positions" for each rule, one bit each. A rule's marks are 32 words that follow each other, so
 // that trailing zeros give its next marked row, and a rule without a mark is passed over by 32 words.
+#![tactic(auto)]
+
 ghost use Rattle.std.specs.Prelude.{◌≡◌, false, ◌&&◌, ◌||◌, ℕ, ◌+◌, ◌≤◌, ◌<◌, eqb, length};
 ghost use Rattle.meaning.specs.Limits.{max_objects, max_rules};
 ghost use Rattle.bits.specs.Bits.{bit_at};

@@ -1,4 +1,6 @@
 // What the leaves of the reach rules ask of the events that name an object: a chain of places for each row.
+#![tactic(auto)]
+
 ghost use Rattle.std.specs.Prelude.{◌≡◌, Bool, ◌&&◌, not, ℕ, ◌/◌, ◌%◌, ◌≤◌, ◌<◌, eqb};
 ghost use Rattle.meaning.specs.Reach.{Change, some_step, taken};
 ghost use Rattle.tables.specs.Columns.{types_of, event_of, event_row};
