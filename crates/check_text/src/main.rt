@@ -1,4 +1,8 @@
 // The program of document 01, "Book A": reads a text from standard input, checks its batch, and prints the answer and the listed pairs.
-fn main() {
-    programs::check(0, 1);
+#![tactic(auto)]
+
+use programs::Failure;
+
+fn main(rt: HostRuntime) -> Result<(), Failure> {
+    programs::check(&mut rt.stdin(), &mut rt.stdout())
 }

@@ -1,36 +1,30 @@
 // Reads the text of a park from standard input and prints what the first argument asks. Alone or with another word it says how to use it.
-use park_answers::words::{Word, asked_by};
+#![tactic(auto)]
 
-fn usage() {
-    io::write_all(
-        1,
-        b"park WORD < FILE reads the text of a park: its book, its register and the events of one visit\n",
-    );
-    io::write_all(
-        1,
-        b"  check   the answer of the visit, and the pairs that were looked at\n",
-    );
-    io::write_all(
-        1,
-        b"  full    the answer for the whole register as it stands; the events are not looked at\n",
-    );
-    io::write_all(1, b"  events  the event list of each rule, a line each\n");
-    io::write_all(
-        1,
-        b"  after   the text for the next visit, if this one is accepted; else as check\n",
-    );
-    io::write_all(
-        1,
-        b"docs/FITTER.md says what a text holds, and what each refusal means\n",
-    );
+use park_answers::words::{Word, asked_by};
+use programs::Failure;
+use std::io;
+use std::rt::Env;
+
+fn usage(rt: &impl Print) -> io::Result<()> {
+    rt.println(
+        "park WORD < FILE reads the text of a park: its book, its register and the events of one visit",
+    )?;
+    rt.println("  check   the answer of the visit, and the pairs that were looked at")?;
+    rt.println(
+        "  full    the answer for the whole register as it stands; the events are not looked at",
+    )?;
+    rt.println("  events  the event list of each rule, a line each")?;
+    rt.println("  after   the text for the next visit, if this one is accepted; else as check")?;
+    rt.println("docs/FITTER.md says what a text holds, and what each refusal means")
 }
 
-fn main() {
+fn main(rt: HostRuntime) -> Result<(), Failure> {
     // a longer word is none of the four, and comes as no bytes
     let mut word = [0u8; 6];
-    let length = os::arg(1, &mut word);
+    let length = rt.arg(1, &mut word).unwrap_or(0);
     match asked_by(&word[..length]) {
-        Word::Asks(asked) => programs::park(asked, 0, 1),
-        Word::Unknown => usage(),
+        Word::Asks(asked) => programs::park(asked, &mut rt.stdin(), &mut rt.stdout()),
+        Word::Unknown => usage(&rt).map_err(Failure::Writing),
     }
 }

@@ -1,5 +1,7 @@
 // Sets of rows, one for each variable: self's, variable 0, is an array of marks; those of the variables within stand in one slice, at 1,024 times the
 // variable's number. `put`, `in_set` and `clear` alone know it.
+#![tactic(auto)]
+
 ghost use Rattle.std.specs.Prelude.{◌≡◌, Bool, true, false, ◌&&◌, ◌||◌, List, ℕ, ◌*◌, ◌≤◌, ◌<◌, length, get_or};
 ghost use Rattle.meaning.specs.Lists.{◌∈◌};
 ghost use Rattle.meaning.specs.Register.{far_ends};

@@ -1,19 +1,36 @@
 // The programs' own reading, on the files of `data`: texts as long as a program takes, a byte longer and more, and a folder, which cannot be read.
+#![tactic(auto)]
+
 use park_answers::Asked;
+use programs::Failure;
+use std::fs;
+use std::fs::File;
 
 // What a program is given: its name is written, and it is opened.
-fn opened(name: &[u8]) -> i32 {
-    io::write_all(1, name);
-    io::write_all(1, b"\n");
-    os::open_read(name)
+fn opened(rt: &HostRuntime, name: &str) -> Result<File, Failure> {
+    rt.println(name).map_err(Failure::Writing)?;
+    fs::open(rt, name).map_err(Failure::Reading)
 }
 
-fn main() {
-    programs::check(opened(b"check_8192.txt"), 1);
-    programs::check(opened(b"check_8193.txt"), 1);
-    programs::check(opened(b"check_9000.txt"), 1);
-    programs::check(opened(b"."), 1);
-    programs::park(Asked::Full, opened(b"park_65536.txt"), 1);
-    programs::park(Asked::Full, opened(b"park_65537.txt"), 1);
-    programs::park(Asked::Full, opened(b"."), 1);
+// A folder fails to be read, and nothing is written of it.
+fn unread(rt: &HostRuntime, outcome: Result<(), Failure>) -> Result<(), Failure> {
+    match outcome {
+        Ok(()) => rt.println("read").map_err(Failure::Writing),
+        Err(Failure::Reading(_)) => Ok(()),
+        Err(failure) => Err(failure),
+    }
+}
+
+fn main(rt: HostRuntime) -> Result<(), Failure> {
+    let mut out = rt.stdout();
+    programs::check(&mut opened(&rt, "check_8192.txt")?, &mut out)?;
+    programs::check(&mut opened(&rt, "check_8193.txt")?, &mut out)?;
+    programs::check(&mut opened(&rt, "check_9000.txt")?, &mut out)?;
+    unread(&rt, programs::check(&mut opened(&rt, ".")?, &mut out))?;
+    programs::park(Asked::Full, &mut opened(&rt, "park_65536.txt")?, &mut out)?;
+    programs::park(Asked::Full, &mut opened(&rt, "park_65537.txt")?, &mut out)?;
+    unread(
+        &rt,
+        programs::park(Asked::Full, &mut opened(&rt, ".")?, &mut out),
+    )
 }

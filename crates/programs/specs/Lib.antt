@@ -1,0 +1,2 @@
+-- What the programs' contracts cite.
+pub mod Failures
