@@ -74,21 +74,21 @@ pub overflow_add-at : goal.overflow_add-at
 overflow_add-at c =
     let row = asked (wrote c.before) in
     let inner = row.before.before in
-    omega (arith, before_end _ _ (written_on _ _ (taken inner row.if2.taken) (in_turn inner)), (start (turn inner)).requires.2)
+    omega (arith, before_end _ _ (written_on _ _ (taken inner c.loop-row-test.true) (in_turn inner)), (start (turn inner)).requires.2)
 
 pub overflow_add-row : goal.overflow_add-row
 overflow_add-row c =
     let row = asked (wrote c.before) in
-    omega (arith, row.if2.taken, (start (turn row.before.before)).requires.1)
+    omega (arith, c.loop-row-test.true, (start (turn row.before.before)).requires.1)
 
 pub next_row-row-requires-in-loop-row : goal.next_row-row-requires-in-loop-row
 next_row-row-requires-in-loop-row c =
     let row = asked (wrote c.before) in
     let then = turn row.before.before in
-    (omega (arith, then.loop-rule-test.true, (start then).requires.0), omega (arith, row.if2.taken, (start then).requires.1))
+    (omega (arith, then.loop-rule-test.true, (start then).requires.0), omega (arith, c.loop-row-test.true, (start then).requires.1))
 
 pub loop-row-smaller : goal.loop-row-smaller
-loop-row-smaller c = let row = asked (wrote c.before.before) in omega (arith, row.if2.taken, c.next_row-row-in-loop-row.ensures.on)
+loop-row-smaller c = let row = asked (wrote c.before.before) in omega (arith, c.loop-row-test.true, c.next_row-row-in-loop-row.ensures.on)
 
 pub loop-row-preserved : goal.loop-row-preserved
 loop-row-preserved c =
