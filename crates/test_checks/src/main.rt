@@ -1,5 +1,7 @@
 // Refusals 2, 6, 3, 4 and 5 of lent tables. Each of 3, 4 and 5 is met at a first, a middle and a last row of the largest tables that the
 // limits allow. The cases are lines of standard input; `stdin` says how they are written.
+#![tactic(auto)]
+
 use cases::line::byte;
 use cases::{line, say, sheet};
 use tables::{Counts, Verdict};

@@ -2,6 +2,8 @@
 // The cases are lines of standard input; `stdin` says how they are written.
 //
 // A text's answer is `ok`, or a refusal's number and line; after `ok/` stands the writer's refusal of tables that the reader takes.
+#![tactic(auto)]
+
 mod build;
 mod copy;
 mod judge;

@@ -1,6 +1,4 @@
 -- `line::digits` is safe and ends.
-
--- `line::digits` is safe and ends.
 use Rattle.std.proofs.Common.{◌-◌, length}
 use Rattle.cases.proofs.line.digits.Given as goal
 

@@ -1,6 +1,4 @@
 -- `line::find` is safe and ends.
-
--- `line::find` is safe and ends.
 use Rattle.std.proofs.Common.{◌-◌, ◌≤◌, length}
 use Rattle.cases.proofs.line.find.Given as goal
 

@@ -1,6 +1,4 @@
 -- `line::numbers` is safe and ends.
-
--- `line::numbers` is safe and ends.
 use Rattle.std.proofs.Common.{◌≡◌, ◌-◌, length}
 use Rattle.cases.proofs.line.numbers.Given as goal
 

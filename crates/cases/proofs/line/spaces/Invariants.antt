@@ -1,6 +1,4 @@
 -- `line::spaces` is safe and ends.
-
--- `line::spaces` is safe and ends.
 use Rattle.std.proofs.Common.{◌-◌, length}
 use Rattle.cases.proofs.line.spaces.Given as goal
 

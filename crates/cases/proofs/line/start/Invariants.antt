@@ -1,6 +1,4 @@
 -- `line::start` is safe and ends.
-
--- `line::start` is safe and ends.
 use Rattle.std.proofs.Common.{◌-◌, ◌≤◌, length}
 use Rattle.cases.proofs.line.start.Given as goal
 

@@ -1,6 +1,4 @@
 -- `sheet::chain` is safe and ends.
-
--- `sheet::chain` is safe and ends.
 use Rattle.std.proofs.Common.{◌≡◌, ◌-◌, length}
 use Rattle.cases.proofs.sheet.chain.Given as goal
 

@@ -1,6 +1,4 @@
 -- `sheet::differing` is safe and ends.
-
--- `sheet::differing` is safe and ends.
 use Rattle.std.proofs.Common.{◌-◌, length}
 use Rattle.cases.proofs.sheet.differing.Given as goal
 

@@ -1,6 +1,4 @@
 -- `sheet::give` is safe and ends.
-
--- `sheet::give` is safe and ends.
 use Rattle.std.proofs.Common.{◌≡◌, ◌-◌, length}
 use Rattle.cases.proofs.sheet.give.Given as goal
 

@@ -1,6 +1,4 @@
 -- `sheet::take` is safe and ends.
-
--- `sheet::take` is safe and ends.
 use Rattle.std.proofs.Common.{◌≡◌, ◌-◌, length}
 use Rattle.cases.proofs.sheet.take.Given as goal
 

@@ -1,6 +1,4 @@
 -- `sheet::used` is safe and ends.
-
--- `sheet::used` is safe and ends.
 use Rattle.std.proofs.Common.{◌-◌}
 use Rattle.cases.proofs.sheet.used.Given as goal
 
