@@ -1,4 +1,6 @@
 // The candidates of a rule: the objects at which the forward rule is asked.
+#![tactic(auto)]
+
 ghost use Rattle.std.specs.Prelude.{◌≡◌, true, false, ◌||◌, ℕ, ◌≤◌, ◌<◌, T, length, get_or};
 ghost use Rattle.meaning.specs.Schema.{Schema};
 ghost use Rattle.meaning.specs.Reach.{Change};

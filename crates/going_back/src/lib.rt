@@ -1,4 +1,6 @@
 // Going back from the events of a batch through a rule's body: each variable's set covers the objects at which the form may move.
+#![tactic(auto)]
+
 ghost use Rattle.std.specs.Prelude.{◌≡◌, Bool, true, false, List, ℕ, ◌+◌, ◌-◌, ◌<◌, T, get_or};
 ghost use Rattle.meaning.specs.Forms.{collection};
 ghost use Rattle.meaning.specs.Reach.{Change, cell_moves};

@@ -1,6 +1,6 @@
 -- The parts of a form are able where the form is.
 use Prim.Native.Nat.{ℕ, suc, ◌+◌, ◌-◌, ◌≤◌, ◌<◌}
-use mathlib.Core.Path.{◌≡◌, refl, sym, ap, subst, ◌∙◌}
+use mathlib.Core.Path.{◌≡◌, refl, sym, subst, ◌∙◌}
 use mathlib.Core.Logic.{⊎_elim}
 use mathlib.Core.Bool.{Bool, true, false, cond}
 use mathlib.Core.List.{List, [], ◌∷◌}
@@ -16,7 +16,7 @@ use Rattle.meaning.specs.Limits.{max_relationships}
 use Rattle.meaning.specs.Schema.{Schema, known_type}
 use Rattle.meaning.specs.Forms.{Sort, truth, number, collection, bind}
 use Rattle.tables.specs.Codes.{Operator, comparing, negating, connecting, quantifying, kind_of, literal, cell_of, size_of, sum_of, combining, role_of, all_of, selecting, operator_of, code_of, shape_of}
-use Rattle.tables.specs.Bodies.{Part, part, sort_of, same_sort, as_truth, as_number, as_collection, reads, ending, first_part, second_part}
+use Rattle.tables.specs.Bodies.{Part, part, sort_of, same_sort, as_truth, as_number, as_collection, reads, ending, first_part}
 use Rattle.tables.proofs.Readings.{ending_start, sound_pos, code_of_lem}
 use Rattle.body_rows.specs.Marks.{first_sort, second_sort}
 use Rattle.typing.specs.Types.{typed_part, member_of, summed, typed_leaf}

@@ -1,8 +1,8 @@
 -- A walk over the members of a collection that stops at the first that passes a test.
 use Prim.Native.Nat.{ℕ}
-use mathlib.Core.Path.{◌≡◌, refl, sym, ap, ◌∙◌}
+use mathlib.Core.Path.{◌≡◌, sym, ap, ◌∙◌}
 use mathlib.Core.Bool.{Bool, true, false, ◌||◌}
-use mathlib.Core.List.{List, [], ◌∷◌}
+use mathlib.Core.List.{List, []}
 use Rattle.meaning.specs.Lists.{any}
 use Rattle.walks.specs.Site.{Site, id_in}
 use Rattle.walks.specs.Values.{members_of}

@@ -1,4 +1,6 @@
 // The forward rule: whether a form of a rule's body may move, at rows of the register at the end. "Members are always those at the end."
+#![tactic(auto)]
+
 ghost use Rattle.std.specs.Prelude.{◌≡◌, map, ◌-◌, ◌<◌, get_or, take};
 ghost use Rattle.meaning.specs.Limits.{max_types};
 ghost use Rattle.meaning.specs.Lists.{any};

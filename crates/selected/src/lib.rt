@@ -1,4 +1,6 @@
 // Whether a rule is selected at an object. The forward rule is asked at marked objects only.
+#![tactic(auto)]
+
 ghost use Rattle.std.specs.Prelude.{◌≡◌, ◌<◌};
 ghost use Rattle.meaning.specs.Reach.{Change, events_select};
 ghost use Rattle.tables.specs.Columns.{rule_row};

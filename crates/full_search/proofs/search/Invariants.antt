@@ -1,0 +1,25 @@
+-- `full_search::search` meets its contract. The invariants: no broken pair stands before the rule, or before the row of the rule.
+use Prim.Native.Nat.{◌-◌}
+use mathlib.Core.Path.{◌≡◌, refl, ◌∙◌}
+use native.Mathlib.Omega.{arith}
+use borrow.Author.Rules.{rules}
+use mathlib.Core.List.{[]}
+use Rattle.tables.specs.Layouts.{sheet_of}
+use Rattle.tables.specs.declared.Answer.TheVariants.{Accepted}
+use Rattle.full_search.proofs.Given.{size_few, rule_ready}
+use Rattle.full_search.proofs.Pairs.{Searching, Within, search_starts, within_starts, within_ends, search_ends, row_broken, row_passed}
+use Rattle.full_search.proofs.search.Given as goal
+
+abbrev pub invariant-loop-row : goal.invariant-loop-row
+invariant-loop-row l =
+    (l.answer ≡ Accepted) × Within l.n (sheet_of l.types l.floors l.relationships l.rules l.bodies l.objects l.links []) l.rule l.row
+
+abbrev pub decreases-loop-row : goal.decreases-loop-row
+decreases-loop-row l = l.n.objects - l.row
+
+abbrev pub invariant-search : goal.invariant-search
+invariant-search l =
+    (l.answer ≡ Accepted) × Searching l.n (sheet_of l.types l.floors l.relationships l.rules l.bodies l.objects l.links []) l.rule
+
+abbrev pub decreases-search : goal.decreases-search
+decreases-search l = l.n.rules - l.rule

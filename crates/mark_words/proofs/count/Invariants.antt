@@ -1,0 +1,17 @@
+-- `mark_words::count` meets its contract.
+use Prim.Native.Nat.{◌≤◌, ◌-◌}
+use mathlib.Core.Path.{◌≡◌, ap, ◌∙◌}
+use mathlib.Core.Logic.{⊎_elim}
+use mathlib.Core.List.{[], ◌∷◌}
+use native.Mathlib.Omega.{arith}
+use lib.ListN.{length, length-append}
+use Rattle.type_marks.specs.Marks.{places}
+use Rattle.mark_words.specs.Places.{marked_below}
+use Rattle.mark_words.proofs.Places.{below_marked, below_unmarked, below_few}
+use Rattle.mark_words.proofs.count.Given as goal
+
+abbrev pub invariant-loop-place : goal.invariant-loop-place
+invariant-loop-place l = (l.place ≤ places) × (l.n ≡ length (marked_below l.marks l.place))
+
+abbrev pub decreases-loop-place : goal.decreases-loop-place
+decreases-loop-place l = places - l.place

@@ -1,0 +1,16 @@
+-- `occurring::mark_events` meets its contract. The invariant: what the events below this one count for is marked. The measure is the events left.
+use Prim.Native.Nat.{◌-◌, ◌≤◌}
+use mathlib.Core.Path.{◌≡◌, refl, subst, ◌∙◌}
+use native.Mathlib.Numerals.{add-one}
+use native.Mathlib.Omega.{arith}
+use lib.ListN.{length}
+use borrow.Author.Rules.{rules}
+use Rattle.occurring.proofs.Batches.{CountedTo, none_counted, one_counted, all_counted}
+use Rattle.occurring.proofs.mark_events.Given as goal
+
+abbrev pub invariant-loop-i : goal.invariant-loop-i
+invariant-loop-i l =
+    (l.i ≤ l.count) × (length l.marks ≡ length l.initial.marks) × CountedTo l.n.types l.types l.n.objects l.objects l.events l.met l.initial.marks l.marks l.i
+
+abbrev pub decreases-loop-i : goal.decreases-loop-i
+decreases-loop-i l = l.count - l.i

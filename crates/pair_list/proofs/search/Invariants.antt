@@ -1,0 +1,32 @@
+-- `pair_list::search` meets its contract. The invariants: no broken pair stands before those of the rule, or before that of the row, which is marked.
+use Prim.Native.Nat.{◌+◌, ◌-◌, ◌<◌}
+use mathlib.Core.Path.{◌≡◌, refl, ◌∙◌}
+use mathlib.Core.Bool.{true}
+use native.Mathlib.Omega.{arith}
+use mathlib.Core.List.{[], ◌∷◌}
+use Rattle.tables.specs.Layouts.{sheet_of}
+use Rattle.tables.specs.declared.Answer.TheVariants.{Accepted}
+use Rattle.meaning.specs.Reach.{pair_of}
+use Rattle.walks.specs.Site.{id_in}
+use Rattle.full_search.proofs.Given.{size_few, rule_ready}
+use Rattle.pair_marks.specs.Marks.{marked}
+use Rattle.pair_list.specs.Pairs.{marked_pairs}
+use Rattle.pair_list.proofs.Left.{from_rule, from_row, all_left, none_left, rule_starts, rule_ends, row_taken, rows_passed, rules_passed}
+use Rattle.pair_list.proofs.Found.{Searching, search_starts, search_on, search_ends, pair_broken_lem, pair_passed}
+use Rattle.pair_list.proofs.search.Given as goal
+
+abbrev pub invariant-loop-row : goal.invariant-loop-row
+invariant-loop-row l =
+    (l.answer ≡ Accepted) × (l.row < 1024 → marked l.marks l.rule l.row ≡ true)
+    × Searching l.n (sheet_of l.types l.floors l.relationships l.rules l.bodies l.objects l.links []) (marked_pairs l.n l.objects l.marks) (from_row l.n l.objects l.marks l.rule l.row)
+
+abbrev pub decreases-loop-row : goal.decreases-loop-row
+decreases-loop-row l = l.n.objects - l.row
+
+abbrev pub invariant-search : goal.invariant-search
+invariant-search l =
+    (l.answer ≡ Accepted)
+    × Searching l.n (sheet_of l.types l.floors l.relationships l.rules l.bodies l.objects l.links []) (marked_pairs l.n l.objects l.marks) (from_rule l.n l.objects l.marks l.rule)
+
+abbrev pub decreases-search : goal.decreases-search
+decreases-search l = l.n.rules - l.rule
