@@ -1,5 +1,7 @@
 // Batches of events: each block of standard input is a name and a text of document 01, and ends before an empty line. Of each text the refusal is written, or
 // the type that each event met and the register after the batch, as a text. Rows are lent for 5 objects and 4 links.
+#![tactic(auto)]
+
 ghost use Rattle.std.specs.Prelude.{◌≤◌, length};
 
 use reader::Outcome;
