@@ -1,0 +1,8 @@
+-- `told::verdict` meets its contract. The number is that of the verdict that is met.
+use mathlib.Core.Path.{sym, ap}
+use borrow.Author.Rules.{rules}
+use Rattle.told.specs.Coded.{verdict_code}
+use Rattle.told.proofs.verdict.Goals as goal
+
+pub returns-in-Refused : goal.returns-in-Refused
+returns-in-Refused c = ap verdict_code (sym c.in-Refused.is)
