@@ -1,4 +1,6 @@
 // Which pairs of a rule and an object a batch selects.
+#![tactic(auto)]
+
 pub mod inspection;
 mod rule;
 

@@ -1,0 +1,58 @@
+-- `batch_judge::judge` meets its contract.
+use Prim.Native.Nat.{ℕ}
+use mathlib.Core.Path.{refl}
+use mathlib.Core.List.{List, []}
+use native.Mathlib.Omega.{arith}
+use lib.ListN.{length-replicate}
+use Rattle.tables.specs.Layouts.{Sheet, sheet_of}
+use Rattle.full_search.proofs.Given.{register_fits, can_index, zeros}
+use Rattle.batch_judge.proofs.Judging.{marks_number, no_room_lem, listed}
+use borrow.Author.Rules.{rules}
+use Rattle.batch_judge.proofs.judge.Goals as goal
+use Rattle.batch_judge.proofs.judge.Lts as lts
+use Rattle.batch_judge.proofs.judge.Reads as reads
+use Rattle.batch_judge.proofs.judge.Tie as tie
+
+-- the function's entry, and its tables
+abbrev entry : lts.After-index tie.the-claims reads.Pre reads.Post → lts.Start tie.the-claims reads.Pre reads.Post
+entry c = c.before.before.before.before.before.before.before.before.before.before
+
+abbrev sheet : lts.Start tie.the-claims reads.Pre reads.Post → List ℕ → Sheet
+sheet s events =
+    let a = s.args in
+    sheet_of a.types.now a.floors.now a.relationships.now a.rules.now a.bodies.now a.objects.now a.links.now events
+
+pub index-requires : goal.index-requires
+index-requires c =
+    let fits = register_fits c.args.n (sheet c.before.before.before.before.before.before.before.before.before.before.before []) c.requires.0 in
+    (fits.objects_ascend, fits.links_ascend, can_index c.args.n (sheet c.before.before.before.before.before.before.before.before.before.before.before []) c.requires.0, zeros 81920)
+
+pub selected_pairs-count-requires : goal.selected_pairs-count-requires
+selected_pairs-count-requires c =
+    (record { given = c.requires.0; c.before.before.before = c.index.ensures }, c.requires.1, length-replicate {A = ℕ} 1024 0, zeros 1024)
+
+pub overflow_mul-count : goal.overflow_mul-count
+overflow_mul-count c = omega (arith, c.selected_pairs-count.ensures.0)
+
+pub returns-then-list-count : goal.returns-then-list-count
+returns-then-list-count c = λ k ended lent words g.
+    no_room_lem ended c.index.ensures.objects_ascend c.requires.0.few_objects (c.selected_pairs-count.ensures.1 k ended) lent g _ words c.if-list-count.true refl refl refl
+
+pub write-requires : goal.write-requires
+write-requires c =
+    let given = c.requires.0 in
+    let (k, ended) = c.requires.1 in
+    let number = marks_number ended c.index.ensures.objects_ascend given.few_objects (c.selected_pairs-count.ensures.1 k ended) in
+    (given.few_rules, given.few_objects, omega (arith, number, c.selected_pairs-count.ensures.0), omega (arith, number, c.if-list-count.false))
+
+pub search-answer-requires : goal.search-answer-requires
+search-answer-requires c =
+    record { given = c.requires.0; c.before.before.before.before.before.before.before.before.before.before.before.before = c.index.ensures }
+
+pub shape_of-list : goal.shape_of-list
+shape_of-list c = c.write.auto.list
+
+pub returns : goal.returns
+returns c = λ k ended lent words g.
+    listed ended c.index.ensures.objects_ascend c.requires.0.few_objects (c.selected_pairs-count.ensures.1 k ended) lent g _ words c.if-list-count.false
+    c.search-answer.ensures refl c.write.ensures
