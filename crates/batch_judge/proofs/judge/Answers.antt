@@ -29,7 +29,7 @@ index-requires c =
 
 pub selected_pairs-count-requires : goal.selected_pairs-count-requires
 selected_pairs-count-requires c =
-    (record { given = c.requires.0; c.before.before.before = c.index.ensures }, c.requires.1, length-replicate {A = ℕ} 1024 0, zeros 1024)
+    (record { given = c.requires.0; indexed = c.index.ensures }, c.requires.1, length-replicate {A = ℕ} 1024 0, zeros 1024)
 
 pub overflow_mul-count : goal.overflow_mul-count
 overflow_mul-count c = omega (arith, c.selected_pairs-count.ensures.0)
@@ -47,7 +47,7 @@ write-requires c =
 
 pub search-answer-requires : goal.search-answer-requires
 search-answer-requires c =
-    record { given = c.requires.0; c.before.before.before.before.before.before.before.before.before.before.before.before = c.index.ensures }
+    record { given = c.requires.0; indexed = c.index.ensures }
 
 pub shape_of-list : goal.shape_of-list
 shape_of-list c = c.write.auto.list
