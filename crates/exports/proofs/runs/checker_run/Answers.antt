@@ -29,5 +29,5 @@ shape_of-end_links c = c.clear_past-2.auto.t ∙ c.run-ran.auto.scratch_links
 pub returns : goal.returns
 returns c =
     let run = c.run-ran in
-    run_told run.ensures c.ran.ensures (λ k. (c.slice_known-3-1.given k).fits) run.kept.1.1.1.1.1.1.1.1.1.0 run.kept.1.1.1.1.1.1.1.1.1.1.0
+    run_told run.ensures c.ran.ensures (λ k. (c.slice_known-3-1.given k).fits) run.auto.scratch_objects run.auto.scratch_links
     c.clear_past.ensures c.clear_past-2.ensures

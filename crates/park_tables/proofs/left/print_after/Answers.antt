@@ -38,7 +38,7 @@ print-requires c =
 pub returns : goal.returns
 returns c =
     let a = c.args in
-    let other = not_accepted _ c.in_default.keys2 in
+    let other = c.in_default.not-Accepted in
     let e = outcome_is c.check-checked.ensures ∙ answer_left c.check-checked.ensures a.n a.types.now a.floors.now a.relationships.now a.rules.now a.bodies.now a.events.now other ∙ lent_left a.n (sheet c.before.before.before.before.before.before.before.before.before.before.before.before.before.before) c.requires.0 c.requires.1 in (
       c.print.ensures.0 ∙ ap (λ b. in_front b a.out.now) e,
       c.print.ensures.1 ∙ ap length e,
