@@ -2,6 +2,8 @@
 // starts with `+` has events only, for the book and the register of the last block before it whose name does not. Of each block the answer, the
 // pairs, how many objects and links the register then has, and a checksum of every word of the register's tables and of the list are written; of
 // a book also the event list of each rule. Rows are lent for 12 objects, 16 links and 10 events, and 48 words for the list.
+#![tactic(auto)]
+
 ghost use Rattle.std.specs.Prelude.{◌≤◌, length, ◌≡◌};
 
 use batch::Checked;

@@ -1,5 +1,7 @@
 // The proved full check beside a plain one, on drawn books and registers: the full check, and every rule at every object. The books are
 // lines of standard input; `stdin` says how they are written.
+#![tactic(auto)]
+
 mod compare;
 mod fill;
 mod floors;

@@ -1,0 +1,40 @@
+-- `park_tables::event_lists::rule_line` meets its contract.
+use Prim.Native.Nat.{ℕ}
+use mathlib.Core.Path.{sym, ◌∙◌}
+use lib.ListN.{replicate, length-replicate}
+use Rattle.line_writer.proofs.Puts.{put_as}
+use Rattle.park_tables.proofs.Lists.{never_refused, words_there, kinds_there, line_same, line_short}
+use borrow.Author.Rules.{rules}
+use Rattle.park_tables.proofs.event_lists.rule_line.Goals as goal
+use Rattle.park_tables.proofs.event_lists.rule_line.Lts as lts
+use Rattle.park_tables.proofs.event_lists.rule_line.Reads as reads
+use Rattle.park_tables.proofs.event_lists.rule_line.Tie as tie
+
+abbrev start_of : lts.After-list tie.the-claims reads.Pre reads.Post → lts.Start tie.the-claims reads.Pre reads.Post
+start_of c = c.before.before.before.before.before.before.before.before
+
+pub line-requires : goal.line-requires
+line-requires c =
+    let a = c.args in
+    let told = sym c.in-Types.is ∙ c.list.ensures.0 in
+    let left = c.list.ensures.1 in (
+      words_there a.n a.types.now a.floors.now a.relationships.now a.rules.now a.bodies.now a.«rule» (replicate 5376 0) c.requires.0 c.requires.1 (length-replicate {A = ℕ} 5376 0) told left (c.list.auto.list ∙ length-replicate {A = ℕ} 5376 0),
+      kinds_there a.n a.types.now a.floors.now a.relationships.now a.rules.now a.bodies.now a.«rule» (replicate 5376 0) c.requires.0 c.requires.1 (length-replicate {A = ℕ} 5376 0) told left,
+    )
+
+pub returns-in-Refused : goal.returns-in-Refused
+returns-in-Refused c =
+    let a = c.args in
+    absurd
+    (never_refused a.n a.types.now a.floors.now a.relationships.now a.rules.now a.bodies.now a.«rule» (replicate 5376 0) c.requires.0 c.requires.1 (length-replicate {A = ℕ} 5376 0)
+    (sym c.in-Refused.is ∙ c.list.ensures.0))
+
+pub returns-in-Types : goal.returns-in-Types
+returns-in-Types c =
+    let a = c.args in
+    let told = sym c.in-Types.is ∙ c.list.ensures.0 in
+    let left = c.list.ensures.1 in
+    let line = c.line.ensures in (
+      put_as line.0 (line_same a.n a.types.now a.floors.now a.relationships.now a.rules.now a.bodies.now a.«rule» (replicate 5376 0) c.requires.0 c.requires.1 (length-replicate {A = ℕ} 5376 0) told left),
+      line_short a.n a.types.now a.floors.now a.relationships.now a.rules.now a.bodies.now a.«rule» (replicate 5376 0) c.requires.0 c.requires.1 (length-replicate {A = ℕ} 5376 0) told left line.1,
+    )
