@@ -4,7 +4,7 @@ use std::env;
 use std::path::{Path, PathBuf};
 
 const ARCHIVE: &str = "libexports.a";
-// in the archive of a release, and where `rt` puts it
+// in the archive of a release, and where embed/library and an unpacked release put it
 const BESIDE: [&str; 3] = ["../lib", "../target/staticlib", "../target/release/lib"];
 
 // The archives that would do, the first one first. A path that is not absolute starts at the manifest.
