@@ -1,4 +1,6 @@
 // What a program prints of a text, and of tables that were read.
+#![tactic(auto)]
+
 ghost use Rattle.std.specs.Prelude.{◌≡◌, false, ◌/◌, ◌≤◌, length};
 ghost use Rattle.rows.specs.Rows.{in_front};
 ghost use Rattle.tables.specs.Layouts.{sheet_of};

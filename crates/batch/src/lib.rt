@@ -1,5 +1,7 @@
 // Demand 3: the batch check of lent tables. The events are taken on a copy of the register, the pairs that they select are listed, and the first of them
 // that is broken at the end decides.
+#![tactic(auto)]
+
 ghost use Rattle.std.specs.Prelude.{◌≡◌, length};
 ghost use Rattle.tables.specs.Layouts.{sheet_of};
 ghost use Rattle.lent_run.specs.Lent.{scratch_short};

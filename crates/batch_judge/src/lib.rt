@@ -1,4 +1,6 @@
 // What the pairs that a batch selects say of the register at its end.
+#![tactic(auto)]
+
 ghost use Rattle.std.specs.Prelude.{◌≡◌, [], length};
 ghost use Rattle.meaning.specs.Events.{Lent};
 ghost use Rattle.meaning.specs.Register.{Register};

@@ -1,4 +1,6 @@
 // The selected pairs of a batch that was run, over the register's tables at its end.
+#![tactic(auto)]
+
 ghost use Rattle.std.specs.Prelude.{◌≡◌, List, [], ℕ, ◌*◌, ◌≤◌, length, get_or};
 ghost use Rattle.meaning.specs.Limits.{max_events, max_objects, max_rules};
 ghost use Rattle.meaning.specs.Lists.{keep};

@@ -1,4 +1,6 @@
 // Every check of a lent book and register, in the order of document 01's table of refusals.
+#![tactic(auto)]
+
 ghost use Rattle.std.specs.Prelude.{◌≡◌, []};
 ghost use Rattle.meaning.specs.Answers.{refusal};
 ghost use Rattle.tables.specs.Layouts.{sheet_of, layouts};

@@ -1,4 +1,6 @@
 // The event list of a rule of a lent book: "three 16-bit words each: place in that order from 0, type or relationship, cell or 0".
+#![tactic(auto)]
+
 ghost use Rattle.std.specs.Prelude.{◌≡◌, [], length};
 ghost use Rattle.tables.specs.Layouts.{sheet_of};
 ghost use Rattle.tables.specs.Refusals.{verdict_of};

@@ -1,4 +1,6 @@
 // What Rust and C programs link: the checker's entries over pointers and numbers.
+#![tactic(auto)]
+
 mod batches;
 mod lists;
 mod runs;

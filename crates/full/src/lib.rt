@@ -1,4 +1,6 @@
 // Demand 2: the full check of a lent register against a lent book, and one rule at one object.
+#![tactic(auto)]
+
 ghost use Rattle.std.specs.Prelude.{◌≡◌, []};
 ghost use Rattle.tables.specs.Layouts.{sheet_of};
 ghost use Rattle.tables.specs.Answers.{answer_of};

@@ -1,4 +1,6 @@
 // The search of the full check over rules and objects, and one rule at one object, of tables that no refusal meets.
+#![tactic(auto)]
+
 ghost use Rattle.std.specs.Prelude.{◌≡◌, [], ◌<◌};
 ghost use Rattle.tables.specs.Layouts.{sheet_of};
 ghost use Rattle.tables.specs.Answers.{answer_of};

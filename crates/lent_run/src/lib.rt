@@ -1,4 +1,6 @@
 // A lent batch: every refusal of its tables and its events, each in its place, else the events on a copy of the register.
+#![tactic(auto)]
+
 ghost use Rattle.std.specs.Prelude.{◌≡◌};
 ghost use Rattle.tables.specs.Layouts.{sheet_of};
 ghost use Rattle.lent_run.specs.Lent.{scratch_short, LentRun};

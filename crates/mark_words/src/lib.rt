@@ -1,4 +1,6 @@
 // Event types read off marks, as words.
+#![tactic(auto)]
+
 ghost use Rattle.std.specs.Prelude.{◌≡◌, ◌++◌, ◌+◌, ◌*◌, ◌≤◌, ◌<◌, length, take, drop};
 ghost use Rattle.type_marks.specs.Marks.{places, words_at};
 ghost use Rattle.mark_words.specs.Places.{marked_below, place_words};

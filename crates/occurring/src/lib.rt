@@ -1,4 +1,6 @@
 // The event types that occur in a batch that was run: a mark for each, at its place among those of `event_marks`.
+#![tactic(auto)]
+
 ghost use Rattle.std.specs.Prelude.{◌≡◌, false, ◌&&◌, not, List, ℕ, ◌/◌, ◌%◌, ◌≤◌, ◌<◌, eqb, length, get_or};
 ghost use Rattle.meaning.specs.Limits.{max_events};
 ghost use Rattle.meaning.specs.Register.{Link};

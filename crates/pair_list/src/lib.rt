@@ -1,4 +1,6 @@
 // The pairs that a batch marks: written into the lent list, and searched for the first that is broken.
+#![tactic(auto)]
+
 ghost use Rattle.std.specs.Prelude.{◌≡◌, [], ◌*◌, ◌≤◌, length};
 ghost use Rattle.meaning.specs.Limits.{max_objects, max_rules};
 ghost use Rattle.meaning.specs.Answers.{first_broken};

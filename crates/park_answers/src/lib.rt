@@ -1,4 +1,6 @@
 // What the program `park` prints of a text, by what is asked of it.
+#![tactic(auto)]
+
 pub mod words;
 
 ghost use Rattle.std.specs.Prelude.{◌≡◌, ◌≤◌, length};

@@ -1,4 +1,6 @@
 // What is printed of tables that were read: the batch check, the full check, the event lists of the rules, and the text after the batch.
+#![tactic(auto)]
+
 mod event_lists;
 mod left;
 

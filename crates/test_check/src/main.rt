@@ -1,5 +1,7 @@
 // The program `check` over many texts. Standard input has blocks: a line that starts with `=` says what is tested, and the text goes from the next line to the
 // next such line, byte for byte; where the line starts with `=-`, without its last byte. Of each block its line is written, and what `check` prints of its text.
+#![tactic(auto)]
+
 ghost use Rattle.std.specs.Prelude.{◌≤◌, length, ◌≡◌};
 
 use cases::line;

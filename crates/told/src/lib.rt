@@ -1,4 +1,6 @@
 // Answers as numbers, for programs in other languages.
+#![tactic(auto)]
+
 ghost use Rattle.std.specs.Prelude.{◌≡◌, [], ◌∷◌, ◌++◌};
 ghost use Rattle.told.specs.Coded.{verdict_code, said_words, done_words, listed_words, written_words, ran_words};
 

@@ -1,4 +1,6 @@
 // "The rules a batch touches are one bit each of a 32-bit word, taken lowest first."
+#![tactic(auto)]
+
 ghost use Rattle.std.specs.Prelude.{◌≡◌, ◌<◌};
 ghost use Rattle.meaning.specs.Lists.{keep};
 ghost use Rattle.meaning.specs.Reach.{Change};

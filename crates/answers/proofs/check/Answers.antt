@@ -4,7 +4,6 @@ use lib.ListN.{length}
 use Rattle.rows.specs.Rows.{in_front}
 use Rattle.answers.specs.Checks.{check_room, lent_sheet, batch_printed, check_prints}
 use Rattle.answers.proofs.Checking.{long_text, read_refused, read_done}
-use borrow.Author.Rules.{rules}
 use Rattle.answers.proofs.check.Goals as goal
 
 pub returns-then-text-gt8192 : goal.returns-then-text-gt8192

@@ -9,12 +9,6 @@ use Rattle.batch.specs.Checked.{lent_outcome}
 use Rattle.answers.proofs.Checking.{long_enough, pairs_within, outcome_is, lent_outcome_lem, register_by}
 use borrow.Author.Rules.{rules}
 use Rattle.answers.proofs.check_tables.Goals as goal
-use Rattle.answers.proofs.check_tables.Lts as lts
-use Rattle.answers.proofs.check_tables.Reads as reads
-use Rattle.answers.proofs.check_tables.Tie as tie
-
-abbrev start_of : lts.After-check tie.the-claims reads.Pre reads.Post → lts.Start tie.the-claims reads.Pre reads.Post
-start_of c = c.before.before.before.before.before.before.before.before.before.before.before.before.before.before.before.before.before.before
 
 pub print-requires : goal.print-requires
 print-requires c =

@@ -2,7 +2,6 @@
 use mathlib.Core.Path.{ap, ◌∙◌}
 use Rattle.rows.specs.Rows.{cleared_past}
 use Rattle.rows.proofs.Offsets.{place_fits}
-use borrow.Author.Rules.{rules}
 use Rattle.batch.proofs.bring_back.Goals as goal
 
 pub overflow_mul-words : goal.overflow_mul-words

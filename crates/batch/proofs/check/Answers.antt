@@ -50,10 +50,6 @@ returns-in-Refused c =
     left_refused c.args.n (sheet c.before.before.before.before.before.before.before.before.before.before.before.before.before.before.before.before.before.before.before.before) c.args.scratch_objects.now c.args.scratch_links.now c.args.list.now
     (sym c.in-Refused.is ∙ verdict_is c.before.before.before.before.before.before) refl refl refl refl
 
--- the run, after all is settled
-abbrev ran-before : lts.After-slice_known10 tie.the-claims reads.Pre reads.Post → lts.After-run tie.the-claims reads.Pre reads.Post
-ran-before c = c.before.before.before.before.before.before.before.before.before.before.before.before.before.before.before.before.before.before.before.before
-
 pub shape_of-scratch_objects-in-Clear : goal.shape_of-scratch_objects-in-Clear
 shape_of-scratch_objects-in-Clear c = c.run-ran.auto.scratch_objects
 

@@ -1,7 +1,6 @@
 -- `batch::settle` meets its contract.
 use mathlib.Core.Path.{refl, sym, ◌∙◌}
 use Rattle.batch.proofs.Leaving.{kept_known}
-use borrow.Author.Rules.{rules}
 use Rattle.batch.proofs.settle.Goals as goal
 
 pub shape_of-objects : goal.shape_of-objects

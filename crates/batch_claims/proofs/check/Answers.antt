@@ -1,5 +1,4 @@
 -- `batch_claims::check` meets its contract: every sentence, by the promise of the check that it calls.
-use borrow.Author.Rules.{rules}
 use Rattle.batch_claims.proofs.Theorems.{demand_3}
 use Rattle.batch_claims.proofs.check.Goals as goal
 

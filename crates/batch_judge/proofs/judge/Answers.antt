@@ -13,10 +13,6 @@ use Rattle.batch_judge.proofs.judge.Lts as lts
 use Rattle.batch_judge.proofs.judge.Reads as reads
 use Rattle.batch_judge.proofs.judge.Tie as tie
 
--- the function's entry, and its tables
-abbrev entry : lts.After-index tie.the-claims reads.Pre reads.Post → lts.Start tie.the-claims reads.Pre reads.Post
-entry c = c.before.before.before.before.before.before.before.before.before.before
-
 abbrev sheet : lts.Start tie.the-claims reads.Pre reads.Post → List ℕ → Sheet
 sheet s events =
     let a = s.args in

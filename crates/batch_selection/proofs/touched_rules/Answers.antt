@@ -3,14 +3,7 @@ use mathlib.Core.Path.{refl, ap, ◌∙◌}
 use mathlib.Core.Bool.{false, ◌||◌}
 use lib.ListN.{get_or-replicate}
 use Rattle.meaning.specs.EventList.{occurs}
-use borrow.Author.Rules.{rules}
 use Rattle.batch_selection.proofs.touched_rules.Goals as goal
-use Rattle.batch_selection.proofs.touched_rules.Lts as lts
-use Rattle.batch_selection.proofs.touched_rules.Reads as reads
-use Rattle.batch_selection.proofs.touched_rules.Tie as tie
-
-abbrev entry : lts.After-marks tie.the-claims reads.Pre reads.Post → lts.Start tie.the-claims reads.Pre reads.Post
-entry c = c.before.before.before.before.before.before.before.before
 
 pub mark_events-requires : goal.mark_events-requires
 mark_events-requires c = (refl, c.requires.1, c.requires.2)

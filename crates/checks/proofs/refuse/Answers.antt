@@ -1,5 +1,4 @@
 -- `checks::refuse` meets its contract.
-use borrow.Author.Rules.{rules}
 use Rattle.checks.proofs.refuse.Goals as goal
 
 pub returns-in-At : goal.returns-in-At

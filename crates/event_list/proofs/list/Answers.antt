@@ -11,16 +11,6 @@ use Rattle.event_list.proofs.list.Lts as lts
 use Rattle.event_list.proofs.list.Reads as reads
 use Rattle.event_list.proofs.list.Tie as tie
 
--- ---- places of the code
-abbrev start : lts.After-verdict tie.the-claims reads.Pre reads.Post → lts.Start tie.the-claims reads.Pre reads.Post
-start c = c.before.before.before.before.before.before.before
-
-abbrev told : lts.After-rule_marks tie.the-claims reads.Pre reads.Post → lts.Past-After-enum_told tie.the-claims reads.Pre reads.Post
-told c = c.before.before
-
-abbrev counted : lts.After-count tie.the-claims reads.Pre reads.Post → lts.After-rule_marks tie.the-claims reads.Pre reads.Post
-counted c = c.before.before.before
-
 -- ---- what is known there
 
 -- the marks after a rule's are added

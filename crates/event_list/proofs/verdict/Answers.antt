@@ -3,12 +3,6 @@ use mathlib.Core.Path.{sym, ◌∙◌}
 use borrow.Author.Rules.{rules}
 use Rattle.event_list.proofs.Answers.{book_refused, rule_known, rule_lacked}
 use Rattle.event_list.proofs.verdict.Goals as goal
-use Rattle.event_list.proofs.verdict.Lts as lts
-use Rattle.event_list.proofs.verdict.Reads as reads
-use Rattle.event_list.proofs.verdict.Tie as tie
-
-abbrev start : lts.After-book_verdict tie.the-claims reads.Pre reads.Post → lts.Start tie.the-claims reads.Pre reads.Post
-start c = c.before.before.before.before.before.before
 
 pub returns-in-Refused : goal.returns-in-Refused
 returns-in-Refused c =

@@ -1,6 +1,5 @@
 -- `checker_check` meets its contract. The number is that of the check's verdict.
 use mathlib.Core.Path.{ap, ◌∙◌}
-use borrow.Author.Rules.{rules}
 use Rattle.told.specs.Coded.{verdict_code}
 use Rattle.told.proofs.Coded.{verdict_coded}
 use Rattle.exports.proofs.checker_check.Goals as goal

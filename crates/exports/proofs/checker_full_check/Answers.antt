@@ -1,6 +1,5 @@
 -- `checker_full_check` meets its contract. The words are those of the check's answer.
 use mathlib.Core.Path.{ap, ◌∙◌}
-use borrow.Author.Rules.{rules}
 use Rattle.told.specs.Coded.{said_words}
 use Rattle.told.proofs.Coded.{answer_said}
 use Rattle.exports.proofs.checker_full_check.Goals as goal

@@ -1,5 +1,5 @@
 -- `full_search::breaks` meets its contract.
-use mathlib.Core.Path.{◌≡◌, sym, ap, ◌∙◌}
+use mathlib.Core.Path.{sym, ap, ◌∙◌}
 use mathlib.Core.Bool.{not}
 use Rattle.meaning.specs.Schema.{under as under_type}
 use Rattle.tables.specs.Columns.{types_of}

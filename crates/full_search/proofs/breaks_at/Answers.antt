@@ -1,6 +1,5 @@
 -- `full_search::breaks_at` meets its contract: the row of the id, if it has one, and the pair there.
 use mathlib.Core.Path.{refl, sym, ◌∙◌}
-use borrow.Author.Rules.{rules}
 use Rattle.schema.proofs.Founds as Founds
 use Rattle.register.proofs.Rows.{place_row_lem}
 use Rattle.full_search.proofs.Given.{size_few, rule_ready}

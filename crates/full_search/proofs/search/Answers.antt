@@ -1,13 +1,8 @@
 -- `full_search::search` meets its contract. The invariants: no broken pair stands before the rule, or before the row of the rule.
 use Prim.Native.Nat.{◌-◌}
-use mathlib.Core.Path.{◌≡◌, refl, ◌∙◌}
-use native.Mathlib.Omega.{arith}
-use borrow.Author.Rules.{rules}
-use mathlib.Core.List.{[]}
-use Rattle.tables.specs.Layouts.{sheet_of}
-use Rattle.tables.specs.declared.Answer.TheVariants.{Accepted}
+use mathlib.Core.Path.{refl, ◌∙◌}
 use Rattle.full_search.proofs.Given.{size_few, rule_ready}
-use Rattle.full_search.proofs.Pairs.{Searching, Within, search_starts, within_starts, within_ends, search_ends, row_broken, row_passed}
+use Rattle.full_search.proofs.Pairs.{search_starts, within_starts, within_ends, search_ends, row_broken, row_passed}
 use Rattle.full_search.proofs.search.Goals as goal
 
 pub search-init : goal.search-init

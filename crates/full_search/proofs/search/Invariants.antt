@@ -1,13 +1,11 @@
 -- `full_search::search` meets its contract. The invariants: no broken pair stands before the rule, or before the row of the rule.
 use Prim.Native.Nat.{◌-◌}
-use mathlib.Core.Path.{◌≡◌, refl, ◌∙◌}
-use native.Mathlib.Omega.{arith}
+use mathlib.Core.Path.{◌≡◌}
 use borrow.Author.Rules.{rules}
 use mathlib.Core.List.{[]}
 use Rattle.tables.specs.Layouts.{sheet_of}
 use Rattle.tables.specs.declared.Answer.TheVariants.{Accepted}
-use Rattle.full_search.proofs.Given.{size_few, rule_ready}
-use Rattle.full_search.proofs.Pairs.{Searching, Within, search_starts, within_starts, within_ends, search_ends, row_broken, row_passed}
+use Rattle.full_search.proofs.Pairs.{Searching, Within}
 use Rattle.full_search.proofs.search.Given as goal
 
 abbrev pub invariant-loop-row : goal.invariant-loop-row

@@ -1,13 +1,10 @@
 -- `mark_words::count` meets its contract.
 use Prim.Native.Nat.{◌≤◌, ◌-◌}
-use mathlib.Core.Path.{◌≡◌, ap, ◌∙◌}
+use mathlib.Core.Path.{◌≡◌}
 use mathlib.Core.Logic.{⊎_elim}
-use mathlib.Core.List.{[], ◌∷◌}
-use native.Mathlib.Omega.{arith}
-use lib.ListN.{length, length-append}
+use lib.ListN.{length}
 use Rattle.type_marks.specs.Marks.{places}
 use Rattle.mark_words.specs.Places.{marked_below}
-use Rattle.mark_words.proofs.Places.{below_marked, below_unmarked, below_few}
 use Rattle.mark_words.proofs.count.Given as goal
 
 abbrev pub invariant-loop-place : goal.invariant-loop-place

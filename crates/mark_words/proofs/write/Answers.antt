@@ -1,5 +1,5 @@
 -- `mark_words::write` meets its contract: what is written so far are the words of the marked places below the place.
-use Prim.Native.Nat.{◌+◌, ◌*◌, ◌-◌, ◌≤◌}
+use Prim.Native.Nat.{◌+◌, ◌-◌, ◌≤◌}
 use mathlib.Core.Path.{◌≡◌, ap, ◌∙◌}
 use mathlib.Core.Logic.{⊎_elim}
 use native.Mathlib.Omega.{arith}
@@ -7,7 +7,7 @@ use lib.ListN.{length}
 use Rattle.type_marks.specs.Marks.{places}
 use Rattle.mark_words.specs.Places.{marked_below, place_words}
 use Rattle.rows.specs.Rows.{in_front}
-use Rattle.mark_words.proofs.Places.{Written, written_none, written_marked, written_unmarked, room}
+use Rattle.mark_words.proofs.Places.{written_none, written_marked, written_unmarked, room}
 use Rattle.mark_words.proofs.write.Goals.{else-marks-place, then-marks-place}
 use Rattle.mark_words.proofs.write.Goals as goal
 use Rattle.mark_words.proofs.write.Lts as lts

@@ -1,10 +1,8 @@
 -- `occurring::mark_events` meets its contract. The invariant: what the events below this one count for is marked. The measure is the events left.
-use Prim.Native.Nat.{◌-◌, ◌≤◌}
+use Prim.Native.Nat.{◌-◌}
 use mathlib.Core.Path.{◌≡◌, refl, subst, ◌∙◌}
 use native.Mathlib.Numerals.{add-one}
 use native.Mathlib.Omega.{arith}
-use lib.ListN.{length}
-use borrow.Author.Rules.{rules}
 use Rattle.occurring.proofs.Batches.{CountedTo, none_counted, one_counted, all_counted}
 use Rattle.occurring.proofs.mark_events.Goals as goal
 

@@ -1,9 +1,8 @@
 -- `occurring::put_types` meets its contract. The invariant: the types below this one are marked. The measure is the types left.
-use Prim.Native.Nat.{◌-◌, ◌≤◌}
+use Prim.Native.Nat.{◌-◌}
 use mathlib.Core.Path.{◌≡◌, subst, ◌∙◌}
 use native.Mathlib.Numerals.{add-one}
 use native.Mathlib.Omega.{arith}
-use borrow.Author.Rules.{rules}
 use Rattle.meaning.specs.Limits.{max_types}
 use Rattle.type_marks.specs.Marks.{Added}
 use Rattle.occurring.proofs.Types.{but_not, marked_to, types_none, types_more, types_all}

@@ -2,7 +2,6 @@
 use mathlib.Core.Path.{sym, ap, ◌∙◌}
 use mathlib.Core.Bool.{cond}
 use native.Mathlib.Omega.{arith}
-use borrow.Author.Rules.{rules}
 use Rattle.occurring.proofs.Counts.{kind_known}
 use Rattle.occurring.proofs.read_kind.Goals as goal
 

@@ -1,32 +1,23 @@
 -- `pair_list::search` meets its contract. The invariants: no broken pair stands before those of the rule, or before that of the row, which is marked.
 use Prim.Native.Nat.{◌+◌, ◌-◌, ◌<◌}
-use mathlib.Core.Path.{◌≡◌, refl, ◌∙◌}
+use mathlib.Core.Path.{refl, ◌∙◌}
 use mathlib.Core.Bool.{true}
 use native.Mathlib.Omega.{arith}
 use mathlib.Core.List.{[], ◌∷◌}
 use Rattle.tables.specs.Layouts.{sheet_of}
-use Rattle.tables.specs.declared.Answer.TheVariants.{Accepted}
 use Rattle.meaning.specs.Reach.{pair_of}
 use Rattle.walks.specs.Site.{id_in}
 use Rattle.full_search.proofs.Given.{size_few, rule_ready}
-use Rattle.pair_marks.specs.Marks.{marked}
 use Rattle.pair_list.specs.Pairs.{marked_pairs}
-use Rattle.pair_list.proofs.Left.{from_rule, from_row, all_left, none_left, rule_starts, rule_ends, row_taken, rows_passed, rules_passed}
+use Rattle.pair_list.proofs.Left.{from_row, all_left, none_left, rule_starts, rule_ends, row_taken, rows_passed, rules_passed}
 use Rattle.pair_list.proofs.Found.{Searching, search_starts, search_on, search_ends, pair_broken_lem, pair_passed}
 use Rattle.pair_list.proofs.search.Goals as goal
 use Rattle.pair_list.proofs.search.Lts as lts
 use Rattle.pair_list.proofs.search.Reads as reads
 use Rattle.pair_list.proofs.search.Tie as tie
 
--- the function's entry, the rule's turn, and the row's
-abbrev entry : lts.At-search tie.the-claims reads.Pre reads.Post goal.the-invariant-loop-row goal.the-decreases-loop-row goal.the-invariant-search goal.the-decreases-search → lts.Start tie.the-claims reads.Pre reads.Post goal.the-invariant-loop-row goal.the-decreases-loop-row goal.the-invariant-search goal.the-decreases-search
-entry c = c.before.before.before.before.before.before.before.before.before
-
 abbrev turn : lts.At-loop tie.the-claims reads.Pre reads.Post goal.the-invariant-loop-row goal.the-decreases-loop-row goal.the-invariant-search goal.the-decreases-search → lts.Then1 tie.the-claims reads.Pre reads.Post goal.the-invariant-loop-row goal.the-decreases-loop-row goal.the-invariant-search goal.the-decreases-search
 turn c = c.before.before.before.before.before.before
-
-abbrev asked : lts.After-breaks tie.the-claims reads.Pre reads.Post goal.the-invariant-loop-row goal.the-decreases-loop-row goal.the-invariant-search goal.the-decreases-search → lts.Then2 tie.the-claims reads.Pre reads.Post goal.the-invariant-loop-row goal.the-decreases-loop-row goal.the-invariant-search goal.the-decreases-search
-asked c = c.before.before
 
 abbrev start : lts.Then1 tie.the-claims reads.Pre reads.Post goal.the-invariant-loop-row goal.the-decreases-loop-row goal.the-invariant-search goal.the-decreases-search → lts.Start tie.the-claims reads.Pre reads.Post goal.the-invariant-loop-row goal.the-decreases-loop-row goal.the-invariant-search goal.the-decreases-search
 start c = c.before.before.before.before.before.before.before.before.before.before.before

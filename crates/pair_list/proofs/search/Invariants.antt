@@ -1,18 +1,14 @@
 -- `pair_list::search` meets its contract. The invariants: no broken pair stands before those of the rule, or before that of the row, which is marked.
-use Prim.Native.Nat.{◌+◌, ◌-◌, ◌<◌}
-use mathlib.Core.Path.{◌≡◌, refl, ◌∙◌}
+use Prim.Native.Nat.{◌-◌, ◌<◌}
+use mathlib.Core.Path.{◌≡◌}
 use mathlib.Core.Bool.{true}
-use native.Mathlib.Omega.{arith}
-use mathlib.Core.List.{[], ◌∷◌}
+use mathlib.Core.List.{[]}
 use Rattle.tables.specs.Layouts.{sheet_of}
 use Rattle.tables.specs.declared.Answer.TheVariants.{Accepted}
-use Rattle.meaning.specs.Reach.{pair_of}
-use Rattle.walks.specs.Site.{id_in}
-use Rattle.full_search.proofs.Given.{size_few, rule_ready}
 use Rattle.pair_marks.specs.Marks.{marked}
 use Rattle.pair_list.specs.Pairs.{marked_pairs}
-use Rattle.pair_list.proofs.Left.{from_rule, from_row, all_left, none_left, rule_starts, rule_ends, row_taken, rows_passed, rules_passed}
-use Rattle.pair_list.proofs.Found.{Searching, search_starts, search_on, search_ends, pair_broken_lem, pair_passed}
+use Rattle.pair_list.proofs.Left.{from_rule, from_row}
+use Rattle.pair_list.proofs.Found.{Searching}
 use Rattle.pair_list.proofs.search.Given as goal
 
 abbrev pub invariant-loop-row : goal.invariant-loop-row

@@ -1,27 +1,20 @@
 -- `pair_list::write` meets its contract: what is written so far are the words of the pairs before those of the rule, and in a rule's turn, of whatever list
 -- was lent, those before that of the row, which is marked.
-use Prim.Native.Nat.{ℕ, ◌+◌, ◌-◌, ◌*◌, ◌≤◌, ◌<◌}
+use Prim.Native.Nat.{◌+◌, ◌-◌, ◌<◌}
 use mathlib.Core.Path.{◌≡◌, ap, ◌∙◌}
 use mathlib.Core.Bool.{true}
-use mathlib.Core.List.{List, [], ◌∷◌}
+use mathlib.Core.List.{[], ◌∷◌}
 use native.Mathlib.Omega.{arith}
-use lib.ListN.{length}
 use Rattle.meaning.specs.Reach.{pair_of}
 use Rattle.rows.specs.Rows.{with_row}
 use Rattle.walks.specs.Site.{id_in}
-use Rattle.pair_marks.specs.Marks.{marked}
 use Rattle.pair_list.specs.Pairs.{marked_pairs}
-use Rattle.pair_list.proofs.Left.{from_rule, from_row, all_left, none_left, rule_starts, rule_ends, row_taken, rows_passed, rules_passed}
+use Rattle.pair_list.proofs.Left.{from_row, all_left, none_left, rule_starts, rule_ends, row_taken, rows_passed, rules_passed}
 use Rattle.pair_list.proofs.Words.{Written, written_none, written_on, written_one, written_all, before_end}
-use borrow.Author.Rules.{rules}
 use Rattle.pair_list.proofs.write.Goals as goal
 use Rattle.pair_list.proofs.write.Lts as lts
 use Rattle.pair_list.proofs.write.Reads as reads
 use Rattle.pair_list.proofs.write.Tie as tie
-
--- the function's entry, the rule's turn, the row's, and what is written then
-abbrev entry : lts.At-loop tie.the-claims reads.Pre reads.Post goal.the-invariant-loop-row goal.the-decreases-loop-row goal.the-invariant-loop-rule goal.the-decreases-loop-rule → lts.Start tie.the-claims reads.Pre reads.Post goal.the-invariant-loop-row goal.the-decreases-loop-row goal.the-invariant-loop-rule goal.the-decreases-loop-rule
-entry c = c.before.before.before.before
 
 abbrev turn : lts.At-loop2 tie.the-claims reads.Pre reads.Post goal.the-invariant-loop-row goal.the-decreases-loop-row goal.the-invariant-loop-rule goal.the-decreases-loop-rule → lts.Then1 tie.the-claims reads.Pre reads.Post goal.the-invariant-loop-row goal.the-decreases-loop-row goal.the-invariant-loop-rule goal.the-decreases-loop-rule
 turn c = c.before.before

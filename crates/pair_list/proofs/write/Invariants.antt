@@ -1,18 +1,14 @@
 -- `pair_list::write` meets its contract: what is written so far are the words of the pairs before those of the rule, and in a rule's turn, of whatever list
 -- was lent, those before that of the row, which is marked.
-use Prim.Native.Nat.{ℕ, ◌+◌, ◌-◌, ◌*◌, ◌≤◌, ◌<◌}
-use mathlib.Core.Path.{◌≡◌, ap, ◌∙◌}
+use Prim.Native.Nat.{ℕ, ◌-◌, ◌*◌, ◌≤◌, ◌<◌}
+use mathlib.Core.Path.{◌≡◌}
 use mathlib.Core.Bool.{true}
-use mathlib.Core.List.{List, [], ◌∷◌}
-use native.Mathlib.Omega.{arith}
+use mathlib.Core.List.{List}
 use lib.ListN.{length}
-use Rattle.meaning.specs.Reach.{pair_of}
-use Rattle.rows.specs.Rows.{with_row}
-use Rattle.walks.specs.Site.{id_in}
 use Rattle.pair_marks.specs.Marks.{marked}
 use Rattle.pair_list.specs.Pairs.{marked_pairs}
-use Rattle.pair_list.proofs.Left.{from_rule, from_row, all_left, none_left, rule_starts, rule_ends, row_taken, rows_passed, rules_passed}
-use Rattle.pair_list.proofs.Words.{Written, written_none, written_on, written_one, written_all, before_end}
+use Rattle.pair_list.proofs.Left.{from_rule, from_row}
+use Rattle.pair_list.proofs.Words.{Written}
 use borrow.Author.Rules.{rules}
 use Rattle.pair_list.proofs.write.Given as goal
 

@@ -5,7 +5,6 @@ use Rattle.rows.specs.Rows.{in_front}
 use Rattle.answers.specs.Checks.{lent_sheet}
 use Rattle.answers.proofs.Checking.{long_text, read_refused, read_done}
 use Rattle.park_answers.specs.Prints.{park_room, tables_printed, park_prints}
-use borrow.Author.Rules.{rules}
 use Rattle.park_answers.proofs.print.Goals as goal
 
 pub returns-then-text-gt65536 : goal.returns-then-text-gt65536

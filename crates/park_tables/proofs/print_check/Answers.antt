@@ -1,5 +1,4 @@
 -- `park_tables::print_check` meets its contract: what the check prints and leaves, but for its list.
-use borrow.Author.Rules.{rules}
 use Rattle.park_tables.proofs.print_check.Goals as goal
 
 pub returns : goal.returns

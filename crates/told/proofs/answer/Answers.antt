@@ -1,6 +1,5 @@
 -- `told::answer` meets its contract. The words are those of the answer that is met.
 use mathlib.Core.Path.{sym, ap}
-use borrow.Author.Rules.{rules}
 use Rattle.told.specs.Coded.{said_words}
 use Rattle.told.proofs.answer.Goals as goal
 

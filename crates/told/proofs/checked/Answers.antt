@@ -3,7 +3,6 @@ use mathlib.Core.Path.{ap, ◌∙◌}
 use mathlib.Core.List.{List, [], ◌∷◌}
 use Prim.Native.Nat.{ℕ}
 use lib.ListN.{get_or}
-use borrow.Author.Rules.{rules}
 use Rattle.told.proofs.Coded.{said_first}
 use Rattle.told.proofs.checked.Goals as goal
 use Rattle.told.proofs.checked.Lts as lts

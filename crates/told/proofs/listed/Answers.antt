@@ -1,6 +1,5 @@
 -- `told::listed` meets its contract. The words are those of the list's answer.
 use mathlib.Core.Path.{sym, ap}
-use borrow.Author.Rules.{rules}
 use Rattle.told.specs.Coded.{listed_words}
 use Rattle.told.proofs.listed.Goals as goal
 

@@ -2,7 +2,6 @@
 use Prim.Native.Nat.{ℕ}
 use mathlib.Core.Path.{sym, ap}
 use mathlib.Core.List.{List}
-use borrow.Author.Rules.{rules}
 use Rattle.tables.specs.declared.Verdict.{Verdict}
 use Rattle.told.specs.Coded.{ran_words}
 use Rattle.told.proofs.ran.Goals as goal

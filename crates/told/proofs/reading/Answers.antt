@@ -1,6 +1,5 @@
 -- `told::reading` meets its contract. The words are those of the outcome that is met.
 use mathlib.Core.Path.{sym, ap}
-use borrow.Author.Rules.{rules}
 use Rattle.told.specs.Coded.{done_words}
 use Rattle.told.proofs.reading.Goals as goal
 

@@ -1,6 +1,5 @@
 -- `told::verdict` meets its contract. The number is that of the verdict that is met.
 use mathlib.Core.Path.{sym, ap}
-use borrow.Author.Rules.{rules}
 use Rattle.told.specs.Coded.{verdict_code}
 use Rattle.told.proofs.verdict.Goals as goal
 

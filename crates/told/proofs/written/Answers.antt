@@ -1,6 +1,5 @@
 -- `told::written` meets its contract. The words are those of the writer's answer.
 use mathlib.Core.Path.{sym, ap}
-use borrow.Author.Rules.{rules}
 use Rattle.told.specs.Coded.{written_words}
 use Rattle.told.proofs.written.Goals as goal
 

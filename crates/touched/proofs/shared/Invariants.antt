@@ -1,13 +1,10 @@
 -- `touched::shared` meets its contract: no place that was passed is marked in both.
 use Prim.Native.Nat.{◌≤◌, ◌-◌}
-use mathlib.Core.Path.{◌≡◌, sym, ap, ◌∙◌}
+use mathlib.Core.Path.{◌≡◌}
 use mathlib.Core.Logic.{⊎_elim}
-use mathlib.Core.Bool.{false, ◌&&◌, and-false}
-use native.Mathlib.Omega.{arith}
-use lib.ListN.{get_or}
+use mathlib.Core.Bool.{false}
 use Rattle.type_marks.specs.Marks.{places}
 use Rattle.touched.specs.Shared.{shared_below}
-use Rattle.touched.proofs.Marks.{shared_none, shared_next, shared_at}
 use Rattle.touched.proofs.shared.Given as goal
 
 abbrev pub invariant-loop-place : goal.invariant-loop-place

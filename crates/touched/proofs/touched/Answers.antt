@@ -1,14 +1,12 @@
 -- `touched::touched` meets its contract: the word has the bits of the touched rules that were passed.
-use Prim.Native.Nat.{ℕ, ◌+◌, ◌-◌, ◌≤◌}
+use Prim.Native.Nat.{ℕ, ◌-◌}
 use mathlib.Core.Path.{◌≡◌, sym, ap, subst, ◌∙◌}
 use mathlib.Core.Logic.{⊎_elim}
 use mathlib.Core.Bool.{Bool, true, false, or-false}
 use native.Mathlib.Omega.{arith}
-use Rattle.meaning.specs.Reach.{Change}
 use Rattle.meaning.specs.EventList.{touched}
-use Rattle.tables.specs.Columns.{rule_row, floors_of, schema_of}
+use Rattle.tables.specs.Columns.{rule_row}
 use Rattle.bits.specs.Bits.{bit_at}
-use Rattle.touched.specs.Shared.{Occurring}
 use Rattle.touched.proofs.Bits.{SetBelow, set_none, set_next, set_all}
 use Rattle.touched.proofs.touched.Goals.{else-rule_touched, then-rule_touched}
 use Rattle.touched.proofs.touched.Goals as goal

@@ -1,6 +1,5 @@
 -- `checker_events` meets its contract. The words are those of the list's answer.
 use mathlib.Core.Path.{ap, ◌∙◌}
-use borrow.Author.Rules.{rules}
 use Rattle.told.specs.Coded.{listed_words}
 use Rattle.exports.proofs.lists.checker_events.Goals as goal
 

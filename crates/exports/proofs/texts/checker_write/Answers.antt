@@ -1,6 +1,5 @@
 -- `checker_write` meets its contract. The words are those of the writer's answer.
 use mathlib.Core.Path.{ap, ◌∙◌}
-use borrow.Author.Rules.{rules}
 use Rattle.told.specs.Coded.{written_words}
 use Rattle.exports.proofs.texts.checker_write.Goals as goal
 

@@ -4,7 +4,6 @@ use mathlib.Core.Path.{◌≡◌}
 use Rattle.meaning.specs.Lists.{same_list}
 use Rattle.park_answers.specs.Words.{check_word, full_word, events_word}
 use Rattle.park_answers.proofs.Wording.{alike, unlike, asks_check, asks_full, asks_events, asks_after, asks_nothing}
-use borrow.Author.Rules.{rules}
 use Rattle.park_answers.proofs.words.asked_by.Goals as goal
 use Rattle.park_answers.proofs.words.asked_by.Lts as lts
 use Rattle.park_answers.proofs.words.asked_by.Reads as reads

@@ -6,12 +6,6 @@ use Rattle.line_writer.proofs.Puts.{put_as}
 use Rattle.park_tables.proofs.Lists.{never_refused, words_there, kinds_there, line_same, line_short}
 use borrow.Author.Rules.{rules}
 use Rattle.park_tables.proofs.event_lists.rule_line.Goals as goal
-use Rattle.park_tables.proofs.event_lists.rule_line.Lts as lts
-use Rattle.park_tables.proofs.event_lists.rule_line.Reads as reads
-use Rattle.park_tables.proofs.event_lists.rule_line.Tie as tie
-
-abbrev start_of : lts.After-list tie.the-claims reads.Pre reads.Post → lts.Start tie.the-claims reads.Pre reads.Post
-start_of c = c.before.before.before.before.before.before.before.before
 
 pub line-requires : goal.line-requires
 line-requires c =

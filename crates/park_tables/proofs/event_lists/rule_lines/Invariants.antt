@@ -1,18 +1,13 @@
 -- `park_tables::event_lists::rule_lines` meets its contract. The invariant: the lines of the rules before `rule` are put, and are not too long.
 use borrow.Author.Rules.{rules}
 use Prim.Native.Nat.{◌*◌, ◌-◌, ◌≤◌}
-use mathlib.Core.Path.{◌≡◌, sym, ap}
-use mathlib.Core.List.{List, []}
-use native.Mathlib.Omega.{arith}
+use mathlib.Core.List.{[]}
 use lib.ListN.{length}
-use Rattle.meaning.specs.Forms.{Book}
 use Rattle.tables.specs.Layouts.{sheet_of}
 use Rattle.tables.specs.Columns.{book_of}
 use Rattle.line_writer.specs.Put.{Put}
-use Rattle.line_writer.proofs.Puts.{put_nothing, put_then, put_as}
 use Rattle.event_lines.specs.Events.{room_for_events}
 use Rattle.park_tables.specs.Tables.{rule_lines}
-use Rattle.park_tables.proofs.Lists.{no_lines, more_lines, more_short}
 use Rattle.park_tables.proofs.event_lists.rule_lines.Given as goal
 
 abbrev pub invariant-loop-rule : goal.invariant-loop-rule

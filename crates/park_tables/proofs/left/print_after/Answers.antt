@@ -5,7 +5,7 @@ use lib.ListN.{length}
 use Rattle.rows.specs.Rows.{in_front}
 use Rattle.tables.specs.Layouts.{Sheet, sheet_of}
 use Rattle.answers.proofs.Checking.{pairs_within, outcome_is}
-use Rattle.park_tables.proofs.Texts.{text_left, answer_left, lent_left, register_left_lem, not_accepted}
+use Rattle.park_tables.proofs.Texts.{text_left, answer_left, lent_left, register_left_lem}
 use borrow.Author.Rules.{rules}
 use Rattle.park_tables.proofs.left.print_after.Goals as goal
 use Rattle.park_tables.proofs.left.print_after.Lts as lts
