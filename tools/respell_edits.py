@@ -1,7 +1,7 @@
 #!/usr/bin/env python3
 """Brings the text of must-fail edits to today's spelling, as respell.py brought the files that they change.
 
-usage: python3 tools/respell_edits.py [FOLDER]     FOLDER: crates as they were before port.py, for the names (git archive of that commit)
+usage: python3 tools/respell_edits.py        at the top, after respell.py
 
 An edit whose `old:` text stands once is left. Of the others the `old:` and the `new:` text are respelled; those that still don't stand are named.
 """
