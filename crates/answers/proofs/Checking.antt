@@ -1,5 +1,6 @@
 -- What is printed of a batch check, and of a read, by what they leave.
 use Prim.Native.Nat.{ℕ, ◌*◌, ◌≤◌, ◌<◌}
+use Rattle.tables.specs.declared.Refusal as Code
 use mathlib.Core.Path.{◌≡◌, sym, ap, ap₂, ◌∙◌, subst}
 use mathlib.Core.Bool.{Bool, false}
 use mathlib.Core.List.{List, []}
@@ -12,7 +13,7 @@ use Rattle.tables.specs.Layouts.{Sheet}
 use Rattle.tables.specs.declared.Counts.{Counts}
 use Rattle.text.specs.Texts.{Reading}
 use Rattle.reader.specs.Reads.{lent_reading, read_answer, sheet_after}
-use Rattle.reader.specs.declared.Outcome.TheVariants.{Done, Refused}
+use Rattle.std.specs.Prelude.{Ok, Err}
 use Rattle.lent_run.specs.Lent.{scratch_short}
 use Rattle.pair_list.specs.Pairs.{pair_words}
 use Rattle.pair_list.proofs.Words.{words_length}
@@ -66,10 +67,10 @@ module _ (room : Room) (show : Counts → Sheet → List ℕ) (text : List ℕ) 
     unfolding text_prints
     short_text = sym (rw (le-ltb room.bytes (length text) h))
 
-    pub read_refused : {number line : ℕ} → Refused number line ≡ read_answer reading → printed (Meaning.refused number line) [] ≡ text_prints room show text
+    pub read_refused : {r : Code.Refusal} → Err r ≡ read_answer reading → printed (Meaning.refused r.number r.place) [] ≡ text_prints room show text
     unfolding reading_printed read_printed
     read_refused e = ap (λ a. read_printed show a (sheet_after reading (lent_sheet room))) e ∙ short_text
 
-    pub read_done : {n : Counts} {s : Sheet} → Done n ≡ read_answer reading → s ≡ sheet_after reading (lent_sheet room) → show n s ≡ text_prints room show text
+    pub read_done : {n : Counts} {s : Sheet} → Ok n ≡ read_answer reading → s ≡ sheet_after reading (lent_sheet room) → show n s ≡ text_prints room show text
     unfolding reading_printed read_printed
     read_done e t = ap₂ (read_printed show) e t ∙ short_text

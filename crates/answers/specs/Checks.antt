@@ -5,8 +5,8 @@ use Rattle.tables.specs.Layouts.{Sheet, sheet_of}
 use Rattle.tables.specs.declared.Counts.{Counts}
 use Rattle.text.specs.Texts.{Reading}
 use Rattle.reader.specs.Reads.{lent_reading, read_answer, sheet_after}
-use Rattle.reader.specs.declared.Outcome as Read
-use Rattle.reader.specs.declared.Outcome.TheVariants.{Done, Refused}
+use Rattle.std.specs.Prelude.{Ok, Err}
+use Rattle.tables.specs.Refusals.{OrRefused}
 use Rattle.batch.specs.Checked.{lent_outcome}
 use Rattle.printing.specs.Printed.{printed}
 
@@ -37,9 +37,9 @@ unfoldable pub batch_printed : ℕ → Counts → Sheet → List ℕ
 batch_printed words n s = outcome_printed (lent_outcome n s false words)
 
 -- what a read says, with the tables that it left: a refusal of the text, or what `show` prints of the tables
-unfoldable pub read_printed : (Counts → Sheet → List ℕ) → Read.Outcome → Sheet → List ℕ
-read_printed show (Done n) s = show n s
-read_printed show (Refused number line) s = printed (refused number line) []
+unfoldable pub read_printed : (Counts → Sheet → List ℕ) → OrRefused Counts → Sheet → List ℕ
+read_printed show (Ok n) s = show n s
+read_printed show (Err r) s = printed (refused r.number r.place) []
 
 unfoldable pub reading_printed : (Counts → Sheet → List ℕ) → Reading → Sheet → List ℕ
 reading_printed show r before = read_printed show (read_answer r) (sheet_after r before)

@@ -10,7 +10,6 @@ ghost use Rattle.printing.specs.Printed.{room_for};
 ghost use Rattle.answers.specs.Checks.{batch_printed, check_prints};
 
 use printing::{print, refuse};
-use reader::Outcome;
 use tables::Counts;
 
 // The batch check of tables that were read, with a scratch no shorter than they are.
@@ -118,8 +117,8 @@ pub fn check(text: &[u8], out: &mut [u8; 32768]) -> usize
         &mut links,
         &mut events,
     ) {
-        Outcome::Refused(number, line) => refuse(number, line, out),
-        Outcome::Done(n) => check_read(
+        Err(refusal) => refuse(refusal.number, refusal.place, out),
+        Ok(n) => check_read(
             n,
             &types,
             &floors,

@@ -1,5 +1,6 @@
 -- What is left, by the outcome.
 use Prim.Native.Nat.{ℕ}
+use Rattle.tables.specs.declared.Refusal as Code
 use mathlib.Core.Path.{◌≡◌, refl, sym, ap, ap₂, ◌∙◌}
 use mathlib.Core.List.{List, flat_map}
 use mathlib.Core.Option.{Option, none, some}
@@ -22,7 +23,7 @@ use Rattle.tables.specs.Answers.{answer_of}
 use Rattle.tables.specs.declared.Counts.{Counts}
 use Rattle.tables.specs.declared.Answer as Answer
 use Rattle.tables.specs.declared.Answer.TheVariants as Said
-use Rattle.tables.specs.declared.Verdict.TheVariants.{Refused}
+use Rattle.std.specs.Prelude.{Ok, Err}
 use Rattle.tables.proofs.Determined.{Words, object_back, link_back}
 use Rattle.events.specs.Runs.{lent_by, RunLeft}
 use Rattle.lent_run.specs.Lent.{scratch_short, run_refusal}
@@ -38,16 +39,16 @@ use Rattle.batch.proofs.Back.{back_is}
 -- ---- a refusal
 
 -- the refusal that a verdict tells
-pub told : (o : Option Refusal) {number place : ℕ} → Refused number place ≡ verdict_of o → o ≡ some (record { number = number; place = place })
+pub told : (o : Option Refusal) {r : Code.Refusal} → Err r ≡ verdict_of o → o ≡ some (record { number = r.number; place = r.place })
 told none e = cc
-told (some r) {number} {place} e =
-    let a : number ≡ r.number = cc in
-    let b : place ≡ r.place = cc in
-    ap₂ (λ x y. some (record { number = x; place = y })) (sym a) (sym b)
+told (some met) {r} e =
+    let a : met.number ≡ r.number = cc in
+    let b : met.place ≡ r.place = cc in
+    ap₂ (λ x y. some (record { number = x; place = y })) a b
 
 module _ (n : Counts) (s : Sheet) (scratch_objects scratch_links list : List ℕ) where
-  pub left_refused : {number place : ℕ} {x : Checked} → Refused number place ≡ verdict_of (run_refusal n s scratch_objects scratch_links)
-      → x.answer ≡ Said.Refused number place → x.pairs ≡ 0 → x.objects ≡ n.objects → x.links ≡ n.links
+  pub left_refused : {r : Code.Refusal} {x : Checked} → Err r ≡ verdict_of (run_refusal n s scratch_objects scratch_links)
+      → x.answer ≡ Said.Refused r.number r.place → x.pairs ≡ 0 → x.objects ≡ n.objects → x.links ≡ n.links
       → Left (lent_outcome n s (scratch_short s.objects s.links scratch_objects scratch_links) (length list)) list s.objects s.links x list s.objects s.links
   unfolding pair_words flat_map
   left_refused e answer pairs objects links =

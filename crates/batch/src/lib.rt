@@ -9,7 +9,7 @@ ghost use Rattle.batch.specs.Checked.{lent_outcome, Left};
 ghost use Rattle.batch.specs.Settled.{brought_back, Settles};
 
 use batch_judge::{Judged, judge};
-use tables::{Answer, Counts, Verdict};
+use tables::{Answer, Counts, Sheet};
 
 // What a batch check says: its answer, how many pairs it listed, and how many rows of objects and links are used after it.
 #[derive(Clone, Copy)]
@@ -96,26 +96,28 @@ pub fn check(
 {
     let ran = lent_run::run(
         n,
-        types,
-        floors,
-        relationships,
-        rules,
-        bodies,
-        &*objects,
-        &*links,
-        events,
+        &Sheet {
+            types,
+            floors,
+            relationships,
+            rules,
+            bodies,
+            objects: &*objects,
+            links: &*links,
+            events,
+        },
         &mut *scratch_objects,
         &mut *scratch_links,
     );
     let verdict = ran.verdict;
     match verdict {
-        Verdict::Refused(number, place) => Checked {
-            answer: Answer::Refused(number, place),
+        Err(refusal) => Checked {
+            answer: Answer::Refused(refusal.number, refusal.place),
             pairs: 0,
             objects: n.objects,
             links: n.links,
         },
-        Verdict::Clear => {
+        Ok(()) => {
             let met = ran.met;
             let held = ran.held;
             let after = Counts {
@@ -129,14 +131,16 @@ pub fn check(
             };
             let judged = judge(
                 after,
-                types,
-                floors,
-                relationships,
-                rules,
-                bodies,
-                &*scratch_objects,
-                &*scratch_links,
-                events,
+                &Sheet {
+                    types,
+                    floors,
+                    relationships,
+                    rules,
+                    bodies,
+                    objects: &*scratch_objects,
+                    links: &*scratch_links,
+                    events,
+                },
                 &met,
                 held.losses,
                 &ran.losses,

@@ -6,13 +6,13 @@ ghost use Rattle.meaning.specs.Events.{Lent};
 ghost use Rattle.meaning.specs.Register.{Register};
 ghost use Rattle.meaning.specs.Reach.{Change};
 ghost use Rattle.tables.specs.Columns.{book_of};
-ghost use Rattle.tables.specs.Layouts.{sheet_of};
+ghost use Rattle.tables.specs.Layouts.{sheet_in, register_sheet};
 ghost use Rattle.checks.specs.Given.{Given};
 ghost use Rattle.batch_selection.specs.Ended.{Ended};
 ghost use Rattle.batch_judge.specs.Judged.{end_outcome, Judges};
 
 use batch_selection::selected_pairs;
-use tables::{Answer, Counts};
+use tables::{Answer, Counts, Sheet};
 
 // What the listed pairs say, and how many there are.
 #[derive(Clone, Copy)]
@@ -24,63 +24,30 @@ pub struct Judged {
 // Lists the pairs that the batch selects, and finds the first of them that is broken at its end. 14 is met before a word is written.
 pub fn judge(
     n: Counts,
-    types: &[u32],
-    floors: &[u32],
-    relationships: &[u32],
-    rules: &[u32],
-    bodies: &[u32],
-    objects: &[u32],
-    links: &[u32],
-    events: &[u32],
+    sheet: &Sheet,
     met: &[u32; 256],
     loss_count: u32,
     losses: &[u32; 8704],
     list: &mut [u32],
 ) -> Judged
-    requires { (Given n (sheet_of types.now floors.now relationships.now rules.now bodies.now objects.now links.now []))
-        × ((c : Change) × Ended c n (sheet_of types.now floors.now relationships.now rules.now bodies.now objects.now links.now events.now) met.now loss_count losses.now) }
-    ensures { let s = sheet_of types.now floors.now relationships.now rules.now bodies.now objects.now links.now events.now in
+    requires { (Given n (register_sheet sheet.now))
+        × ((c : Change) × Ended c n (sheet_in sheet.now) met.now loss_count losses.now) }
+    ensures { let s = sheet_in sheet.now in
         (c : Change) → Ended c n s met.now loss_count losses.now → (lent : Lent) → lent.words ≡ length list.old → (g : Register)
         → Judges (end_outcome (book_of n s) lent g c) list.old result list.new }
 {
     let mut index = [0u16; 81920];
-    link_index::index(n.objects, objects, n.links, links, &mut index);
+    link_index::index(n.objects, sheet.objects, n.links, sheet.links, &mut index);
     let mut marks = [0u32; 1024];
-    let count = selected_pairs(
-        n,
-        types,
-        floors,
-        relationships,
-        rules,
-        bodies,
-        objects,
-        links,
-        &index,
-        events,
-        met,
-        loss_count,
-        losses,
-        &mut marks,
-    );
+    let count = selected_pairs(n, sheet, &index, met, loss_count, losses, &mut marks);
     if list.len() < (count as usize) * 2 {
         return Judged {
             answer: Answer::Refused(14, 0),
             pairs: 0,
         };
     }
-    pair_list::write(n, &marks, objects, list);
-    let answer = pair_list::search(
-        n,
-        types,
-        floors,
-        relationships,
-        rules,
-        bodies,
-        objects,
-        links,
-        &index,
-        &marks,
-    );
+    pair_list::write(n, &marks, sheet.objects, list);
+    let answer = pair_list::search(n, sheet, &index, &marks);
     Judged {
         answer,
         pairs: count,

@@ -1,5 +1,5 @@
 // A body's rows as forms: where the form that ends before each row starts, and of which sort it is.
-ghost use Rattle.std.specs.Prelude.{◌≡◌, suc, ◌+◌, ◌*◌, ◌<◌, ◌≤◌};
+ghost use Rattle.std.specs.Prelude.{◌≡◌, ℕ, suc, ◌+◌, ◌*◌, ◌^◌, ◌<◌, ◌≤◌, get_or};
 ghost use Rattle.std.proofs.Math.Option.{some};
 ghost use Rattle.meaning.specs.Limits.{max_forms};
 ghost use Rattle.rows.specs.Rows.{word_at};
@@ -154,22 +154,22 @@ fn start_at(bodies: &[u32], rule: u32, row: u32, first: u32, second: u32) -> u32
     }
 }
 
-// The scan of a body of n rows. The second part of a row's form ends before the row, and the first before the start of the second.
+// The scan of a body of n rows. The second part of a row's form ends before the row, and the first before the start of the second. That every lent word is one
+// of 32 bits is said for callers that have the bodies in a sheet.
 pub fn scan(bodies: &[u32], rule: u32, n: u32) -> Spans
     requires { n ≤ max_forms }
-    ensures { (Starts (body_of bodies.now rule) result.starts n) × (result.mark ≡ mark (ending (body_of bodies.now rule) n)) }
+    ensures { (Starts (body_of bodies.now rule) result.starts n) × (result.mark ≡ mark (ending (body_of bodies.now rule) n))
+        × ((j : ℕ) → get_or bodies.now j 0 < 2 ^ 32) }
 {
     let mut starts = [0u32; 65];
     let mut marks = [NONE; 65];
-    let mut row: u32 = 0;
-    while row < n {
+    for row in 0..n {
         let at = row as usize;
         let middle = starts[at] as usize;
         let start = start_at(bodies, rule, row, starts[middle], starts[at]);
         let mark = mark_at(bodies, rule, row, marks[middle], marks[at]);
         starts[at + 1] = start;
         marks[at + 1] = mark;
-        row += 1;
     }
     let last = n as usize;
     let mark = marks[last];

@@ -9,7 +9,6 @@ ghost use Rattle.tables.specs.Columns.{rule_row, schema_of, rules_of};
 ghost use Rattle.tables.specs.Refusals.{found_of};
 
 use body_rows::body;
-use tables::Found;
 use typing::Place;
 
 // Whether a rule is faulty.
@@ -65,14 +64,13 @@ pub fn check(
     rule_count: u32,
     rules: &[u32],
     bodies: &[u32],
-) -> Found
+) -> Option<u32>
     ensures { (fs : List Floor) → result ≡ found_of (rule_fault (record {
       schema = schema_of type_count types.now fs relationship_count relationships.now;
       rules = rules_of rule_count rules.now bodies.now;
     })) }
 {
-    let mut rule: u32 = 0;
-    while rule < rule_count {
+    for rule in 0..rule_count {
         if faulty(
             type_count,
             types,
@@ -82,9 +80,8 @@ pub fn check(
             bodies,
             rule,
         ) {
-            return Found::At(rule);
+            return Some(rule);
         }
-        rule += 1;
     }
-    Found::Nothing
+    None
 }

@@ -1,13 +1,13 @@
 -- The reader of a body as a machine over tokens: the open forms, the innermost first, each by what it lacks.
 use Prim.Native.Nat.{ℕ, zero, suc, ◌+◌, ◌-◌, ◌*◌, ◌≤◌, ◌<◌}
 use mathlib.Core.Path.{◌≡◌, refl, sym, ap, ◌∙◌}
+use Rattle.std.specs.Prelude.{Option, Some, None, option_and_then}
 use mathlib.Core.Bool.{Bool, true, false, ◌&&◌, cond}
 use mathlib.Core.List.{List, [], ◌∷◌, map}
-use mathlib.Core.Option
-use mathlib.Core.Option.{Option, none, some, bind, none-ne-some}
+use mathlib.Core.Option.{Option as Maybe, none, some, bind, map as map_maybe, none-ne-some}
 use native.Mathlib.Nat.{le_refl}
 use native.Mathlib.Omega.{arith}
-use borrow.Author.Tests.{lt-ltb, le-ltb, le-leb, lt-leb, leb-true, leb-false, ne_eqb, eqb-true, eqb-false}
+use borrow.Author.Tests.{lt-ltb, le-ltb, le-leb, lt-leb, leb-true, leb-false, eqb-true, eqb-false}
 use lib.Dec.{eqb, leb}
 use lib.ListN.{length, get_or, get_elem?, length-append}
 use Rattle.meaning.specs.Lists.{holds}
@@ -18,27 +18,25 @@ use Rattle.text.specs.Tokens.{Token, begin, item, end, dash, is_word, tokens_in}
 use Rattle.text.specs.Bodies.{Written, leaf, over, both, Need, need_of, need, forms_in, tokens_of, Closed, close_in, Formed, formed_by, parts_in, need_named, opened_in, form_in}
 use Rattle.text.specs.Entries.{rule, only_end, body_in}
 use Rattle.text.proofs.Bodies.{form_spelled}
-use Rattle.brackets.specs.declared.BodyFound.{BodyFound}
-use Rattle.brackets.specs.Steps.{body_held, body_at}
-use Rattle.brackets.specs.Steps.{no_form, lack_of, opened_by, filled_by, closed_by, no_body}
+use Rattle.brackets.specs.Steps.{lacks_of, lack_of, opened_by, filled_by, closed_by, body_held, body_at}
 
-unfoldable pub run : List Token → List ℕ → ℕ → BodyFound
-run [] [] n = record { good = true; forms = n }
-run [] (w ∷ s) n = no_body
-run (begin k ∷ ts) [] n = no_body
-run (begin k ∷ ts) (w ∷ s) n = cond (eqb (opened_by w k) no_form) no_body (run ts (opened_by w k ∷ (w - 4) ∷ s) (n + 1))
-run (item v ∷ ts) [] n = no_body
-run (item v ∷ ts) (w ∷ s) n = cond (eqb (filled_by w v) no_form) no_body (run ts (filled_by w v ∷ s) n)
-run (end ∷ ts) [] n = no_body
-run (end ∷ ts) (w ∷ s) n = cond (eqb (closed_by w) no_form) no_body (run ts s n)
+unfoldable pub run : List Token → List ℕ → ℕ → Option ℕ
+run [] [] n = Some n
+run [] (w ∷ s) n = None
+run (begin k ∷ ts) [] n = None
+run (begin k ∷ ts) (w ∷ s) n = option_and_then (λ a. run ts (a ∷ (w - 4) ∷ s) (n + 1)) (opened_by w k)
+run (item v ∷ ts) [] n = None
+run (item v ∷ ts) (w ∷ s) n = option_and_then (λ a. run ts (a ∷ s) n) (filled_by w v)
+run (end ∷ ts) [] n = None
+run (end ∷ ts) (w ∷ s) n = option_and_then (λ a. run ts s n) (closed_by w)
 
 -- ---- what operators lack
 
 unfoldable pub lack_words : List ℕ
-lack_words = map (λ o. lack_of (some (need_of (shape_of o)))) operators
+lack_words = map (λ o. lacks_of (need_of (shape_of o))) operators
 
 module _ {A : Type 0} where
-  mapped : {B : Type 0} (f : A → B) (l : List A) (d : ℕ) (k : ℕ) (g : B → ℕ) (x : Option B → ℕ) → ((b : B) → x (some b) ≡ g b) → k < length l → get_or (map (λ a. g (f a)) l) k d ≡ x (Option.map f (get_elem? l k))
+  mapped : {B : Type 0} (f : A → B) (l : List A) (d : ℕ) (k : ℕ) (g : B → ℕ) (x : Maybe B → Option ℕ) → ((b : B) → x (some b) ≡ Some (g b)) → k < length l → Some (get_or (map (λ a. g (f a)) l) k d) ≡ x (map_maybe f (get_elem? l k))
   mapped f [] d k g x e h = absurd (omega arith)
   mapped f (a ∷ l) d zero g x e h = sym (e (f a))
   mapped f (a ∷ l) d (suc k) g x e h = mapped f l d k g x e (omega arith)
@@ -48,13 +46,13 @@ module _ {A : Type 0} where
   beyond (x ∷ xs) zero h = absurd (omega arith)
   beyond (x ∷ xs) (suc k) h = beyond xs k (omega arith)
 
-pub lack_word : (k : ℕ) → k < 23 → get_or lack_words k 0 ≡ lack_of (need k)
+pub lack_word : (k : ℕ) → k < 23 → Some (get_or lack_words k 0) ≡ lack_of (need k)
 unfolding lack_words need operator_of operators
-lack_word k h = mapped (λ o. need_of (shape_of o)) operators 0 k (λ m. 4 * m.parts + m.fields) lack_of (λ b. refl) h
+lack_word k h = mapped (λ o. need_of (shape_of o)) operators 0 k lacks_of lack_of (λ b. refl) h
 
 pub need_none : (k : ℕ) → 23 ≤ k → need k ≡ none
 unfolding need operator_of operators
-need_none k h = ap (Option.map (λ o. need_of (shape_of o))) (beyond operators k h)
+need_none k h = ap (map_maybe (λ o. need_of (shape_of o))) (beyond operators k h)
 
 abbrev small : ℕ → Bool
 small k = holds (λ m. leb m.parts 2 && leb m.fields 2) (need k)
@@ -95,12 +93,12 @@ named_few name m e = go (leb first_operator name) e
 
 -- ---- a token at an open form
 
-either : (b : Bool) → cond b no_form no_form ≡ no_form
+either : (b : Bool) → ◌≡◌ {A = Option ℕ} (cond b None None) None
 either true = refl
 either false = refl
 
 -- no form in one that lacks no part, no field in one that lacks a part or no field, no end of one that lacks anything
-pub open_not : (w k : ℕ) → w < 4 → opened_by w k ≡ no_form
+pub open_not : (w k : ℕ) → w < 4 → opened_by w k ≡ None
 unfolding opened_by
 open_not w k h = rw (lt-leb 4 w h)
 
@@ -108,47 +106,47 @@ pub open_is : (w k : ℕ) → 4 ≤ w → opened_by w k ≡ lack_of (need_named 
 unfolding opened_by
 open_is w k h = rw (le-leb 4 w h)
 
-pub fill_not : (w v : ℕ) → 4 ≤ w → filled_by w v ≡ no_form
+pub fill_not : (w v : ℕ) → 4 ≤ w → filled_by w v ≡ None
 unfolding filled_by
 fill_not w v h = rw (lt-leb w 3 (omega arith))
 
-pub fill_none : (v : ℕ) → filled_by 0 v ≡ no_form
+pub fill_none : (v : ℕ) → filled_by 0 v ≡ None
 unfolding filled_by
 fill_none v = either (is_word v)
 
-pub fill_is : (n v : ℕ) → n ≤ 2 → filled_by (suc n) v ≡ cond (is_word v) n no_form
+pub fill_is : (n v : ℕ) → n ≤ 2 → filled_by (suc n) v ≡ cond (is_word v) (Some n) None
 unfolding filled_by
 fill_is n v h = rw (le-leb (suc n) 3 (omega arith))
 
-pub close_not : (w : ℕ) → 1 ≤ w → closed_by w ≡ no_form
+pub close_not : (w : ℕ) → 1 ≤ w → closed_by w ≡ None
 close_not zero h = absurd (omega arith)
 close_not (suc n) h = refl
 
 -- by an operator's name, or another
-pub open_below : (w name : ℕ) → name < first_operator → opened_by w name ≡ no_form
+pub open_below : (w name : ℕ) → name < first_operator → opened_by w name ≡ None
 unfolding opened_by need_named
 open_below w name h = rw (lt-leb first_operator name h) (either (leb 4 w))
 
-pub open_above : (w name : ℕ) → name_count ≤ name → opened_by w name ≡ no_form
+pub open_above : (w name : ℕ) → name_count ≤ name → opened_by w name ≡ None
 unfolding opened_by need_named
 open_above w name h = rw (le-leb first_operator name (omega arith), need_none (name - first_operator) (omega arith)) (either (leb 4 w))
 
-pub open_word : (w name : ℕ) → 4 ≤ w → first_operator ≤ name → name < name_count → get_or lack_words (name - first_operator) 0 ≡ opened_by w name
+pub open_word : (w name : ℕ) → 4 ≤ w → first_operator ≤ name → name < name_count → Some (get_or lack_words (name - first_operator) 0) ≡ opened_by w name
 unfolding opened_by need_named
 open_word w name h k l = rw (le-leb 4 w h, le-leb first_operator name k) (lack_word (name - first_operator) (omega arith))
 
-pub fill_large : (w v : ℕ) → 4294967295 < v → filled_by w v ≡ no_form
+pub fill_large : (w v : ℕ) → dash ≤ v → filled_by w v ≡ None
 unfolding filled_by
-fill_large w v h = rw (le-ltb v dash (omega arith)) (either (leb w 3))
+fill_large w v h = rw (le-ltb v dash h) (either (leb w 3))
 
-pub fill_word : (w v : ℕ) → 1 ≤ w → w ≤ 3 → v ≤ 4294967295 → w - 1 ≡ filled_by w v
+pub fill_word : (w v : ℕ) → 1 ≤ w → w ≤ 3 → v < dash → Some (w - 1) ≡ filled_by w v
 fill_word zero v h k l = absurd (omega arith)
-fill_word (suc n) v h k l = let q : suc n - 1 ≡ n = omega arith in q ∙ sym (fill_is n v (omega arith) ∙ rw (lt-ltb v dash (omega arith)))
+fill_word (suc n) v h k l = let q : suc n - 1 ≡ n = omega arith in ap Some q ∙ sym (fill_is n v (omega arith) ∙ rw (lt-ltb v dash l))
 
 -- ---- fields and the closed bracket
 
-abbrev after_close : Option Closed → List ℕ → ℕ → BodyFound
-after_close none s n = no_body
+abbrev after_close : Maybe Closed → List ℕ → ℕ → Option ℕ
+after_close none s n = None
 after_close (some c) s n = run c.rest s n
 
 close_run : (f : ℕ) (ts : List Token) (s : List ℕ) (n : ℕ) → f ≤ 3 → run ts (f ∷ s) n ≡ after_close (close_in f ts) s n
@@ -162,19 +160,19 @@ close_run (suc f) (begin k ∷ ts) s n h = rw (open_not (suc f) k (omega arith))
 close_run (suc f) (end ∷ ts) s n h = refl
 close_run (suc f) (item v ∷ ts) s n h = rw (fill_is f v (omega arith)) (go (is_word v) (close_run f ts s n (omega arith)))
   where
-    same : (o : Option Closed) → after_close o s n ≡ after_close (Option.map (λ c. record { fields = v ∷ c.fields; rest = c.rest }) o) s n
+    same : (o : Maybe Closed) → after_close o s n ≡ after_close (map_maybe (λ c. record { fields = v ∷ c.fields; rest = c.rest }) o) s n
     same none = refl
     same (some c) = refl
 
-    go : (b : Bool) → run ts (f ∷ s) n ≡ after_close (close_in f ts) s n → cond (eqb (cond b f no_form) no_form) no_body (run ts (cond b f no_form ∷ s) n)
-        ≡ after_close (cond b (Option.map (λ c. record { fields = v ∷ c.fields; rest = c.rest }) (close_in f ts)) none) s n
-    go true e = rw (ne_eqb f no_form (λ q. omega arith)) (e ∙ same (close_in f ts))
+    go : (b : Bool) → run ts (f ∷ s) n ≡ after_close (close_in f ts) s n → option_and_then (λ a. run ts (a ∷ s) n) (cond b (Some f) None)
+        ≡ after_close (cond b (map_maybe (λ c. record { fields = v ∷ c.fields; rest = c.rest }) (close_in f ts)) none) s n
+    go true e = e ∙ same (close_in f ts)
     go false e = refl
 
 -- ---- a whole form
 
-abbrev after_form : Option Formed → List ℕ → ℕ → BodyFound
-after_form none s n = no_body
+abbrev after_form : Maybe Formed → List ℕ → ℕ → Option ℕ
+after_form none s n = None
 after_form (some f) s n = run f.rest s (n + forms_in f.form)
 
 formed_run : (form : List ℕ → Written) (x f : ℕ) (ts : List Token) (s : List ℕ) (n : ℕ) → ((fs : List ℕ) → forms_in (form fs) ≡ x) → f ≤ 3
@@ -182,12 +180,12 @@ formed_run : (form : List ℕ → Written) (x f : ℕ) (ts : List Token) (s : Li
 unfolding formed_by
 formed_run form x f ts s n e h = close_run f ts s (n + x) h ∙ go (close_in f ts)
   where
-    go : (o : Option Closed) → after_close o s (n + x) ≡ after_form (Option.map (λ c. record { form = form c.fields; rest = c.rest }) o) s n
+    go : (o : Maybe Closed) → after_close o s (n + x) ≡ after_form (map_maybe (λ c. record { form = form c.fields; rest = c.rest }) o) s n
     go none = refl
     go (some c) = ap (λ m. run c.rest s (n + m)) (sym (e c.fields))
 
 -- by a part's reading that is right of so many tokens
-module _ (part : List Token → Option Formed) (fuel : ℕ)
+module _ (part : List Token → Maybe Formed) (fuel : ℕ)
     (right : (ts : List Token) (w : ℕ) (s : List ℕ) (n : ℕ) → length ts ≤ fuel → 4 ≤ w → run ts (w ∷ s) n ≡ after_form (part ts) ((w - 4) ∷ s) n)
     (shorter : (ts : List Token) (f : Formed) → part ts ≡ some f → length f.rest ≤ length ts) (k : ℕ) where
   parts_run : (p f : ℕ) (ts : List Token) (s : List ℕ) (n : ℕ) → p ≤ 2 → f ≤ 2 → length ts ≤ fuel → run ts ((4 * p + f) ∷ s) (n + 1) ≡ after_form (parts_in part k p f ts) s n
@@ -199,7 +197,7 @@ module _ (part : List Token → Option Formed) (fuel : ℕ)
       let q : 4 * 1 + f - 4 ≡ f = omega arith in
       right ts (4 * 1 + f) s (n + 1) h (omega arith) ∙ rw q (go (part ts))
     where
-      go : (o : Option Formed) → after_form o (f ∷ s) (n + 1) ≡ after_form (bind o (λ a. formed_by (over k a.form) f a.rest)) s n
+      go : (o : Maybe Formed) → after_form o (f ∷ s) (n + 1) ≡ after_form (bind o (λ a. formed_by (over k a.form) f a.rest)) s n
       go none = refl
       go (some a) =
           let m : n + 1 + forms_in a.form ≡ n + suc (forms_in a.form) = omega arith in
@@ -208,13 +206,13 @@ module _ (part : List Token → Option Formed) (fuel : ℕ)
       let q : 4 * 2 + f - 4 ≡ 4 + f = omega arith in
       right ts (4 * 2 + f) s (n + 1) h (omega arith) ∙ rw q (first (part ts) refl)
     where
-      second : (a : Formed) (o : Option Formed) → after_form o (f ∷ s) (n + 1 + forms_in a.form) ≡ after_form (bind o (λ b. formed_by (both k a.form b.form) f b.rest)) s n
+      second : (a : Formed) (o : Maybe Formed) → after_form o (f ∷ s) (n + 1 + forms_in a.form) ≡ after_form (bind o (λ b. formed_by (both k a.form b.form) f b.rest)) s n
       second a none = refl
       second a (some b) =
           let m : n + 1 + forms_in a.form + forms_in b.form ≡ n + suc (forms_in a.form + forms_in b.form) = omega arith in
           rw m (formed_run (both k a.form b.form) (suc (forms_in a.form + forms_in b.form)) f b.rest s n (λ fs. refl) (omega arith))
 
-      first : (o : Option Formed) → part ts ≡ o → after_form o ((4 + f) ∷ s) (n + 1) ≡ after_form (bind o (λ a. bind (part a.rest) (λ b. formed_by (both k a.form b.form) f b.rest))) s n
+      first : (o : Maybe Formed) → part ts ≡ o → after_form o ((4 + f) ∷ s) (n + 1) ≡ after_form (bind o (λ a. bind (part a.rest) (λ b. formed_by (both k a.form b.form) f b.rest))) s n
       first none e = refl
       first (some a) e =
           let q : 4 + f - 4 ≡ f = omega arith in
@@ -234,18 +232,17 @@ form_run (suc fuel) (end ∷ ts) w s n h k = rw (close_not w (omega arith))
 form_run (suc fuel) (begin name ∷ ts) w s n h k = rw (open_is w name k) (go (λ l. form_run fuel l) (need_named name) refl)
   where
     go : ((l : List Token) (w : ℕ) (s : List ℕ) (n : ℕ) → length l ≤ fuel → 4 ≤ w → run l (w ∷ s) n ≡ after_form (form_in fuel l) ((w - 4) ∷ s) n)
-        → (o : Option Need) → need_named name ≡ o → cond (eqb (lack_of o) no_form) no_body (run ts (lack_of o ∷ (w - 4) ∷ s) (n + 1))
+        → (o : Maybe Need) → need_named name ≡ o → option_and_then (λ a. run ts (a ∷ (w - 4) ∷ s) (n + 1)) (lack_of o)
         ≡ after_form (bind o (λ m. parts_in (λ rest. form_in fuel rest) (name - first_operator) m.parts m.fields ts)) ((w - 4) ∷ s) n
     go right none e = refl
     go right (some m) e =
         let few = named_few name m e in
-        rw (ne_eqb (4 * m.parts + m.fields) no_form (λ q. omega arith))
-        (parts_run (λ rest. form_in fuel rest) fuel right (rest_short fuel) (name - first_operator) m.parts m.fields ts ((w - 4) ∷ s) n few.0 few.1 (omega arith))
+        parts_run (λ rest. form_in fuel rest) fuel right (rest_short fuel) (name - first_operator) m.parts m.fields ts ((w - 4) ∷ s) n few.0 few.1 (omega arith)
 
 -- ---- a body
 
-abbrev pub run_on : Option (List Token) → List ℕ → ℕ → BodyFound
-run_on none s n = no_body
+abbrev pub run_on : Maybe (List Token) → List ℕ → ℕ → Option ℕ
+run_on none s n = None
 run_on (some ts) s n = run ts s n
 
 -- nothing but the rule's own closed bracket follows its form
@@ -254,7 +251,7 @@ unfolding run body_held
 only_run [] body = refl
 only_run (begin k ∷ ts) body = rw (open_not 0 k (omega arith))
 only_run (item v ∷ ts) body = rw (fill_none v)
-only_run (end ∷ []) body = ap (λ n. record { good = true; forms = n }) (omega arith)
+only_run (end ∷ []) body = ap Some (omega arith)
 only_run (end ∷ begin k ∷ ts) body = refl
 only_run (end ∷ item v ∷ ts) body = refl
 only_run (end ∷ end ∷ ts) body = refl
@@ -263,10 +260,10 @@ pub body_run : (l : List ℕ) → run_on (tokens_in l) (4 ∷ []) 0 ≡ body_at 
 unfolding body_at body_in body_held bind
 body_run l = go (tokens_in l)
   where
-    form : (o : Option Formed) → after_form o (0 ∷ []) 0 ≡ body_held (bind o (λ f. cond (only_end f.rest) (some (rule 0 f.form)) none))
+    form : (o : Maybe Formed) → after_form o (0 ∷ []) 0 ≡ body_held (bind o (λ f. cond (only_end f.rest) (some (rule 0 f.form)) none))
     form none = refl
     form (some f) = only_run f.rest f.form
 
-    go : (o : Option (List Token)) → run_on o (4 ∷ []) 0 ≡ body_held (bind o (body_in 0))
+    go : (o : Maybe (List Token)) → run_on o (4 ∷ []) 0 ≡ body_held (bind o (body_in 0))
     go none = refl
     go (some ts) = form_run (length ts) ts 4 [] 0 (le_refl (length ts)) (omega arith) ∙ form (form_in (length ts) ts)

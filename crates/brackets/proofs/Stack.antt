@@ -1,25 +1,25 @@
 -- The machine's open forms in an array, and the steps of the loop.
 use Prim.Native.Nat.{ℕ, zero, suc, ◌+◌, ◌-◌, ◌*◌, ◌≤◌, ◌<◌}
 use mathlib.Core.Path.{◌≡◌, refl, sym, ap, ◌∙◌}
-use mathlib.Core.Logic.{◌≢◌, ◌⊎◌, inl, inr}
+use mathlib.Core.Logic.{◌⊎◌, inl, inr}
+use Rattle.std.specs.Prelude.{Option, Some, None}
+use Rattle.std.proofs.lemmas.Option.{none-some}
 use mathlib.Core.Bool.{Bool, true, false}
 use mathlib.Core.List.{List, [], ◌∷◌}
-use mathlib.Core.Option.{Option, none, some, map}
+use mathlib.Core.Option.{Option as Maybe, none, some, map}
 use native.Mathlib.Numerals.{add-one}
 use native.Mathlib.Omega.{arith}
-use borrow.Author.Tests.{leb-true, leb-false, ne_eqb}
+use borrow.Author.Tests.{leb-true, leb-false}
 use lib.Dec.{leb}
-use lib.ListN.{length, get_or, drop, set, replicate, length-set, length-replicate, drop_of_length-le}
+use lib.ListN.{length, get_or, drop, set, replicate, length-set, length-replicate}
 use lib.Seq.{drop-cons, get_or-set_same, get_or-set_other}
 use Rattle.text.specs.Tokens.{Token, begin, item, end, token_in, tokens_in}
 use Rattle.text.specs.Texts.{max_text}
 use Rattle.text.proofs.Tokens.{tokens_none}
 use Rattle.tokens.specs.declared.Found.{Found}
-use Rattle.tokens.specs.declared.Found.TheVariants.{Begin, Item, End, Bad}
-use Rattle.brackets.specs.declared.BodyFound.{BodyFound}
+use Rattle.tokens.specs.declared.Found.TheVariants.{Begin, Item, End}
 use Rattle.tokens.specs.Tokens.{found_at}
-use Rattle.brackets.specs.Steps.{body_at}
-use Rattle.brackets.specs.Steps.{no_form, opened_by, filled_by, closed_by, lacking_after, no_body, ended_at}
+use Rattle.brackets.specs.Steps.{opened_by, filled_by, closed_by, lacking_after, ended_at, body_at}
 use Rattle.tokens.proofs.Tokens.{Stands, found_stands, found_bad, tokens_more}
 use Rattle.brackets.proofs.Machine.{run, run_on, body_run, open_not}
 
@@ -47,53 +47,53 @@ under_got outer (suc d) h = let q : suc d - 1 ≡ d = omega arith in rw q
 
 -- ---- one token
 
-run_bad : (o : Option (List Token)) (w : ℕ) (s : List ℕ) (n : ℕ) → (o ≡ none) ⊎ (o ≡ some []) → run_on o (w ∷ s) n ≡ no_body
+run_bad : (o : Maybe (List Token)) (w : ℕ) (s : List ℕ) (n : ℕ) → (o ≡ none) ⊎ (o ≡ some []) → run_on o (w ∷ s) n ≡ None
 unfolding run
 run_bad o w s n (inl e) = rw e
 run_bad o w s n (inr e) = rw e
 
 -- a token that may not stand there
 module _ (w : ℕ) (s : List ℕ) (n : ℕ) where
-  begin_refused : (k : ℕ) (o : Option (List Token)) → opened_by w k ≡ no_form → run_on (map (λ ts. begin k ∷ ts) o) (w ∷ s) n ≡ no_body
+  begin_refused : (k : ℕ) (o : Maybe (List Token)) → opened_by w k ≡ None → run_on (map (λ ts. begin k ∷ ts) o) (w ∷ s) n ≡ None
   unfolding run
   begin_refused k none e = refl
   begin_refused k (some ts) e = rw e
 
-  item_refused : (v : ℕ) (o : Option (List Token)) → filled_by w v ≡ no_form → run_on (map (λ ts. item v ∷ ts) o) (w ∷ s) n ≡ no_body
+  item_refused : (v : ℕ) (o : Maybe (List Token)) → filled_by w v ≡ None → run_on (map (λ ts. item v ∷ ts) o) (w ∷ s) n ≡ None
   unfolding run
   item_refused v none e = refl
   item_refused v (some ts) e = rw e
 
-  end_refused : (o : Option (List Token)) → closed_by w ≡ no_form → run_on (map (λ ts. end ∷ ts) o) (w ∷ s) n ≡ no_body
+  end_refused : (o : Maybe (List Token)) → closed_by w ≡ None → run_on (map (λ ts. end ∷ ts) o) (w ∷ s) n ≡ None
   unfolding run
   end_refused none e = refl
   end_refused (some ts) e = rw e
 
   -- and one that may
-  begin_taken : (k : ℕ) (o : Option (List Token)) → opened_by w k ≢ no_form → run_on (map (λ ts. begin k ∷ ts) o) (w ∷ s) n ≡ run_on o (opened_by w k ∷ (w - 4) ∷ s) (n + 1)
+  begin_taken : (k a : ℕ) (o : Maybe (List Token)) → opened_by w k ≡ Some a → run_on (map (λ ts. begin k ∷ ts) o) (w ∷ s) n ≡ run_on o (a ∷ (w - 4) ∷ s) (n + 1)
   unfolding run
-  begin_taken k none e = refl
-  begin_taken k (some ts) e = rw (ne_eqb (opened_by w k) no_form e)
+  begin_taken k a none e = refl
+  begin_taken k a (some ts) e = rw e
 
-  item_taken : (v : ℕ) (o : Option (List Token)) → filled_by w v ≢ no_form → run_on (map (λ ts. item v ∷ ts) o) (w ∷ s) n ≡ run_on o (filled_by w v ∷ s) n
+  item_taken : (v a : ℕ) (o : Maybe (List Token)) → filled_by w v ≡ Some a → run_on (map (λ ts. item v ∷ ts) o) (w ∷ s) n ≡ run_on o (a ∷ s) n
   unfolding run
-  item_taken v none e = refl
-  item_taken v (some ts) e = rw (ne_eqb (filled_by w v) no_form e)
+  item_taken v a none e = refl
+  item_taken v a (some ts) e = rw e
 
-  end_taken : (o : Option (List Token)) → closed_by w ≢ no_form → run_on (map (λ ts. end ∷ ts) o) (w ∷ s) n ≡ run_on o s n
+  end_taken : (a : ℕ) (o : Maybe (List Token)) → closed_by w ≡ Some a → run_on (map (λ ts. end ∷ ts) o) (w ∷ s) n ≡ run_on o s n
   unfolding run
-  end_taken none e = refl
-  end_taken (some ts) e = rw (ne_eqb (closed_by w) no_form e)
+  end_taken a none e = refl
+  end_taken a (some ts) e = rw e
 
-pub opened_lacks : (w k after : ℕ) → after ≡ opened_by w k → after ≢ no_form → 4 ≤ w
-opened_lacks w k after e q = go (leb 4 w) refl
+pub opened_lacks : (w k after : ℕ) → Some after ≡ opened_by w k → 4 ≤ w
+opened_lacks w k after e = go (leb 4 w) refl
   where
     go : (b : Bool) → leb 4 w ≡ b → 4 ≤ w
     go true h = leb-true 4 w h
-    go false h = absurd (q (e ∙ open_not w k (leb-false 4 w h)))
+    go false h = absurd (none-some after (sym (e ∙ open_not w k (leb-false 4 w h))))
 
 -- with no form open, nothing may follow
-nothing_left : (o : Option (List Token)) (n : ℕ) → (o ≡ some [] → ⊥) → run_on o [] n ≡ no_body
+nothing_left : (o : Maybe (List Token)) (n : ℕ) → (o ≡ some [] → ⊥) → run_on o [] n ≡ None
 unfolding run
 nothing_left none n e = refl
 nothing_left (some []) n e = absurd (e refl)
@@ -109,7 +109,7 @@ run_ended (b ∷ l) n = nothing_left (tokens_in (b ∷ l)) n (tokens_more (b ∷
 -- ---- the loop
 
 -- the answer is that of the open forms and the tokens from i on; each open form and each form so far took four bytes
-pub record Running (t : List ℕ) (i : ℕ) (outer : List ℕ) (depth lacks forms : ℕ) (answer : BodyFound) : Type 0 where
+pub record Running (t : List ℕ) (i : ℕ) (outer : List ℕ) (depth lacks forms : ℕ) (answer : Option ℕ) : Type 0 where
   pub size : length outer ≡ room
   pub deep : 4 * depth ≤ i
   pub many : 4 * forms ≤ i
@@ -123,22 +123,24 @@ running_first t at = record { size = length-replicate {A = ℕ} room 0; deep = o
 pub begin_room : (t : List ℕ) (i k next depth : ℕ) → Stands t i (begin k) next → length t ≤ max_text → 4 * depth ≤ i → (depth < room) × (4 * (depth + 1) ≤ next)
 begin_room t i k next depth s h d = let b = s.takes in let n = s.inside in (omega arith, omega arith)
 
-module _ (t : List ℕ) (i : ℕ) (outer : List ℕ) (depth lacks forms : ℕ) (answer : BodyFound) (r : Running t i outer depth lacks forms answer) where
-  pub running_refused : (f : Found) → f ≡ found_at i (token_in (drop i t)) → lacking_after lacks f ≡ no_form → answer ≡ no_body
+module _ (t : List ℕ) (i : ℕ) (outer : List ℕ) (depth lacks forms : ℕ) (answer : Option ℕ) (r : Running t i outer depth lacks forms answer) where
+  pub running_bad : None ≡ found_at i (token_in (drop i t)) → answer ≡ None
+  running_bad e = sym r.gives ∙ run_bad (tokens_in (drop i t)) lacks (under outer depth) forms (found_bad t i e)
+
+  pub running_refused : (f : Found) → Some f ≡ found_at i (token_in (drop i t)) → lacking_after lacks f ≡ None → answer ≡ None
   running_refused (Begin k next) e q =
-      let s = found_stands t i (Begin k next) (begin k) e refl in
+      let s = found_stands t i (Begin k next) e in
       sym r.gives ∙ rw s.tokens (begin_refused lacks (under outer depth) forms k (tokens_in (drop next t)) q)
   running_refused (Item v next) e q =
-      let s = found_stands t i (Item v next) (item v) e refl in
+      let s = found_stands t i (Item v next) e in
       sym r.gives ∙ rw s.tokens (item_refused lacks (under outer depth) forms v (tokens_in (drop next t)) q)
   running_refused (End next) e q =
-      let s = found_stands t i (End next) end e refl in
+      let s = found_stands t i (End next) e in
       sym r.gives ∙ rw s.tokens (end_refused lacks (under outer depth) forms (tokens_in (drop next t)) q)
-  running_refused Bad e q = sym r.gives ∙ run_bad (tokens_in (drop i t)) lacks (under outer depth) forms (found_bad t i e)
 
-  pub running_begin : (k next after : ℕ) → Stands t i (begin k) next → length t ≤ max_text → after ≡ opened_by lacks k → after ≢ no_form
+  pub running_begin : (k next after : ℕ) → Stands t i (begin k) next → length t ≤ max_text → Some after ≡ opened_by lacks k
       → Running t next (set outer depth (lacks - 4)) (depth + 1) after (forms + 1) answer
-  running_begin k next after s h e q =
+  running_begin k next after s h e =
       let b = begin_room t i k next depth s h r.deep in
       let m = begin_room t i k next forms s h r.many in
       let size = r.size in
@@ -147,12 +149,12 @@ module _ (t : List ℕ) (i : ℕ) (outer : List ℕ) (depth lacks forms : ℕ) (
         deep = b.1;
         many = m.1;
         gives =
-            rw (under_put outer depth (lacks - 4) (omega arith), e)
-            (sym (begin_taken lacks (under outer depth) forms k (tokens_in (drop next t)) (λ z. q (e ∙ z))) ∙ rw (← s.tokens) r.gives);
+            rw (under_put outer depth (lacks - 4) (omega arith))
+            (sym (begin_taken lacks (under outer depth) forms k after (tokens_in (drop next t)) (sym e)) ∙ rw (← s.tokens) r.gives);
       }
 
-  pub running_item : (v next after : ℕ) → Stands t i (item v) next → after ≡ filled_by lacks v → after ≢ no_form → Running t next outer depth after forms answer
-  running_item v next after s e q =
+  pub running_item : (v next after : ℕ) → Stands t i (item v) next → Some after ≡ filled_by lacks v → Running t next outer depth after forms answer
+  running_item v next after s e =
       let n = s.further in
       let d = r.deep in
       let m = r.many in
@@ -160,11 +162,11 @@ module _ (t : List ℕ) (i : ℕ) (outer : List ℕ) (depth lacks forms : ℕ) (
         size = r.size;
         deep = omega arith;
         many = omega arith;
-        gives = rw e (sym (item_taken lacks (under outer depth) forms v (tokens_in (drop next t)) (λ z. q (e ∙ z))) ∙ rw (← s.tokens) r.gives);
+        gives = sym (item_taken lacks (under outer depth) forms v after (tokens_in (drop next t)) (sym e)) ∙ rw (← s.tokens) r.gives;
       }
 
-  pub running_end : (next after : ℕ) → Stands t i end next → after ≡ closed_by lacks → after ≢ no_form → 1 ≤ depth → Running t next outer (depth - 1) (get_or outer (depth - 1) 0) forms answer
-  running_end next after s e q h =
+  pub running_end : (next after : ℕ) → Stands t i end next → Some after ≡ closed_by lacks → 1 ≤ depth → Running t next outer (depth - 1) (get_or outer (depth - 1) 0) forms answer
+  running_end next after s e h =
       let n = s.further in
       let d = r.deep in
       let m = r.many in
@@ -174,22 +176,19 @@ module _ (t : List ℕ) (i : ℕ) (outer : List ℕ) (depth lacks forms : ℕ) (
         many = omega arith;
         gives =
             rw (← under_got outer depth h)
-            (sym (end_taken lacks (under outer depth) forms (tokens_in (drop next t)) (λ z. q (e ∙ z))) ∙ rw (← s.tokens) r.gives);
+            (sym (end_taken lacks (under outer depth) forms after (tokens_in (drop next t)) (sym e)) ∙ rw (← s.tokens) r.gives);
       }
 
-  pub running_done : (next after : ℕ) → Stands t i end next → after ≡ closed_by lacks → after ≢ no_form → depth < 1 → answer ≡ ended_at (drop next t) forms
+  pub running_done : (next after : ℕ) → Stands t i end next → Some after ≡ closed_by lacks → depth < 1 → answer ≡ ended_at (drop next t) forms
   unfolding under
-  running_done next after s e q h =
+  running_done next after s e h =
       let z : depth ≡ 0 = omega arith in
       let alone : under outer depth ≡ [] = rw z in
       sym r.gives
-      ∙ rw s.tokens (end_taken lacks (under outer depth) forms (tokens_in (drop next t)) (λ z. q (e ∙ z)))
+      ∙ rw s.tokens (end_taken lacks (under outer depth) forms after (tokens_in (drop next t)) (sym e))
       ∙ ap (λ (u : List ℕ). run_on (tokens_in (drop next t)) u forms) alone
       ∙ run_ended (drop next t) forms
 
 -- whether anything follows
-pub ended_more : (t : List ℕ) (i n : ℕ) → i < length t → ended_at (drop i t) n ≡ no_body
+pub ended_more : (t : List ℕ) (i n : ℕ) → i < length t → ended_at (drop i t) n ≡ None
 ended_more t i n h = rw (drop-cons t i 0 h)
-
-pub ended_past : (t : List ℕ) (i n : ℕ) → length t ≤ i → ended_at (drop i t) n ≡ record { good = true; forms = n }
-ended_past t i n h = rw (drop_of_length-le t h)

@@ -2,9 +2,10 @@
 use Prim.Native.Nat.{ℕ, zero, suc, ◌+◌, ◌-◌, ◌*◌, ◌≤◌, ◌<◌}
 use mathlib.Core.Path.{◌≡◌, refl, sym, ap, ◌∙◌}
 use mathlib.Core.Logic.{◌⊎◌, inl, inr}
+use Rattle.std.specs.Prelude.{None}
 use mathlib.Core.Bool.{true, cond}
 use mathlib.Core.List.{List, [], ◌∷◌, ◌++◌, append_assoc, append-nil}
-use mathlib.Core.Option.{Option, none, some, map, bind-eq-some_iff}
+use mathlib.Core.Option.{Option as Maybe, none, some, map, bind-eq-some_iff}
 use native.Mathlib.Omega.{arith}
 use borrow.Author.Tests.{ltb-true, le-leb, eq-eqb}
 use lib.ListN.{length, get_or, take, drop, set, replicate, length-append, length-drop, length-set}
@@ -21,7 +22,6 @@ use Rattle.text.specs.Bodies.{Written, leaf, over, both, meets, well_written, fo
 use Rattle.text.specs.Entries.{rule, only_end, body_in}
 use Rattle.text.proofs.Bodies.{meets_need, well_both, form_spelled, rows_length}
 use Rattle.text.proofs.Entries.{end_is, rule_if}
-use Rattle.tokens.specs.declared.Found.TheVariants.{Bad}
 use Rattle.tokens.specs.Tokens.{found_at}
 use Rattle.tables.specs.Layouts.{body_words}
 use Rattle.brackets.specs.Whole.{WholeBody, rows_put}
@@ -110,7 +110,7 @@ body_tokens t ts w e =
     let last = end_is f.rest r.0 in
     (s.0 ∙ rw (same, last), rw (← same) s.1)
 
-pub PutsOn : Option (List Token) → (codes words : List ℕ) (column : ℕ) (done all : List ℕ) → Type 0
+pub PutsOn : Maybe (List Token) → (codes words : List ℕ) (column : ℕ) (done all : List ℕ) → Type 0
 PutsOn none codes words column done all = ⊥
 PutsOn (some ts) codes words column done all = Puts ts codes words column done all
 
@@ -125,30 +125,30 @@ body_puts l t w b =
 -- ---- one token
 
 module _ (words : List ℕ) (column : ℕ) (done all : List ℕ) where
-  puts_begin : (k : ℕ) (o : Option (List Token)) (codes : List ℕ) → PutsOn (map (λ ts. begin k ∷ ts) o) codes words column done all
+  puts_begin : (k : ℕ) (o : Maybe (List Token)) (codes : List ℕ) → PutsOn (map (λ ts. begin k ∷ ts) o) codes words column done all
       → (first_operator ≤ k) × (length codes < max_forms) × PutsOn o ((k - first_operator) ∷ codes) words column done all
   unfolding PutsOn Puts
   puts_begin k none codes p = absurd p
   puts_begin k (some ts) codes p = p
 
-  puts_item : (v : ℕ) (o : Option (List Token)) (codes : List ℕ) → PutsOn (map (λ ts. item v ∷ ts) o) codes words column done all
+  puts_item : (v : ℕ) (o : Maybe (List Token)) (codes : List ℕ) → PutsOn (map (λ ts. item v ∷ ts) o) codes words column done all
       → (v < dash) × (column < 4) × PutsOn o codes (set words column v) (column + 1) done all
   unfolding PutsOn Puts
   puts_item v none codes p = absurd p
   puts_item v (some ts) codes p = p
 
-  puts_end : (k : ℕ) (o : Option (List Token)) (codes : List ℕ) → PutsOn (map (λ ts. end ∷ ts) o) (k ∷ codes) words column done all
+  puts_end : (k : ℕ) (o : Maybe (List Token)) (codes : List ℕ) → PutsOn (map (λ ts. end ∷ ts) o) (k ∷ codes) words column done all
       → (length done + 4 ≤ body_words) × PutsOn o codes clear 1 (done ++ set words 0 k) all
   unfolding PutsOn Puts
   puts_end k none codes p = absurd p
   puts_end k (some ts) codes p = p
 
-  puts_last : (o : Option (List Token)) → PutsOn (map (λ ts. end ∷ ts) o) [] words column done all → done ≡ all
+  puts_last : (o : Maybe (List Token)) → PutsOn (map (λ ts. end ∷ ts) o) [] words column done all → done ≡ all
   unfolding PutsOn Puts
   puts_last none p = absurd p
   puts_last (some ts) p = p
 
-  puts_bad : (o : Option (List Token)) (codes : List ℕ) → (o ≡ none) ⊎ (o ≡ some []) → PutsOn o codes words column done all → ⊥
+  puts_bad : (o : Maybe (List Token)) (codes : List ℕ) → (o ≡ none) ⊎ (o ≡ some []) → PutsOn o codes words column done all → ⊥
   unfolding PutsOn Puts
   puts_bad o codes (inl e) p = rw e at p
   puts_bad o codes (inr e) p = rw e at p
@@ -274,13 +274,7 @@ module _ {t first : List ℕ} {i : ℕ} {codes : List ℕ} {depth : ℕ} {words 
       let n : 0 + length all ≡ length all = omega arith in
       r.held ∙ rw (e, n)
 
-  pub putting_wide : (v : ℕ) → 4 ≡ length (set words 0 v)
-  putting_wide v = sym (length-set words 0 v ∙ r.wide)
-
-  pub putting_size : length table ≡ length first
-  putting_size = ap length r.held ∙ length-append r.done (drop (length r.done) first) ∙ omega (arith, length-drop (length r.done) first, r.inside)
-
-  pub putting_bad : Bad ≡ found_at i (token_in (drop i t)) → ⊥
+  pub putting_bad : None ≡ found_at i (token_in (drop i t)) → ⊥
   putting_bad e = puts_bad words column r.done all (tokens_in (drop i t)) (under codes depth) (found_bad t i e) r.gives
 
 -- ---- a rule's place

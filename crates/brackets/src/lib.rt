@@ -4,20 +4,12 @@
 ghost use Rattle.std.specs.Prelude.{◌≡◌, ℕ, ◌+◌, ◌*◌, ◌≤◌, length, drop};
 ghost use Rattle.text.specs.Bodies.{Written, rows_of};
 ghost use Rattle.text.specs.Texts.{max_text};
-ghost use Rattle.brackets.specs.Steps.{body_at};
-ghost use Rattle.brackets.specs.Steps.{opened_by, filled_by, lacking_after, no_body, ended_at};
+ghost use Rattle.brackets.specs.Steps.{opened_by, filled_by, lacking_after, ended_at, body_at};
 ghost use Rattle.tables.specs.Layouts.{body_words};
 ghost use Rattle.brackets.specs.Whole.{WholeBody, rows_put};
 
-use text::{FIRST_OPERATOR, NAME_COUNT};
+use text::{DASH, FIRST_OPERATOR, NAME_COUNT};
 use tokens::{Found, token};
-
-// A rule's body: whether it is one, and how many forms it has.
-#[derive(Clone, Copy)]
-pub struct BodyFound {
-    pub good: bool,
-    pub forms: u32,
-}
 
 // For each operator, by its code: four times how many parts it has, and how many fields.
 const LACKS: [u8; 23] = [
@@ -46,78 +38,56 @@ const LACKS: [u8; 23] = [
     8, // select
 ];
 
-// What a form of this name lacks when it is opened in one that lacks so much; 255 where it may not be.
-fn opened(lacks: u8, name: u32) -> u8
+// What a form of this name lacks when it is opened in one that lacks so much; none where it may not be.
+fn opened(lacks: u8, name: u32) -> Option<u8>
     ensures { result ≡ opened_by lacks name }
 {
-    if lacks < 4 {
-        return 255;
-    }
-    if name < FIRST_OPERATOR {
-        return 255;
-    }
-    if NAME_COUNT <= name {
-        return 255;
+    if lacks < 4 || name < FIRST_OPERATOR || NAME_COUNT <= name {
+        return None;
     }
     let code = (name - FIRST_OPERATOR) as usize;
-    LACKS[code]
+    Some(LACKS[code])
 }
 
-// What is still lacking after a field; 255 where there may be none.
-fn filled(lacks: u8, value: u64) -> u8
+// What is still lacking after a field; none where there may be no such field.
+fn filled(lacks: u8, value: u64) -> Option<u8>
     ensures { result ≡ filled_by lacks value }
 {
-    if 3 < lacks {
-        return 255;
+    if lacks < 1 || 3 < lacks || DASH <= value {
+        return None;
     }
-    if 4294967295 < value {
-        return 255;
-    }
-    if lacks < 1 {
-        return 255;
-    }
-    lacks - 1
+    Some(lacks - 1)
 }
 
-fn no_body() -> BodyFound
-    ensures { result ≡ no_body }
-{
-    BodyFound {
-        good: false,
-        forms: 0,
-    }
-}
-
-// What the innermost open form lacks after a token; 255 where the token may not stand there.
-fn lacking(lacks: u8, found: Found) -> u8
+// What the innermost open form lacks after a token; none where the token may not stand there.
+fn lacking(lacks: u8, found: Found) -> Option<u8>
     ensures { result ≡ lacking_after lacks found }
 {
     match found {
-        Found::Begin { name, next: _ } => opened(lacks, name),
-        Found::Item { value, next: _ } => filled(lacks, value),
-        Found::End { next: _ } => {
+        Found::Begin { name, .. } => opened(lacks, name),
+        Found::Item { value, .. } => filled(lacks, value),
+        Found::End { .. } => {
             if lacks < 1 {
-                return 0;
+                return Some(0);
             }
-            255
+            None
         }
-        Found::Bad => 255,
     }
 }
 
 // A body whose last bracket is closed: nothing may follow.
-fn ended(line: &[u8], at: usize, forms: u32) -> BodyFound
+fn ended(line: &[u8], at: usize, forms: u32) -> Option<u32>
     ensures { result ≡ ended_at (drop at line.now) forms }
 {
     if at < line.len() {
-        return no_body();
+        return None;
     }
-    BodyFound { good: true, forms }
+    Some(forms)
 }
 
 // How many forms the body has whose text runs from a place to the end of the line. The rule's own bracket, of one part, is open there.
 // An inner bracket takes four bytes at least, so no more are open at once than `outer` holds.
-pub fn body(line: &[u8], at: usize) -> BodyFound
+pub fn body(line: &[u8], at: usize) -> Option<u32>
     requires { length line.now ≤ max_text }
     ensures { result ≡ body_at (drop at line.now) }
 {
@@ -127,20 +97,17 @@ pub fn body(line: &[u8], at: usize) -> BodyFound
     let mut forms: u32 = 0;
     let mut i = at;
     loop {
-        let found = token(line, i);
-        let after = lacking(lacks, found);
-        if after == 255 {
-            return no_body();
-        }
+        let found = token(line, i)?;
+        let after = lacking(lacks, found)?;
         match found {
-            Found::Begin { name: _, next } => {
+            Found::Begin { next, .. } => {
                 outer[depth] = lacks - 4;
                 depth += 1;
                 lacks = after;
                 forms += 1;
                 i = next;
             }
-            Found::Item { value: _, next } => {
+            Found::Item { next, .. } => {
                 lacks = after;
                 i = next;
             }
@@ -152,7 +119,6 @@ pub fn body(line: &[u8], at: usize) -> BodyFound
                 lacks = outer[depth];
                 i = next;
             }
-            Found::Bad => return no_body(),
         }
     }
 }
@@ -169,8 +135,8 @@ fn put_rows(line: &[u8], at: usize, table: &mut [u32])
     let mut column: usize = 1;
     let mut row: u32 = 0;
     let mut i = at;
-    loop {
-        match token(line, i) {
+    while let Some(found) = token(line, i) {
+        match found {
             Found::Begin { name, next } => {
                 codes[depth] = name - FIRST_OPERATOR;
                 depth += 1;
@@ -193,7 +159,6 @@ fn put_rows(line: &[u8], at: usize, table: &mut [u32])
                 row += 1;
                 i = next;
             }
-            Found::Bad => return,
         }
     }
 }

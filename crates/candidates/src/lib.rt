@@ -10,8 +10,8 @@ ghost use Rattle.tables.specs.Columns.{rule_row};
 ghost use Rattle.typing.specs.Types.{FlooredRows};
 ghost use Rattle.quietness.specs.Quiet.{StillBy, came_into};
 ghost use Rattle.body_rows.specs.Marks.{body_of};
-ghost use Rattle.walks.specs.Site.{site_of, id_in};
-ghost use Rattle.trace_places.specs.Traces.{Traced, Traces};
+ghost use Rattle.walks.specs.Site.{id_in, site_in};
+ghost use Rattle.trace_places.specs.Traces.{TracesIn, TracedIn};
 ghost use Rattle.row_sets.specs.Sets.{sets_of, in_set, Room, Grown, GrownBelow};
 ghost use Rattle.going_back.specs.Back.{candidate};
 ghost use Rattle.going_back.specs.Walkable.{BodyAble};
@@ -21,33 +21,27 @@ use going_back::back;
 use ocl::Place;
 use quietness::quiet::Still;
 use row_sets::{SELF, put_if};
-use tables::Counts;
+use tables::{Counts, Sheet};
 
 // Puts the rows of the objects that an insert or a special that is not still brought into a type into self's set.
 fn put_brought(
     n: Counts,
-    types: &[u32],
-    objects: &[u32],
-    links: &[u32],
-    events: &[u32],
+    sheet: &Sheet,
     trace: &[u16; 16675],
     context: u32,
     still: Still,
     marks: &mut [bool; 1024],
     sets: &mut [bool],
 )
-    requires { (Traces n types.now objects.now links.now events.now trace.now) × (Room (sets_of marks.old sets.old)) }
+    requires { (TracesIn n sheet.now trace.now) × (Room (sets_of marks.old sets.old)) }
     ensures { (Grown (sets_of marks.old sets.old) (sets_of marks.new sets.new))
-        × ((c : Change) → Traced c n types.now objects.now links.now events.now trace.now
-        → (row : ℕ) → row < n.objects → came_into c still context (id_in objects.now row) ≡ true → in_set (sets_of marks.new sets.new) 0 row ≡ true) }
+        × ((c : Change) → TracedIn c n sheet.now trace.now
+        → (row : ℕ) → row < n.objects → came_into c still context (id_in sheet.now.objects.now row) ≡ true → in_set (sets_of marks.new sets.new) 0 row ≡ true) }
 {
     put_if(
         !still.insert,
         n,
-        types,
-        objects,
-        links,
-        events,
+        sheet,
         trace,
         questions::INSERTED,
         context,
@@ -58,10 +52,7 @@ fn put_brought(
     put_if(
         !still.special,
         n,
-        types,
-        objects,
-        links,
-        events,
+        sheet,
         trace,
         questions::SPECIALISED,
         context,
@@ -75,43 +66,39 @@ fn put_brought(
 // fall of its body is reached. It answers whether everything is.
 fn put_candidates(
     n: Counts,
-    types: &[u32],
-    objects: &[u32],
-    links: &[u32],
+    sheet: &Sheet,
     index: &[u16; 81920],
-    rules: &[u32],
-    bodies: &[u32],
     spans: &[u32; 65],
     floored: &[bool; 64],
-    events: &[u32],
     trace: &[u16; 16675],
     rule: u32,
     still: Still,
     marks: &mut [bool; 1024],
     sets: &mut [bool],
 ) -> bool
-    requires { T (whole_body (body_of bodies.now rule) (word_at rules.now 2 rule 1))
-        × ((S : Schema) × BodyAble S (site_of n types.now objects.now links.now index.now bodies.now rule) spans.now (word_at rules.now 2 rule 1))
-        × (Traces n types.now objects.now links.now events.now trace.now) × (Room (sets_of marks.old sets.old)) }
+    requires { T (whole_body (body_of sheet.now.bodies.now rule) (word_at sheet.now.rules.now 2 rule 1))
+        × ((S : Schema) × BodyAble S (site_in n sheet.now index.now rule) spans.now (word_at sheet.now.rules.now 2 rule 1))
+        × (TracesIn n sheet.now trace.now) × (Room (sets_of marks.old sets.old)) }
     ensures { (GrownBelow 1 (sets_of marks.old sets.old) (sets_of marks.new sets.new))
-        × ((c : Change) → Traced c n types.now objects.now links.now events.now trace.now
-        → FlooredRows c.schema (body_of bodies.now rule) (word_at rules.now 2 rule 1) floored.now
-        → StillBy c.schema (rule_row rules.now bodies.now rule) still
+        × ((c : Change) → TracedIn c n sheet.now trace.now
+        → FlooredRows c.schema (body_of sheet.now.bodies.now rule) (word_at sheet.now.rules.now 2 rule 1) floored.now
+        → StillBy c.schema (rule_row sheet.now.rules.now sheet.now.bodies.now rule) still
         → result ≡ false → (row : ℕ) → row < n.objects
-        → candidate c (rule_row rules.now bodies.now rule) (id_in objects.now row) ≡ true
+        → candidate c (rule_row sheet.now.rules.now sheet.now.bodies.now rule) (id_in sheet.now.objects.now row) ≡ true
         → in_set (sets_of marks.new sets.new) 0 row ≡ true) }
 {
     if n.objects == 0 {
         return false;
     }
-    let context = rows::word(rules, tables::RULE_WIDTH, rule, 0);
-    put_brought(
-        n, types, objects, links, events, trace, context, still, marks, sets,
+    let context = rows::word(sheet.rules, tables::RULE_WIDTH, rule, 0);
+    put_brought(n, sheet, trace, context, still, marks, sets);
+    let body = Place(
+        rule,
+        rows::word(sheet.rules, tables::RULE_WIDTH, rule, 1),
+        1,
     );
-    let body = Place(rule, rows::word(rules, tables::RULE_WIDTH, rule, 1), 1);
     back(
-        n, types, objects, links, index, bodies, spans, floored, events, trace, body, DOWN, marks,
-        sets,
+        n, sheet, index, spans, floored, trace, body, DOWN, marks, sets,
     )
 }
 
@@ -123,11 +110,9 @@ fn mark_all(n: Counts, everything: bool, marks: &mut [bool; 1024])
     if !everything {
         return;
     }
-    let mut row: u32 = 0;
-    while row < n.objects {
+    for row in 0..n.objects {
         let at = row as usize;
         marks[at] = true;
-        row += 1;
     }
 }
 
@@ -135,35 +120,29 @@ fn mark_all(n: Counts, everything: bool, marks: &mut [bool; 1024])
 // within, whatever it holds.
 pub fn candidates(
     n: Counts,
-    types: &[u32],
-    objects: &[u32],
-    links: &[u32],
+    sheet: &Sheet,
     index: &[u16; 81920],
-    rules: &[u32],
-    bodies: &[u32],
     spans: &[u32; 65],
     floored: &[bool; 64],
-    events: &[u32],
     trace: &[u16; 16675],
     rule: u32,
     still: Still,
     sets: &mut [bool],
 ) -> [bool; 1024]
-    requires { T (whole_body (body_of bodies.now rule) (word_at rules.now 2 rule 1))
-        × ((S : Schema) × BodyAble S (site_of n types.now objects.now links.now index.now bodies.now rule) spans.now (word_at rules.now 2 rule 1))
-        × (Traces n types.now objects.now links.now events.now trace.now) × (length sets.old ≡ 65536) }
+    requires { T (whole_body (body_of sheet.now.bodies.now rule) (word_at sheet.now.rules.now 2 rule 1))
+        × ((S : Schema) × BodyAble S (site_in n sheet.now index.now rule) spans.now (word_at sheet.now.rules.now 2 rule 1))
+        × (TracesIn n sheet.now trace.now) × (length sets.old ≡ 65536) }
     ensures { (length sets.new ≡ length sets.old)
-        × ((c : Change) → Traced c n types.now objects.now links.now events.now trace.now
-        → FlooredRows c.schema (body_of bodies.now rule) (word_at rules.now 2 rule 1) floored.now
-        → StillBy c.schema (rule_row rules.now bodies.now rule) still
+        × ((c : Change) → TracedIn c n sheet.now trace.now
+        → FlooredRows c.schema (body_of sheet.now.bodies.now rule) (word_at sheet.now.rules.now 2 rule 1) floored.now
+        → StillBy c.schema (rule_row sheet.now.rules.now sheet.now.bodies.now rule) still
         → (row : ℕ) → row < n.objects
-        → candidate c (rule_row rules.now bodies.now rule) (id_in objects.now row) ≡ true
+        → candidate c (rule_row sheet.now.rules.now sheet.now.bodies.now rule) (id_in sheet.now.objects.now row) ≡ true
         → get_or result row false ≡ true) }
 {
     let mut marks = [false; 1024];
     let everything = put_candidates(
-        n, types, objects, links, index, rules, bodies, spans, floored, events, trace, rule, still,
-        &mut marks, sets,
+        n, sheet, index, spans, floored, trace, rule, still, &mut marks, sets,
     );
     mark_all(n, everything, &mut marks);
     marks

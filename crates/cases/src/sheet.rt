@@ -1,170 +1,238 @@
-// The eight tables of a case as one row of words, each table with the words of the most rows that the limits allow. Tables are numbered:
-// 0 types, 1 floors, 2 relationships, 3 rules, 4 bodies, 5 objects, 6 links, 7 events. Every function is total: a word past the end is 0.
-ghost use Rattle.std.specs.Prelude.{◌≤◌};
-
+// The eight tables of a case, how many words of each are lent, and how many rows are used. Wherever all tables stand together their order is: types,
+// floors, relationships, rules, bodies, objects, links, events.
 use crate::line;
-use meaning::MAX_FORMS;
-use tables::{BODY_WIDTH, EVENT_WIDTH, LINK_WIDTH, OBJECT_WIDTH, TYPE_WIDTH};
+use std::alloc::{AllocError, Global};
+use tables::{Counts, Refusal};
 
-pub const LENGTH: usize = 32448;
+// The words of the most rows that the limits allow.
+pub const LIMITS: [u32; 8] = [64, 512, 64, 64, 8192, 10240, 12288, 1024];
 
-// Where a table starts; past the last, where the words end.
-pub fn base(table: u32) -> u32 {
-    match table {
-        0 => 0,
-        1 => 64,
-        2 => 576,
-        3 => 640,
-        4 => 704,
-        5 => 8896,
-        6 => 19136,
-        7 => 31424,
-        _ => 32448,
-    }
+pub const TABLES: [&str; 8] = [
+    "types",
+    "floors",
+    "relationships",
+    "rules",
+    "bodies",
+    "objects",
+    "links",
+    "events",
+];
+
+pub const NO_ROWS: Counts = Counts {
+    types: 0,
+    floors: 0,
+    relationships: 0,
+    rules: 0,
+    objects: 0,
+    links: 0,
+    events: 0,
+};
+
+#[derive(Drop)]
+pub struct Sheet {
+    pub types: Vec<u32>,
+    pub floors: Vec<u32>,
+    pub relationships: Vec<u32>,
+    pub rules: Vec<u32>,
+    pub bodies: Vec<u32>,
+    pub objects: Vec<u32>,
+    pub links: Vec<u32>,
+    pub events: Vec<u32>,
+    pub lent: [u32; 8],
+    pub used: Counts,
 }
 
-// Where a row of a table starts among its words; a row of the bodies is a rule's. The first four tables have two words a row.
-pub fn row(table: u32, number: u32) -> u32 {
-    let r = number % 65536;
-    match table {
-        4 => r * (BODY_WIDTH * MAX_FORMS),
-        5 => r * OBJECT_WIDTH,
-        6 => r * LINK_WIDTH,
-        7 => r * EVENT_WIDTH,
-        _ => r * TYPE_WIDTH,
-    }
+// The first words of a table, as many as it has.
+fn part(table: &[u32], words: u32) -> &[u32] {
+    table.get(..words as usize).unwrap_or(table)
 }
 
-// The table that a line is about, by the first letters of its name; 8 where it is about none.
-pub fn named(line: &[u8]) -> u32 {
-    let second = line::byte(line, 1);
-    match line::byte(line, 0) {
-        116 => 0,
-        102 => 1,
-        114 => if second == 101 { 2 } else { 3 },
-        98 => 4,
-        111 => 5,
-        108 => if second == 105 { 6 } else { 8 },
-        101 => 7,
-        _ => 8,
-    }
-}
-
-pub fn size(n: u32) -> usize {
-    n as usize
-}
-
-pub fn lesser(a: u32, b: usize) -> usize
-    ensures { result ≤ b }
-{
-    let n = size(a);
-    if n < b { n } else { b }
-}
-
-pub fn get(t: &[u32], at: usize) -> u32 {
-    if at < t.len() { t[at] } else { 0 }
-}
-
-pub fn put(t: &mut [u32], at: usize, value: u32) {
-    if at < t.len() {
-        t[at] = value;
-    }
-}
-
-// The place of a word of a table.
-pub fn place(table: u32, at: u32) -> usize {
-    size(std::num::wrapping_add_u32(base(table), at))
-}
-
-// So many words of a table; none where there are not so many.
-pub fn part(all: &[u32], table: u32, count: u32) -> &[u32] {
-    let a = size(base(table));
-    let e = std::num::wrapping_add_usize(a, size(count));
-    let start = 0;
-    if e < a {
-        return &all[start..start];
-    }
-    if all.len() < e {
-        return &all[start..start];
-    }
-    &all[a..e]
-}
-
-// The first words of a row of words, or all of them.
-pub fn first(all: &[u32], n: usize) -> &[u32] {
-    if all.len() < n {
-        return all;
-    }
-    let start = 0;
-    &all[start..n]
-}
-
-// Copies the words from a place on.
-pub fn take(all: &[u32], from: u32, out: &mut [u32]) {
-    let start = size(from);
-    let mut i: usize = 0;
-    while i < out.len() {
-        out[i] = get(all, std::num::wrapping_add_usize(start, i));
-        i += 1;
-    }
-}
-
-// Puts words from a place on.
-pub fn give(all: &mut [u32], from: u32, words: &[u32]) {
-    let start = size(from);
-    let mut i: usize = 0;
-    while i < words.len() {
-        put(all, std::num::wrapping_add_usize(start, i), words[i]);
-        i += 1;
-    }
-}
-
-// Each of so many words, from a place on and a step apart, becomes the word so far before it, more by a number.
-pub fn chain(all: &mut [u32], from: usize, times: u32, step: u32, back: u32, more: u32) {
+// So many words, from a place on and a step apart, become the word so far before them, more by a number.
+fn chain(table: &mut [u32], from: usize, times: u32, step: usize, back: usize, more: u32) {
     let mut at = from;
-    let mut i: u32 = 0;
-    while i < times {
-        let before = get(all, std::num::wrapping_sub_usize(at, size(back)));
-        put(all, at, std::num::wrapping_add_u32(before, more));
-        at = std::num::wrapping_add_usize(at, size(step));
-        i += 1;
-    }
-}
-
-// A line about a table: PLACE VALUE puts a word, PLACE TIMES STEP BACK MORE makes words of others.
-pub fn change(line: &[u8], table: u32, all: &mut [u32]) {
-    let mut n = [0u32; 5];
-    line::numbers(line, &mut n);
-    let at = place(table, n[0]);
-    if line::spaces(line) < 5 {
-        put(all, at, n[1]);
-        return;
-    }
-    chain(all, at, n[1], n[2], n[3], n[4]);
-}
-
-// How many words of two rows of words differ.
-pub fn differing(a: &[u32], b: &[u32]) -> u32 {
-    let mut n: u32 = 0;
-    let mut i: usize = 0;
-    while i < a.len() {
-        if a[i] != get(b, i) {
-            n = std::num::wrapping_add_u32(n, 1);
+    for _ in 0..times {
+        let before = table.get(at.wrapping_sub(back)).copied().unwrap_or(0);
+        if let Some(word) = table.get_mut(at) {
+            *word = before.wrapping_add(more);
         }
-        i += 1;
+        at = at.saturating_add(step);
     }
-    n
 }
 
-// How many words of a part are not 0.
-pub fn used(all: &[u32], from: usize, to: usize) -> u32 {
-    let mut n: u32 = 0;
-    let mut i = from;
-    while i < to {
-        if get(all, i) != 0 {
-            n = std::num::wrapping_add_u32(n, 1);
-        }
-        i += 1;
+fn part_mut(table: &mut [u32], words: u32) -> &mut [u32] {
+    let end = table.len().min(words as usize);
+    &mut table[..end]
+}
+
+fn counts(rows: [u32; 7]) -> Counts {
+    let [types, floors, relationships, rules, objects, links, events] = rows;
+    Counts {
+        types,
+        floors,
+        relationships,
+        rules,
+        objects,
+        links,
+        events,
     }
-    n
+}
+
+impl Sheet {
+    // Tables of so many words, all 0 and all lent.
+    pub fn new(alloc: Global, words: [u32; 8]) -> Result<Sheet, AllocError> {
+        let [
+            types,
+            floors,
+            relationships,
+            rules,
+            bodies,
+            objects,
+            links,
+            events,
+        ] = words;
+        Ok(Sheet {
+            types: vec![in alloc; 0; types as usize]?,
+            floors: vec![in alloc; 0; floors as usize]?,
+            relationships: vec![in alloc; 0; relationships as usize]?,
+            rules: vec![in alloc; 0; rules as usize]?,
+            bodies: vec![in alloc; 0; bodies as usize]?,
+            objects: vec![in alloc; 0; objects as usize]?,
+            links: vec![in alloc; 0; links as usize]?,
+            events: vec![in alloc; 0; events as usize]?,
+            lent: words,
+            used: NO_ROWS,
+        })
+    }
+
+    // Reads a text into the tables, as far as they are lent. The rows used are noted, none where the text is refused.
+    pub fn read(&mut self, text: &[u8]) -> Result<Counts, Refusal> {
+        let [
+            types,
+            floors,
+            relationships,
+            rules,
+            bodies,
+            objects,
+            links,
+            events,
+        ] = self.lent;
+        let outcome = reader::read(
+            text,
+            part_mut(&mut self.types, types),
+            part_mut(&mut self.floors, floors),
+            part_mut(&mut self.relationships, relationships),
+            part_mut(&mut self.rules, rules),
+            part_mut(&mut self.bodies, bodies),
+            part_mut(&mut self.objects, objects),
+            part_mut(&mut self.links, links),
+            part_mut(&mut self.events, events),
+        );
+        self.used = match outcome {
+            Err(_) => NO_ROWS,
+            Ok(n) => n,
+        };
+        outcome
+    }
+
+    // The table of a name.
+    pub fn table(&mut self, name: &str) -> Option<&mut [u32]> {
+        match name {
+            "types" => Some(&mut self.types),
+            "floors" => Some(&mut self.floors),
+            "relationships" => Some(&mut self.relationships),
+            "rules" => Some(&mut self.rules),
+            "bodies" => Some(&mut self.bodies),
+            "objects" => Some(&mut self.objects),
+            "links" => Some(&mut self.links),
+            "events" => Some(&mut self.events),
+            _ => None,
+        }
+    }
+
+    // `TABLE PLACE VALUE` puts a word, `TABLE PLACE TIMES STEP BACK MORE` makes words of others.
+    pub fn change(&mut self, line: &str) {
+        let name = line.split_whitespace().next().unwrap_or("");
+        let [place, value, step, back, more] = line::numbers::<5>(line);
+        let at = place as usize;
+        let Some(table) = self.table(name) else {
+            return;
+        };
+        if line.split_whitespace().count() > 3 {
+            chain(table, at, value, step as usize, back as usize, more);
+        } else if let Some(word) = table.get_mut(at) {
+            *word = value;
+        }
+    }
+
+    // `lent T F R U B O L E`: so many words of each table are lent.
+    pub fn lend(&mut self, line: &str) {
+        self.lent = line::numbers(line);
+    }
+
+    // `used T F R U O L E`: so many rows of each section are used.
+    pub fn use_rows(&mut self, line: &str) {
+        self.used = counts(line::numbers(line));
+    }
+
+    // The tables as far as they are lent.
+    pub fn lent(&self) -> [&[u32]; 8] {
+        let [
+            types,
+            floors,
+            relationships,
+            rules,
+            bodies,
+            objects,
+            links,
+            events,
+        ] = self.lent;
+        [
+            part(&self.types, types),
+            part(&self.floors, floors),
+            part(&self.relationships, relationships),
+            part(&self.rules, rules),
+            part(&self.bodies, bodies),
+            part(&self.objects, objects),
+            part(&self.links, links),
+            part(&self.events, events),
+        ]
+    }
+
+    // The same, as the library takes them.
+    pub fn lent_sheet(&self) -> tables::Sheet<'_> {
+        let [
+            types,
+            floors,
+            relationships,
+            rules,
+            bodies,
+            objects,
+            links,
+            events,
+        ] = self.lent();
+        tables::Sheet {
+            types,
+            floors,
+            relationships,
+            rules,
+            bodies,
+            objects,
+            links,
+            events,
+        }
+    }
+
+    // The whole tables.
+    pub fn tables(&self) -> [&[u32]; 8] {
+        [
+            &self.types,
+            &self.floors,
+            &self.relationships,
+            &self.rules,
+            &self.bodies,
+            &self.objects,
+            &self.links,
+            &self.events,
+        ]
+    }
 }

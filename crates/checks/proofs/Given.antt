@@ -1,18 +1,18 @@
 -- No refusal gives what specs/Given says: the one place where it is derived.
-use Prim.Native.Nat.{ℕ, zero, suc, ◌*◌, min, ◌≤◌, ◌<◌}
+use Prim.Native.Nat.{ℕ, zero, suc, min, ◌≤◌, ◌<◌}
 use mathlib.Core.Path.{◌≡◌, refl, sym, ap, subst, ◌∙◌}
 use mathlib.Core.Logic.{⊎_elim}
-use mathlib.Core.Bool.{Bool, true, false, ◌&&◌, ◌||◌, not, cond, false≢true}
-use mathlib.Core.List.{List, [], ◌∷◌, ◌++◌}
+use mathlib.Core.Bool.{Bool, true, false, ◌||◌, not, cond, false≢true}
+use mathlib.Core.List.{List, [], ◌∷◌}
 use mathlib.Core.Option.{Option, none, some, none-ne-some, some-injective}
 use native.Mathlib.Nat.{div-mul-le_self}
 use native.Mathlib.Omega.{arith}
 use borrow.Author.Tests.{lt-ltb, ltb-false}
 use denote.Floats.{is_true}
-use lib.Dec.{T, ltb}
+use lib.Dec.{T}
 use lib.ListN.{length, get_elem?}
 use mir.Facts.{ltb_yes, T_not-not}
-use Rattle.meaning.specs.Lists.{any, first_of}
+use Rattle.meaning.specs.Lists.{any}
 use Rattle.meaning.specs.Limits.{cell_count}
 use Rattle.meaning.specs.Schema.{Schema, cells_of}
 use Rattle.meaning.specs.Forms.{well_typed}
@@ -26,9 +26,9 @@ use Rattle.rows.specs.Rows.{word_at, rows_lent}
 use Rattle.tables.specs.Layouts.{Sheet, Layout, type_table, floor_table, relationship_table, rule_table, body_table, object_table, link_table, event_table, book_tables, layouts}
 use Rattle.tables.specs.Bodies.{whole_body}
 use Rattle.tables.specs.Columns.{floors_of, book_of, register_in, batch_in, rule_row, object_row, event_row}
-use Rattle.tables.specs.Refusals.{verdict_of, overfull, any_overfull, table_refusal, refusal_of, event_fault, sheet_refusal}
+use Rattle.tables.specs.Refusals.{verdict_of, any_overfull, table_refusal, refusal_of, event_fault, sheet_refusal}
 use Rattle.tables.specs.declared.Counts.{Counts}
-use Rattle.tables.specs.declared.Verdict.TheVariants.{Clear}
+use Rattle.std.specs.Prelude.{Ok}
 use Rattle.tables.proofs.Forms.{body_none}
 use Rattle.schema.proofs.Rows.{row_there}
 use Rattle.schema.proofs.Types.{type_known, cells_used}
@@ -38,7 +38,7 @@ use Rattle.lent_tables.proofs.Torn.{torn}
 use Rattle.checks.proofs.Stages.{over, others_decide}
 use Rattle.known_events.proofs.Known.{kind_known}
 
-pub clear_none : (o : Option Refusal) → Clear ≡ verdict_of o → o ≡ none
+pub clear_none : (o : Option Refusal) → Ok tt ≡ verdict_of o → o ≡ none
 clear_none none e = refl
 clear_none (some r) e = cc
 

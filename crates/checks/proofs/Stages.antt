@@ -1,10 +1,10 @@
 -- The stages of the checks are the definitions' first refusal.
 use Prim.Native.Nat.{ℕ}
 use mathlib.Core.Path.{◌≡◌, refl, sym, ap, ◌∙◌}
-use mathlib.Core.Bool.{Bool, true, false, ◌||◌, not, cond, or_assoc, or_comm}
-use mathlib.Core.List.{List, [], ◌∷◌, ◌++◌}
+use mathlib.Core.Bool.{Bool, true, false, ◌||◌, cond, or_assoc, or_comm}
+use mathlib.Core.List.{List, []}
 use mathlib.Core.Option.{Option, none, some}
-use Rattle.meaning.specs.Lists.{any, first_of}
+use Rattle.meaning.specs.Lists.{first_of}
 use Rattle.meaning.specs.Schema.{type_fault, floor_fault, relationship_fault}
 use Rattle.meaning.specs.Register.{Register, object_fault, link_fault}
 use Rattle.meaning.specs.Forms.{Book, rule_fault}
@@ -12,16 +12,28 @@ use Rattle.meaning.specs.Events.{Refusal}
 use Rattle.meaning.specs.Answers.{refusal_at, book_refusal, register_refusal, refusal}
 use Rattle.tables.specs.Layouts.{Sheet, sheet_of, Layout, event_table, book_tables, layouts}
 use Rattle.tables.specs.Columns.{book_of, register_in}
-use Rattle.tables.specs.Refusals.{found_of, verdict_of, overfull, any_overfull, any_long, not_whole, table_refusal, refusal_of}
+use Rattle.tables.specs.declared.Refusal as Code
+use Rattle.tables.specs.Refusals.{found_of, refused_by, verdict_of, overfull, any_overfull, any_long, not_whole, table_refusal, refusal_of}
 use Rattle.tables.specs.declared.Counts.{Counts}
-use Rattle.tables.specs.declared.Verdict.TheVariants.{Clear, Refused}
+use Rattle.std.specs.Prelude.{Ok, Err}
 use Rattle.lent_tables.proofs.Torn.{any_last, torn, all_whole}
-use Rattle.checks.specs.Stages.{staged}
+use Rattle.checks.specs.Stages.{refused_at}
 
-stage : (number : ℕ) (place : Option ℕ) (rest : Option Refusal) → verdict_of (first_of (refusal_at number place) rest) ≡ staged number (found_of place) (verdict_of rest)
+-- a stage that refuses decides, and one that does not leaves it to the rest
+pub stage_refuses : (number : ℕ) (place : Option ℕ) (rest : Option Refusal) {r : Code.Refusal} → Err r ≡ refused_at number (found_of place) → Err r ≡ verdict_of (first_of (refusal_at number place) rest)
 unfolding refusal_at
-stage number none rest = refl
-stage number (some p) rest = refl
+stage_refuses number none rest e = cc
+stage_refuses number (some p) rest e = e
+
+pub stage_passes : (number : ℕ) (place : Option ℕ) (rest : Option Refusal) → Ok tt ≡ refused_at number (found_of place) → rest ≡ first_of (refusal_at number place) rest
+unfolding refusal_at
+stage_passes number none rest e = refl
+stage_passes number (some p) rest e = cc
+
+last_stage : (number : ℕ) (place : Option ℕ) → refused_at number (found_of place) ≡ verdict_of (refusal_at number place)
+unfolding refusal_at
+last_stage number none = refl
+last_stage number (some p) = refl
 
 pub first_assoc : {A : Type 0} (a b d : Option A) → first_of (first_of a b) d ≡ first_of a (first_of b d)
 first_assoc none b d = refl
@@ -44,30 +56,42 @@ module _ (n : Counts) (s : Sheet) where
   abbrev rows : Option ℕ
   rows = first_of (object_fault k.schema.types k.schema.floors g) (link_fault k.schema g)
 
-  -- refusals 3, 4 and 5, stage by stage
-  pub stages : verdict_of (refusal k g) ≡ staged 3 (found_of types) (staged 4 (found_of (rule_fault k)) (staged 5 (found_of rows) Clear))
+  abbrev after_types : Option Refusal
+  after_types = first_of (refusal_at 4 (rule_fault k)) (refusal_at 5 rows)
+
+  in_turn : first_of (refusal_at 3 types) after_types ≡ refusal k g
   unfolding refusal book_refusal register_refusal
-  stages =
-      ap verdict_of (first_assoc (refusal_at 3 types) (refusal_at 4 (rule_fault k)) (refusal_at 5 rows))
-      ∙ stage 3 types (first_of (refusal_at 4 (rule_fault k)) (refusal_at 5 rows))
-      ∙ ap (staged 3 (found_of types)) (stage 4 (rule_fault k) (refusal_at 5 rows)
-      ∙ ap (staged 4 (found_of (rule_fault k))) (ap verdict_of (first_none (refusal_at 5 rows)) ∙ stage 5 rows none))
+  in_turn = sym (first_assoc (refusal_at 3 types) (refusal_at 4 (rule_fault k)) (refusal_at 5 rows))
+
+  -- refusals 3, 4 and 5, stage by stage
+  pub types_refused : {r : Code.Refusal} → Err r ≡ refused_at 3 (found_of types) → Err r ≡ verdict_of (refusal k g)
+  types_refused e = stage_refuses 3 types after_types e ∙ ap verdict_of in_turn
+
+  module _ (typed : Ok tt ≡ refused_at 3 (found_of types)) where
+    from_rules : after_types ≡ refusal k g
+    from_rules = stage_passes 3 types after_types typed ∙ in_turn
+
+    pub rules_refused : {r : Code.Refusal} → Err r ≡ refused_at 4 (found_of (rule_fault k)) → Err r ≡ verdict_of (refusal k g)
+    rules_refused e = stage_refuses 4 (rule_fault k) (refusal_at 5 rows) e ∙ ap verdict_of from_rules
+
+    pub rows_decide : Ok tt ≡ refused_at 4 (found_of (rule_fault k)) → refused_at 5 (found_of rows) ≡ verdict_of (refusal k g)
+    rows_decide ruled = last_stage 5 rows ∙ ap verdict_of (stage_passes 4 (rule_fault k) (refusal_at 5 rows) ruled ∙ from_rules)
 
   abbrev long : Bool
   long = any_long s.rules n.rules
 
   -- refusal 2, refusal 6, and what comes after them
   module _ (tables : List Layout) (short : Bool) where
-    pub counts_refused : any_overfull tables n s ≡ true → verdict_of (refusal_of tables n s short) ≡ Refused 2 0
+    pub counts_refused : any_overfull tables n s ≡ true → verdict_of (refusal_of tables n s short) ≡ refused_by 2 0
     unfolding refusal_of table_refusal
     counts_refused e = rw e
 
     module _ (few : any_overfull tables n s ≡ false) where
-      pub bodies_refused : long ≡ true → verdict_of (refusal_of tables n s short) ≡ Refused 2 0
+      pub bodies_refused : long ≡ true → verdict_of (refusal_of tables n s short) ≡ refused_by 2 0
       unfolding refusal_of table_refusal
       bodies_refused e = rw (few, e)
 
-      pub rows_refused : long ≡ false → (not_whole tables s || short) ≡ true → verdict_of (refusal_of tables n s short) ≡ Refused 6 0
+      pub rows_refused : long ≡ false → (not_whole tables s || short) ≡ true → verdict_of (refusal_of tables n s short) ≡ refused_by 6 0
       unfolding refusal_of table_refusal
       rows_refused e f = rw (few, e, f)
 
@@ -88,7 +112,7 @@ module _ (n : Counts) (s : Sheet) (short : Bool) where
   whole : (not_whole layouts s || short) ≡ (not_whole book_tables s || (torn s event_table || short))
   whole = ap (λ b. b || short) (all_whole s) ∙ or_assoc (not_whole book_tables s) (torn s event_table) short
 
-  pub events_refused : over n s event_table ≡ true → verdict_of (refusal_of layouts n s short) ≡ Refused 2 0
+  pub events_refused : over n s event_table ≡ true → verdict_of (refusal_of layouts n s short) ≡ refused_by 2 0
   events_refused e = counts_refused n s layouts short (many ∙ ap (λ b. b || any_overfull book_tables n s) e)
 
   -- where the events are few, the other tables decide, their rows taken for broken where the events' are

@@ -1,10 +1,9 @@
--- One stage of the checks, "checked from the top": a place that is found refuses by the stage's number, else the stages after it decide.
+-- One stage of the checks, "checked from the top": a place that is found refuses by the stage's number.
 use Rattle.std.specs.Prelude.{ℕ}
-use Rattle.tables.specs.declared.Found.{Found}
-use Rattle.tables.specs.declared.Found.TheVariants.{At, Nothing}
-use Rattle.tables.specs.declared.Verdict.{Verdict}
-use Rattle.tables.specs.declared.Verdict.TheVariants.{Refused}
+use Rattle.std.specs.Prelude as Std
+use Rattle.std.specs.Prelude.{Some, None, Ok}
+use Rattle.tables.specs.Refusals.{OrRefused, refused_by}
 
-abbrev pub staged : ℕ → Found → Verdict → Verdict
-staged number (At place) rest = Refused number place
-staged number Nothing rest = rest
+abbrev pub refused_at : ℕ → Std.Option ℕ → OrRefused (Unit {0})
+refused_at number (Some place) = refused_by number place
+refused_at number None = Ok tt

@@ -82,15 +82,13 @@ pub fn take_links(held: Held, links: &mut [u32], losses: &mut [u32; 8704], id: u
     let used = held.links;
     let mut lost = held.losses;
     let mut kept: u32 = 0;
-    let mut row: u32 = 0;
-    while row < used {
+    for row in 0..used {
         if ends_at(&*links, row, id) {
             lost = put_loss(&*links, row, id, lost, &mut *losses);
         } else {
             keep_row(&mut *links, row, kept);
             kept += 1;
         }
-        row += 1;
     }
     clear_rows(&mut *links, kept, used);
     Held {

@@ -9,7 +9,6 @@ ghost use Rattle.event_effects.specs.Effects.{Can, Applied, ObjectsApplied, Link
 
 use crate::Held;
 use crate::deletes::take_links;
-use tables::Found;
 
 // Insert: a row in the place of the id, with cells 0.
 fn put_object(count: u32, objects: &mut [u32], id: u32, t: u32) -> u32
@@ -30,11 +29,11 @@ fn take_object(count: u32, objects: &mut [u32], id: u32) -> u32
     ensures { (S : Schema) → ObjectsApplied S (delete id) count objects.old result objects.new }
 {
     match register::object_row(count, &*objects, id) {
-        Found::At(row) => {
+        Some(row) => {
             rows::close_gap(&mut *objects, tables::OBJECT_WIDTH, row, count);
             count - 1
         }
-        Found::Nothing => count,
+        None => count,
     }
 }
 
@@ -44,8 +43,8 @@ fn put_cell(count: u32, objects: &mut [u32], id: u32, cell: u32, word: u32)
     ensures { (S : Schema) → ObjectsApplied S (set id cell (signed word)) count objects.old count objects.new }
 {
     match register::object_row(count, &*objects, id) {
-        Found::At(row) => rows::put_word(&mut *objects, tables::OBJECT_WIDTH, row, 2 + cell, word),
-        Found::Nothing => {}
+        Some(row) => rows::put_word(&mut *objects, tables::OBJECT_WIDTH, row, 2 + cell, word),
+        None => {}
     }
 }
 
@@ -55,8 +54,8 @@ fn put_type(count: u32, objects: &mut [u32], id: u32, t: u32)
     ensures { (S : Schema) → ObjectsApplied S (special id t) count objects.old count objects.new }
 {
     match register::object_row(count, &*objects, id) {
-        Found::At(row) => rows::put_word(&mut *objects, tables::OBJECT_WIDTH, row, 1, t),
-        Found::Nothing => {}
+        Some(row) => rows::put_word(&mut *objects, tables::OBJECT_WIDTH, row, 1, t),
+        None => {}
     }
 }
 
@@ -68,12 +67,12 @@ fn put_higher_type(type_count: u32, types: &[u32], count: u32, objects: &mut [u3
         (general id t) count objects.old count objects.new }
 {
     match register::object_row(count, &*objects, id) {
-        Found::At(row) => {
+        Some(row) => {
             rows::put_word(&mut *objects, tables::OBJECT_WIDTH, row, 1, t);
             let cells = schema::cells_of(type_count, types, t);
             rows::clear_columns(&mut *objects, tables::OBJECT_WIDTH, row, 2 + cells);
         }
-        Found::Nothing => {}
+        None => {}
     }
 }
 
@@ -97,11 +96,11 @@ fn take_link(count: u32, links: &mut [u32], relationship: u32, source: u32, targ
         LinksApplied S (part relationship source target) count links.old result links.new }
 {
     match register::link_row(count, &*links, relationship, source, target) {
-        Found::At(row) => {
+        Some(row) => {
             rows::close_gap(&mut *links, tables::LINK_WIDTH, row, count);
             count - 1
         }
-        Found::Nothing => count,
+        None => count,
     }
 }
 

@@ -49,14 +49,12 @@ fn events(out: &mut [u8], at: usize, count: u32, list: &[u16]) -> usize
     ensures { Put out.old at (events_shown (event_types_in list.now count)) out.new result }
 {
     let mut next = at;
-    let mut i: u32 = 0;
-    while i < count {
+    for i in 0..count {
         let place = (i as usize) * 3;
         let kind = rows::wide(list[place]);
         let named = rows::wide(list[place + 1]);
         let cell = rows::wide(list[place + 2]);
         next = event(&mut *out, next, kind, named, cell);
-        i += 1;
     }
     next
 }

@@ -1,5 +1,7 @@
 -- What the checks of a lent book say about the answer, and what no refusal gives.
 use Prim.Native.Nat.{ℕ, ◌*◌, ◌≤◌, ◌<◌}
+use Rattle.tables.specs.Refusals.{refused_by}
+use Rattle.tables.specs.declared.Refusal as Code
 use mathlib.Core.Path.{◌≡◌, refl, sym, ap, ◌∙◌}
 use mathlib.Core.Bool.{Bool, true, false, ◌||◌, cond}
 use mathlib.Core.List.{List, []}
@@ -24,7 +26,7 @@ use Rattle.tables.specs.Bodies.{whole_body}
 use Rattle.tables.specs.Columns.{type_row, relationship_row, rule_row, book_of, register_in}
 use Rattle.tables.specs.Refusals.{verdict_of, table_refusal, refusal_of, lent_refusal}
 use Rattle.tables.specs.declared.Counts.{Counts}
-use Rattle.tables.specs.declared.Verdict.TheVariants.{Clear, Refused}
+use Rattle.std.specs.Prelude.{Ok, Err}
 use Rattle.schema.proofs.Rows.{length_rows, row_there, row_at_lem}
 use Rattle.body_rows.specs.Marks.{body_of}
 use Rattle.checks.specs.Given.{Given}
@@ -34,23 +36,22 @@ use Rattle.type_marks.specs.Marks.{places, marked, Added}
 use Rattle.event_marks.proofs.Bounds.{placed, book_placed}
 use Rattle.mark_words.specs.Places.{marked_below, place_words}
 use Rattle.event_list.specs.Answers.{rule_tables, lent_book_refusal, rule_refusal, list_in, list_of, list_words, room_refusal, list_refusal, listed_of, answer, words_after, list_after}
-use Rattle.event_list.specs.declared.Listed.TheVariants as Listed
 use Rattle.mark_words.proofs.Places.{words_length, below_few}
 use Rattle.event_list.proofs.Read.{read_length, read_words_lem}
 
 -- ---- a refusal that is met first
 
-refused_first : (o later : Option Refusal) {number place : ℕ} → Refused number place ≡ verdict_of o → Refused number place ≡ verdict_of (first_of o later)
+refused_first : (o later : Option Refusal) {r : Code.Refusal} → Err r ≡ verdict_of o → Err r ≡ verdict_of (first_of o later)
 refused_first none later e = cc
-refused_first (some r) later e = e
+refused_first (some x) later e = e
 
-refused_listed : (o later : Option Refusal) (es : List EventType) {number place : ℕ} → Refused number place ≡ verdict_of o → Listed.Refused number place ≡ listed_of (first_of o later) es
+refused_listed : (o later : Option Refusal) (es : List EventType) {r : Code.Refusal} → Err r ≡ verdict_of o → Err r ≡ listed_of (first_of o later) es
 refused_listed none later es e = cc
-refused_listed (some r) later es e = cc
+refused_listed (some x) later es e = cc
 
-refused_words : (o later : Option Refusal) (es : List EventType) (l : List ℕ) {number place : ℕ} → Refused number place ≡ verdict_of o → l ≡ words_after (first_of o later) es l
+refused_words : (o later : Option Refusal) (es : List EventType) (l : List ℕ) {r : Code.Refusal} → Err r ≡ verdict_of o → l ≡ words_after (first_of o later) es l
 refused_words none later es l e = cc
-refused_words (some r) later es l e = refl
+refused_words (some x) later es l e = refl
 
 -- a rule that is not known is lacked
 abbrev unless_known : Bool → ℕ → Option Refusal
@@ -86,26 +87,26 @@ module _ (n : Counts) (types floors relationships rules bodies : List ℕ) (rule
 
   -- ---- the verdict
 
-  pub book_refused : {number place : ℕ} → Refused number place ≡ verdict_of (lent_book_refusal n s) → Refused number place ≡ verdict_of (rule_refusal n s rule)
+  pub book_refused : {r : Code.Refusal} → Err r ≡ verdict_of (lent_book_refusal n s) → Err r ≡ verdict_of (rule_refusal n s rule)
   unfolding rule_refusal
   book_refused e = refused_first (lent_book_refusal n s) (lacked_rule k rule) e
 
-  module _ (clear : Clear ≡ verdict_of (lent_book_refusal n s)) where
+  module _ (clear : Ok tt ≡ verdict_of (lent_book_refusal n s)) where
     lacked_decides : verdict_of (unless_known (ltb rule n.rules) rule) ≡ verdict_of (rule_refusal n s rule)
     unfolding rule_refusal
     lacked_decides =
         ap verdict_of lacked_is
         ∙ ap (λ o. verdict_of (first_of o (lacked_rule k rule))) (sym (clear_none (lent_book_refusal n s) clear))
 
-    pub rule_known : rule < n.rules → Clear ≡ verdict_of (rule_refusal n s rule)
+    pub rule_known : rule < n.rules → Ok tt ≡ verdict_of (rule_refusal n s rule)
     rule_known h = rw (lt-ltb rule n.rules h) at lacked_decides
 
-    pub rule_lacked : n.rules ≤ rule → Refused 4 rule ≡ verdict_of (rule_refusal n s rule)
+    pub rule_lacked : n.rules ≤ rule → refused_by 4 rule ≡ verdict_of (rule_refusal n s rule)
     rule_lacked h = rw (le-ltb rule n.rules h) at lacked_decides
 
   -- ---- a refusal of the book
 
-  pub list_refused : {number place : ℕ} → Refused number place ≡ verdict_of (rule_refusal n s rule) → (l : List ℕ) → (Listed.Refused number place ≡ answer n s rule (length l)) × (l ≡ list_after n s rule l)
+  pub list_refused : {r : Code.Refusal} → Err r ≡ verdict_of (rule_refusal n s rule) → (l : List ℕ) → (Err r ≡ answer n s rule (length l)) × (l ≡ list_after n s rule l)
   unfolding answer list_after list_refusal
   list_refused e l =
       let room = room_refusal (length l) (list_of k rule) in
@@ -113,7 +114,7 @@ module _ (n : Counts) (types floors relationships rules bodies : List ℕ) (rule
 
   -- ---- no refusal of the book
 
-  module _ (clear : Clear ≡ verdict_of (rule_refusal n s rule)) where
+  module _ (clear : Ok tt ≡ verdict_of (rule_refusal n s rule)) where
     met : (lent_book_refusal n s ≡ none) × (lacked_rule k rule ≡ none)
     unfolding rule_refusal
     met = first_of_none (lent_book_refusal n s) (lacked_rule k rule) (clear_none (rule_refusal n s rule) clear)
@@ -188,17 +189,17 @@ module _ (n : Counts) (types floors relationships rules bodies : List ℕ) (rule
           ∙ ap (λ o. first_of o (room_refusal lent (list_of k rule))) (sym (clear_none (rule_refusal n s rule) clear))
 
       module _ (l : List ℕ) where
-        pub list_short : length l < 3 * length read → (Listed.Refused 14 0 ≡ answer n s rule (length l)) × (l ≡ list_after n s rule l)
+        pub list_short : length l < 3 * length read → (refused_by 14 0 ≡ answer n s rule (length l)) × (l ≡ list_after n s rule l)
         unfolding answer list_after
         list_short h =
             let is = refusal_is (length l) true (lt-ltb (length l) (3 * length read) h) in
             (ap (λ o. listed_of o (list_of k rule)) is, ap (λ o. words_after o (list_of k rule) l) is)
 
-        pub list_whole : 3 * length read ≤ length l → (Listed.Types (length read) ≡ answer n s rule (length l)) × (in_front (place_words read) l ≡ list_after n s rule l)
+        pub list_whole : 3 * length read ≤ length l → (Ok (length read) ≡ answer n s rule (length l)) × (in_front (place_words read) l ≡ list_after n s rule l)
         unfolding answer list_after
         list_whole h =
             let is = refusal_is (length l) false (le-ltb (length l) (3 * length read) h) in (
-              ap Listed.Types length_same ∙ ap (λ o. listed_of o (list_of k rule)) is,
+              ap Ok length_same ∙ ap (λ o. listed_of o (list_of k rule)) is,
               ap (λ w. in_front w l) words_same ∙ ap (λ o. words_after o (list_of k rule) l) is,
             )
 
@@ -215,14 +216,14 @@ module _ (n : Counts) (types floors relationships rules bodies : List ℕ) (rule
     few_by marks added = omega (arith, length_same marks added, below_few marks places)
 
     fits_by : (marks : List Bool) → Added (replicate places false) marks (marked es) → (l : List ℕ) → 3 * places ≤ length l
-        → (answer n s rule (length l) ≡ Listed.Types (length (list_of k rule))) × (list_after n s rule l ≡ in_front (list_words (list_of k rule)) l)
+        → (answer n s rule (length l) ≡ Ok (length (list_of k rule))) × (list_after n s rule l ≡ in_front (list_words (list_of k rule)) l)
     fits_by marks added l h =
         let whole = list_whole marks added l (omega (arith, below_few marks places)) in
-        (sym whole.0 ∙ ap Listed.Types (length_same marks added), sym whole.1 ∙ ap (λ w. in_front w l) (words_same marks added))
+        (sym whole.0 ∙ ap Ok (length_same marks added), sym whole.1 ∙ ap (λ w. in_front w l) (words_same marks added))
 
     -- at most one event type for each place, so that 14 is not met
     pub few_listed : length (list_of k rule) ≤ places
     few_listed = few_by (read_rows (marked es) places) all_marks
 
-    pub list_fits : (l : List ℕ) → 3 * places ≤ length l → (answer n s rule (length l) ≡ Listed.Types (length (list_of k rule))) × (list_after n s rule l ≡ in_front (list_words (list_of k rule)) l)
+    pub list_fits : (l : List ℕ) → 3 * places ≤ length l → (answer n s rule (length l) ≡ Ok (length (list_of k rule))) × (list_after n s rule l ≡ in_front (list_words (list_of k rule)) l)
     list_fits = fits_by (read_rows (marked es) places) all_marks

@@ -11,11 +11,9 @@ use Rattle.meaning.specs.EventList.{EventType, event_type_words, event_list}
 use Rattle.meaning.specs.Answers.{book_refusal, lacked_rule}
 use Rattle.tables.specs.Layouts.{Sheet, Layout, type_table, floor_table, relationship_table, rule_table, body_table}
 use Rattle.tables.specs.Columns.{book_of}
-use Rattle.tables.specs.Refusals.{table_refusal}
+use Rattle.tables.specs.Refusals.{OrRefused, unless_met, table_refusal}
 use Rattle.tables.specs.declared.Counts.{Counts}
 use Rattle.rows.specs.Rows.{in_front}
-use Rattle.event_list.specs.declared.Listed.{Listed}
-use Rattle.event_list.specs.declared.Listed.TheVariants.{Types, Refused}
 
 -- the tables of a book
 unfoldable pub rule_tables : List Layout
@@ -51,11 +49,10 @@ unfoldable pub list_refusal : Counts → Sheet → ℕ → ℕ → Option Refusa
 list_refusal n s rule lent = first_of (rule_refusal n s rule) (room_refusal lent (list_of (book_of n s) rule))
 
 -- how many event types the list has, unless a refusal is met
-abbrev pub listed_of : Option Refusal → List EventType → Listed
-listed_of none es = Types (length es)
-listed_of (some r) es = Refused r.number r.place
+abbrev pub listed_of : Option Refusal → List EventType → OrRefused ℕ
+listed_of r es = unless_met r (length es)
 
-unfoldable pub answer : Counts → Sheet → ℕ → ℕ → Listed
+unfoldable pub answer : Counts → Sheet → ℕ → ℕ → OrRefused ℕ
 answer n s rule lent = listed_of (list_refusal n s rule lent) (list_of (book_of n s) rule)
 
 -- the list's words are at the front, and a refusal writes none

@@ -12,19 +12,19 @@ use Rattle.meaning.specs.Events.{Event, Lent, insert, delete, set, join, part, s
 use Rattle.rows.specs.Rows.{signed}
 use Rattle.tables.specs.Columns.{no_event, event_of}
 use Rattle.tables.specs.Refusals.{found_of}
-use Rattle.tables.specs.declared.Found.{Found}
-use Rattle.tables.specs.declared.Found.TheVariants.{At}
+use Rattle.std.specs.Prelude as Std
+use Rattle.std.specs.Prelude.{Some}
 
 module _ (S : Schema) (lent : Lent) (g : Register) where
   pub no_event_refused : event_refusal S lent g no_event ≡ some 7
   unfolding event_refusal checks first_met known_event valid_id
   no_event_refused = refl
 
-  pub refused : {e : Event} → e ≡ no_event → At 7 ≡ found_of (event_refusal S lent g e)
+  pub refused : {e : Event} → e ≡ no_event → Some 7 ≡ found_of (event_refusal S lent g e)
   refused q = sym (ap (λ e. found_of (event_refusal S lent g e)) q ∙ ap found_of no_event_refused)
 
 -- a refusal of an event that is the row's
-pub as_event : (S : Schema) (lent : Lent) (g : Register) {r : Found} {e d : Event} → d ≡ e → r ≡ found_of (event_refusal S lent g e) → r ≡ found_of (event_refusal S lent g d)
+pub as_event : (S : Schema) (lent : Lent) (g : Register) {r : Std.Option ℕ} {e d : Event} → d ≡ e → r ≡ found_of (event_refusal S lent g e) → r ≡ found_of (event_refusal S lent g d)
 as_event S lent g q p = p ∙ sym (ap (λ e. found_of (event_refusal S lent g e)) q)
 
 -- of two tests of which the second fails, neither has its way

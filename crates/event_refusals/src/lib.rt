@@ -15,40 +15,46 @@ use event_tests::{
     strictly_above, strictly_under, type_needed,
 };
 use known_events::{known_cell, known_link, known_type, valid_id};
-use tables::Found;
 
 // The first refusal that an insert meets.
-fn of_insert(type_count: u32, lent: usize, count: u32, objects: &[u32], id: u32, t: u32) -> Found
+fn of_insert(
+    type_count: u32,
+    lent: usize,
+    count: u32,
+    objects: &[u32],
+    id: u32,
+    t: u32,
+) -> Option<u32>
     requires { ObjectsAscend count objects.now }
     ensures { (types : List ℕ) (fs : List Floor) (rs : List Relationship) (ls : List Link) (m w : ℕ) → result ≡ found_of (event_refusal
         (record { types = types_of type_count types; floors = fs; relationships = rs }) (record { objects = lent; links = m; words = w })
         (objects_with count objects.now ls) (insert id t)) }
 {
     if !known_type(type_count, id, t) {
-        return Found::At(7);
+        return Some(7);
     }
     if is_present(count, objects, id) {
-        return Found::At(9);
+        return Some(9);
     }
     if full(meaning::MAX_OBJECTS, lent, count) {
-        return Found::At(13);
+        return Some(13);
     }
-    Found::Nothing
+    None
 }
 
 // The first refusal that a delete meets. Its links go with the object, so that no link stands against it.
-fn of_delete(count: u32, objects: &[u32], id: u32) -> Found
+fn of_delete(count: u32, objects: &[u32], id: u32) -> Option<u32>
     requires { ObjectsAscend count objects.now }
     ensures { (S : Schema) (lent : Lent) (ls : List Link) → result ≡ found_of (event_refusal S lent
         (objects_with count objects.now ls) (delete id)) }
 {
     if !valid_id(id) {
-        return Found::At(7);
+        return Some(7);
     }
     if is_present(count, objects, id) {
-        return Found::Nothing;
+        return None;
     }
-    Found::At(8)
+    Some(8)
 }
 
 // The first refusal that a set meets.
@@ -62,20 +68,20 @@ fn of_set(
     id: u32,
     cell: u32,
     word: u32,
-) -> Found
+) -> Option<u32>
     requires { ObjectsAscend count objects.now }
     ensures { (rs : List Relationship) (lent : Lent) (ls : List Link) → result ≡ found_of (event_refusal
         (record { types = types_of type_count types.now; floors = floors_of floor_count floors.now; relationships = rs }) lent
         (objects_with count objects.now ls) (set id cell (signed word))) }
 {
     if !known_cell(id, cell) {
-        return Found::At(7);
+        return Some(7);
     }
     if !is_present(count, objects, id) {
-        return Found::At(8);
+        return Some(8);
     }
     if !has_cell(type_count, types, count, objects, id, cell) {
-        return Found::At(11);
+        return Some(11);
     }
     if set_below(
         type_count,
@@ -88,9 +94,9 @@ fn of_set(
         cell,
         word,
     ) {
-        return Found::At(15);
+        return Some(15);
     }
-    Found::Nothing
+    None
 }
 
 // The first refusal that a join meets.
@@ -107,7 +113,7 @@ fn of_join(
     relationship: u32,
     source: u32,
     target: u32,
-) -> Found
+) -> Option<u32>
     requires { (ObjectsAscend object_count objects.now) × (LinksAscend link_count links.now) }
     ensures { (fs : List Floor) (m w : ℕ) → result ≡ found_of (event_refusal
         (schema_of type_count types.now fs relationship_count relationships.now)
@@ -116,13 +122,13 @@ fn of_join(
         (join relationship source target)) }
 {
     if !known_link(relationship_count, relationship, source, target) {
-        return Found::At(7);
+        return Some(7);
     }
     if !both_present(object_count, objects, source, target) {
-        return Found::At(8);
+        return Some(8);
     }
     if has_link(link_count, links, relationship, source, target) {
-        return Found::At(9);
+        return Some(9);
     }
     if !both_under(
         type_count,
@@ -135,12 +141,12 @@ fn of_join(
         source,
         target,
     ) {
-        return Found::At(11);
+        return Some(11);
     }
     if full(meaning::MAX_LINKS, lent, link_count) {
-        return Found::At(13);
+        return Some(13);
     }
-    Found::Nothing
+    None
 }
 
 // The first refusal that a part meets.
@@ -153,7 +159,7 @@ fn of_part(
     relationship: u32,
     source: u32,
     target: u32,
-) -> Found
+) -> Option<u32>
     requires { (ObjectsAscend object_count objects.now) × (LinksAscend link_count links.now) }
     ensures { (types : List ObjectType) (fs : List Floor) (relationships : List ℕ) (lent : Lent) → result ≡ found_of (event_refusal
         (record { types = types; floors = fs; relationships = relationships_of relationship_count relationships }) lent
@@ -161,15 +167,15 @@ fn of_part(
         (part relationship source target)) }
 {
     if !known_link(relationship_count, relationship, source, target) {
-        return Found::At(7);
+        return Some(7);
     }
     if !both_present(object_count, objects, source, target) {
-        return Found::At(8);
+        return Some(8);
     }
     if !has_link(link_count, links, relationship, source, target) {
-        return Found::At(10);
+        return Some(10);
     }
-    Found::Nothing
+    None
 }
 
 // The first refusal that a special into a type meets.
@@ -182,20 +188,20 @@ fn of_special(
     objects: &[u32],
     id: u32,
     into: u32,
-) -> Found
+) -> Option<u32>
     requires { ObjectsAscend count objects.now }
     ensures { (rs : List Relationship) (lent : Lent) (ls : List Link) → result ≡ found_of (event_refusal
         (record { types = types_of type_count types.now; floors = floors_of floor_count floors.now; relationships = rs }) lent
         (objects_with count objects.now ls) (special id into)) }
 {
     if !known_type(type_count, id, into) {
-        return Found::At(7);
+        return Some(7);
     }
     if !is_present(count, objects, id) {
-        return Found::At(8);
+        return Some(8);
     }
     if !strictly_above(type_count, types, count, objects, id, into) {
-        return Found::At(11);
+        return Some(11);
     }
     if brought_below(
         type_count,
@@ -207,9 +213,9 @@ fn of_special(
         id,
         into,
     ) {
-        return Found::At(15);
+        return Some(15);
     }
-    Found::Nothing
+    None
 }
 
 // The first refusal that a general meets.
@@ -224,20 +230,20 @@ fn of_general(
     links: &[u32],
     id: u32,
     t: u32,
-) -> Found
+) -> Option<u32>
     requires { ObjectsAscend object_count objects.now }
     ensures { (fs : List Floor) (lent : Lent) → result ≡ found_of (event_refusal
         (schema_of type_count types.now fs relationship_count relationships.now) lent
         (register_of object_count objects.now link_count links.now) (general id t)) }
 {
     if !known_type(type_count, id, t) {
-        return Found::At(7);
+        return Some(7);
     }
     if !is_present(object_count, objects, id) {
-        return Found::At(8);
+        return Some(8);
     }
     if !strictly_under(type_count, types, object_count, objects, id, t) {
-        return Found::At(11);
+        return Some(11);
     }
     if type_needed(
         type_count,
@@ -249,9 +255,9 @@ fn of_general(
         id,
         t,
     ) {
-        return Found::At(12);
+        return Some(12);
     }
-    Found::Nothing
+    None
 }
 
 // The first refusal that a join or a part meets.
@@ -269,7 +275,7 @@ fn of_link_event(
     x: u32,
     y: u32,
     z: u32,
-) -> Found
+) -> Option<u32>
     requires { (ObjectsAscend object_count objects.now) × (LinksAscend link_count links.now) × (3 ≤ kind) × (kind ≤ 4) }
     ensures { (fs : List Floor) (m w : ℕ) → result ≡ found_of (event_refusal
         (schema_of type_count types.now fs relationship_count relationships.now)
@@ -322,7 +328,7 @@ fn of_short_event(
     x: u32,
     y: u32,
     z: u32,
-) -> Found
+) -> Option<u32>
     requires { (ObjectsAscend object_count objects.now) × (kind ≡ 2 → ⊥) × (kind ≡ 3 → ⊥) × (kind ≡ 4 → ⊥) }
     ensures { (m w : ℕ) → result ≡ found_of (event_refusal
         (schema_of type_count types.now (floors_of floor_count floors.now) relationship_count relationships.now)
@@ -331,7 +337,7 @@ fn of_short_event(
         (event_of kind x y z)) }
 {
     if z != 0 {
-        return Found::At(7);
+        return Some(7);
     }
     if kind == 0 {
         return of_insert(type_count, lent, object_count, objects, x, y);
@@ -363,10 +369,10 @@ fn of_short_event(
         );
     }
     if kind != 1 {
-        return Found::At(7);
+        return Some(7);
     }
     if y != 0 {
-        return Found::At(7);
+        return Some(7);
     }
     of_delete(object_count, objects, x)
 }
@@ -389,7 +395,7 @@ fn of_event(
     x: u32,
     y: u32,
     z: u32,
-) -> Found
+) -> Option<u32>
     requires { (ObjectsAscend object_count objects.now) × (LinksAscend link_count links.now) }
     ensures { (w : ℕ) → result ≡ found_of (event_refusal
         (schema_of type_count types.now (floors_of floor_count floors.now) relationship_count relationships.now)
@@ -460,7 +466,7 @@ pub fn refusal(
     links: &[u32],
     events: &[u32],
     row: u32,
-) -> Found
+) -> Option<u32>
     requires { (ObjectsAscend object_count objects.now) × (LinksAscend link_count links.now) }
     ensures { (w : ℕ) → result ≡ found_of (event_refusal
         (schema_of type_count types.now (floors_of floor_count floors.now) relationship_count relationships.now)

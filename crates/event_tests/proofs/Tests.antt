@@ -12,7 +12,11 @@ use borrow.Author.Tests.{le-leb, lt-leb}
 use Rattle.meaning.specs.Lists.{holds}
 use Rattle.meaning.specs.Register.{Object, Link, object_at, has_link}
 use Rattle.meaning.proofs.Lists.{decide}
+use Rattle.std.specs.Prelude as Std
+use Rattle.std.specs.Prelude.{Some, None}
 use Rattle.tables.specs.Columns.{object_row}
+use Rattle.tables.specs.Refusals.{found_of}
+use Rattle.schema.proofs.Founds.{found_none, found_some}
 use Rattle.register.specs.Tables.{objects_with, links_with, object_place, link_place}
 use Rattle.register.proofs.Searches.{object_row_lem, link_there}
 
@@ -22,6 +26,13 @@ module _ (n : ℕ) (objects : List ℕ) (ls : List Link) (id : ℕ) (test : Obje
 
   pub test_missing : object_place n objects id ≡ none → holds test (object_at (objects_with n objects ls) id) ≡ false
   test_missing e = ap (holds test) (object_row_lem n objects ls id) ∙ ap (λ o. holds test (map (object_row objects) o)) e
+
+  -- the same, of what the search answers
+  pub found_answer : {r : Std.Option ℕ} {i : ℕ} → r ≡ Some i → r ≡ found_of (object_place n objects id) → test (object_row objects i) ≡ holds test (object_at (objects_with n objects ls) id)
+  found_answer e f = sym (test_found (found_some _ (sym e ∙ f)))
+
+  pub missing_answer : {r : Std.Option ℕ} → r ≡ None → r ≡ found_of (object_place n objects id) → false ≡ holds test (object_at (objects_with n objects ls) id)
+  missing_answer e f = sym (test_missing (found_none _ (sym e ∙ f)))
 
 module _ (os : List Object) (n : ℕ) (links : List ℕ) (l : Link) where
   pub link_present : {i : ℕ} → link_place n links l ≡ some i → has_link (links_with os n links) l ≡ true

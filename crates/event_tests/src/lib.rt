@@ -10,7 +10,6 @@ ghost use Rattle.tables.specs.Columns.{types_of, floors_of, relationships_of, sc
 ghost use Rattle.register.specs.Tables.{objects_with, links_with, ObjectsAscend, LinksAscend};
 
 use register::columns;
-use tables::Found;
 
 // Whether no row is left below the limit and the lent rows.
 pub fn full(limit: u32, lent: usize, used: u32) -> bool
@@ -28,8 +27,8 @@ pub fn is_present(count: u32, objects: &[u32], id: u32) -> bool
     ensures { (ls : List Link) → result ≡ present (objects_with count objects.now ls) id }
 {
     match register::object_row(count, objects, id) {
-        Found::At(_) => true,
-        Found::Nothing => false,
+        Some(_) => true,
+        None => false,
     }
 }
 
@@ -40,8 +39,8 @@ fn is_under(type_count: u32, types: &[u32], count: u32, objects: &[u32], id: u32
         result ≡ is_under (types_of type_count types.now) (objects_with count objects.now ls) id t }
 {
     match register::object_row(count, objects, id) {
-        Found::At(row) => schema::under(type_count, types, columns::type_of(objects, row), t),
-        Found::Nothing => false,
+        Some(row) => schema::under(type_count, types, columns::type_of(objects, row), t),
+        None => false,
     }
 }
 
@@ -59,9 +58,8 @@ pub fn has_cell(
         result ≡ has_cell (types_of type_count types.now) (objects_with count objects.now ls) id cell }
 {
     match register::object_row(count, objects, id) {
-        Found::At(row) => cell
-            < schema::cells_of(type_count, types, columns::type_of(objects, row)),
-        Found::Nothing => false,
+        Some(row) => cell < schema::cells_of(type_count, types, columns::type_of(objects, row)),
+        None => false,
     }
 }
 
@@ -79,7 +77,7 @@ pub fn strictly_above(
         result ≡ strictly_above (types_of type_count types.now) (objects_with count objects.now ls) id t }
 {
     match register::object_row(count, objects, id) {
-        Found::At(row) => {
+        Some(row) => {
             let own = columns::type_of(objects, row);
             if schema::under(type_count, types, t, own) {
                 t != own
@@ -87,7 +85,7 @@ pub fn strictly_above(
                 false
             }
         }
-        Found::Nothing => false,
+        None => false,
     }
 }
 
@@ -105,7 +103,7 @@ pub fn strictly_under(
         result ≡ strictly_under (types_of type_count types.now) (objects_with count objects.now ls) id t }
 {
     match register::object_row(count, objects, id) {
-        Found::At(row) => {
+        Some(row) => {
             let own = columns::type_of(objects, row);
             if schema::under(type_count, types, own, t) {
                 t != own
@@ -113,7 +111,7 @@ pub fn strictly_under(
                 false
             }
         }
-        Found::Nothing => false,
+        None => false,
     }
 }
 
@@ -138,11 +136,11 @@ pub fn set_below(
         return false;
     }
     match register::object_row(count, objects, id) {
-        Found::At(row) => {
+        Some(row) => {
             let t = columns::type_of(objects, row);
             schema::floors::floored(type_count, types, floor_count, floors, t, cell)
         }
-        Found::Nothing => false,
+        None => false,
     }
 }
 
@@ -163,7 +161,7 @@ pub fn brought_below(
         (objects_with count objects.now ls) id t }
 {
     match register::object_row(count, objects, id) {
-        Found::At(row) => register::floors::below_floor(
+        Some(row) => register::floors::below_floor(
             type_count,
             types,
             floor_count,
@@ -172,7 +170,7 @@ pub fn brought_below(
             row,
             t,
         ),
-        Found::Nothing => false,
+        None => false,
     }
 }
 
@@ -183,8 +181,8 @@ pub fn has_link(count: u32, links: &[u32], relationship: u32, source: u32, targe
         result ≡ has_link (links_with os count links.now) (link_of relationship source target) }
 {
     match register::link_row(count, links, relationship, source, target) {
-        Found::At(_) => true,
-        Found::Nothing => false,
+        Some(_) => true,
+        None => false,
     }
 }
 
@@ -240,8 +238,7 @@ pub fn type_needed(
         (schema_of type_count types.now fs relationship_count relationships.now)
         (links_with os count links.now) id t }
 {
-    let mut row: u32 = 0;
-    while row < count {
+    for row in 0..count {
         if needs_type(
             type_count,
             types,
@@ -254,7 +251,6 @@ pub fn type_needed(
         ) {
             return true;
         }
-        row += 1;
     }
     false
 }

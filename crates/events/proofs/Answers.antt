@@ -1,5 +1,6 @@
 -- What a run answers: its verdict, and of a batch that is not refused the type at each event's place, and what its losses say.
 use Prim.Native.Nat.{ℕ, ◌+◌, ◌*◌, ◌-◌, ◌≤◌, ◌<◌}
+use Rattle.tables.specs.declared.Refusal as Code
 use mathlib.Core.Path.{◌≡◌, refl, sym, ap, ap₂, subst, ◌∙◌}
 use mathlib.Core.Bool.{◌||◌}
 use mathlib.Core.List.Memᴰ
@@ -24,8 +25,8 @@ use Rattle.meaning.proofs.Steps.{unrefused}
 use Rattle.tables.specs.Losses.{lost_in, LossesLow}
 use Rattle.tables.specs.Met.{no_type, met_by}
 use Rattle.tables.specs.Refusals.{verdict_of}
-use Rattle.tables.specs.declared.Verdict.{Verdict}
-use Rattle.tables.specs.declared.Verdict.TheVariants.{Refused}
+use Rattle.tables.specs.Refusals.{OrRefused}
+use Rattle.std.specs.Prelude.{Ok, Err}
 use Rattle.event_effects.specs.Losses.{Loss, loss_words, lost_at, losses_by}
 use Rattle.event_effects.specs.Effects.{loss_rows}
 use Rattle.event_effects.proofs.Losses.{is_loss, low_loss, any_append, lost_taken, low_taken, words_long, table_lost, table_low}
@@ -34,7 +35,11 @@ use Rattle.events.specs.Runs.{met_table, loss_table, ran_over, ran_by}
 use Rattle.events.proofs.Lost.{no_losses, words_first}
 use Rattle.events.proofs.MetTypes.{get_d_default, length_steps, step_fits}
 
-pub verdict_over : (v : Verdict) (n m : ℕ) (steps : List Step) → (ran_over v n m steps).verdict ≡ v
+-- a refusal is not the answer that none was met
+pub refused_clear : {r : Code.Refusal} → ◌≡◌ {A = OrRefused (Unit {0})} (Err r) (Ok tt) → ⊥
+refused_clear e = let z : ◌≡◌ {A = ℕ} 0 1 = cc in omega arith
+
+pub verdict_over : (v : OrRefused (Unit {0})) (n m : ℕ) (steps : List Step) → (ran_over v n m steps).verdict ≡ v
 unfolding ran_over
 verdict_over v n m steps = refl
 
@@ -44,11 +49,11 @@ verdict_by none S g es = refl
 verdict_by (some r) S g es = refl
 
 -- where one is met, it is the answer of no step from the rows that were lent
-pub ran_refused : {o : Option Refusal} {number place : ℕ} → o ≡ some (record { number = number; place = place }) → (S : Schema) (g : Register) (es : List Event)
-    → {n m : ℕ} → length g.objects ≡ n → length g.links ≡ m → ran_over (Refused number place) n m [] ≡ ran_by o S g es
+pub ran_refused : {o : Option Refusal} {r : Code.Refusal} → o ≡ some (record { number = r.number; place = r.place }) → (S : Schema) (g : Register) (es : List Event)
+    → {n m : ℕ} → length g.objects ≡ n → length g.links ≡ m → ran_over (Err r) n m [] ≡ ran_by o S g es
 unfolding ran_by
-ran_refused {number = number} {place = place} e S g es p q =
-    ap₂ (λ a b. ran_over (Refused number place) a b []) (sym p) (sym q) ∙ ap (λ o. ran_by o S g es) (sym e)
+ran_refused {r = r} e S g es p q =
+    ap₂ (λ a b. ran_over (Err r) a b []) (sym p) (sym q) ∙ ap (λ o. ran_by o S g es) (sym e)
 
 -- ---- a batch that is not refused
 

@@ -27,7 +27,7 @@ use Rattle.event_effects.specs.Effects.{Applied}
 use Rattle.events.specs.Steps.{Ready}
 use Rattle.events.specs.declared.Ran.{Ran}
 use Rattle.tables.specs.Met.{no_type, met_type, met_by}
-use Rattle.tables.specs.declared.Verdict.TheVariants.{Clear}
+use Rattle.std.specs.Prelude.{Ok, Err}
 use Rattle.events.specs.Runs.{lent_by, Fit, CanRun, met_table, ran_over, ran_by, RunLeft, RunDone}
 use Rattle.event_effects.proofs.Applied.{object_by_words, link_by_words}
 use Rattle.events.proofs.Allowed.{ready_after}
@@ -216,12 +216,12 @@ module _ (S : Schema) (lent : Lent) (start : Register) (read : ℕ → Event) (c
       reached_left l = record { end = reached_after; fit = r.fit; losses_few = lost_few S start read count l h reached_few }
 
       pub reached_ran : {k : ℕ} {losses : List ℕ} → Lost S start read count row n objects m links k losses
-          → ◌≡◌ {A = Ran} (record { verdict = Clear; held = record { objects = n; links = m; losses = k }; met = met; losses = losses }) (ran_by (batch_refusal S lent start (read_rows read count)) S start (read_rows read count))
+          → ◌≡◌ {A = Ran} (record { verdict = Ok tt; held = record { objects = n; links = m; losses = k }; met = met; losses = losses }) (ran_by (batch_refusal S lent start (read_rows read count)) S start (read_rows read count))
       unfolding ran_by ran_over
       reached_ran l =
           (λ i.
           record {
-            verdict = Clear;
+            verdict = Ok tt;
             held = record { objects = objects_now i; links = links_now i; losses = lost_count S start read count l h i };
             met = reached_met i;
             losses = lost_table S start read count l h reached_few i;

@@ -11,9 +11,8 @@ use Rattle.meaning.specs.Reach.{Step, steps_of}
 use Rattle.rows.specs.Rows.{rows_lent, padded}
 use Rattle.tables.specs.Columns.{register_of}
 use Rattle.tables.specs.Met.{no_type, met_by}
-use Rattle.tables.specs.Refusals.{verdict_of}
-use Rattle.tables.specs.declared.Verdict.{Verdict}
-use Rattle.tables.specs.declared.Verdict.TheVariants.{Clear}
+use Rattle.std.specs.Prelude.{Ok}
+use Rattle.tables.specs.Refusals.{OrRefused, verdict_of}
 use Rattle.event_effects.specs.Losses.{loss_words, losses_by}
 use Rattle.event_effects.specs.Effects.{loss_rows}
 use Rattle.events.specs.declared.Ran.{Ran}
@@ -49,7 +48,7 @@ abbrev pub loss_table : List Step → List ℕ
 loss_table steps = padded (loss_rows * 2) (flat_map loss_words (losses_by steps))
 
 -- a verdict, the used rows of objects and links, and what is kept of the steps that were taken
-unfoldable pub ran_over : Verdict → ℕ → ℕ → List Step → Ran
+unfoldable pub ran_over : OrRefused (Unit {0}) → ℕ → ℕ → List Step → Ran
 ran_over verdict objects links steps =
     record {
       verdict = verdict;
@@ -74,4 +73,4 @@ pub record RunLeft (S : Schema) (lent : Lent) (g : Register) (es : List Event) (
 -- one is met, the tables worked on are the scratch, "whose contents after a call are never stated".
 pub record RunDone (S : Schema) (lent : Lent) (g : Register) (es : List Event) (ran : Ran) (objects links : List ℕ) : Type 0 where
   pub ran_is : ran ≡ ran_by (batch_refusal S lent g es) S g es
-  pub left : ran.verdict ≡ Clear → RunLeft S lent g es ran.held.objects objects ran.held.links links
+  pub left : ran.verdict ≡ Ok tt → RunLeft S lent g es ran.held.objects objects ran.held.links links

@@ -11,12 +11,12 @@ ghost use Rattle.events.specs.Steps.{Ready, StepDone};
 use event_effects::{Held, row_effect};
 use event_refusals::refusal;
 pub use runs::{refused, run};
-use tables::{Found, Verdict};
+use tables::Refusal;
 
 // The refusal that an event met, if it met one, and the used rows after it.
 #[derive(Clone, Copy)]
 pub struct Stepped {
-    pub refused: Found,
+    pub refused: Option<u32>,
     pub held: Held,
 }
 
@@ -25,7 +25,7 @@ pub struct Stepped {
 // refusal; past the losses are zeros.
 #[derive(Clone, Copy)]
 pub struct Ran {
-    pub verdict: Verdict,
+    pub verdict: Result<(), Refusal>,
     pub held: Held,
     pub met: [u32; 256],
     pub losses: [u32; 8704],
@@ -75,11 +75,11 @@ pub fn step(
         events,
         row,
     ) {
-        Found::At(number) => Stepped {
-            refused: Found::At(number),
+        Some(number) => Stepped {
+            refused: Some(number),
             held: held,
         },
-        Found::Nothing => {
+        None => {
             let after = row_effect(
                 type_count,
                 types,
@@ -91,7 +91,7 @@ pub fn step(
                 row,
             );
             Stepped {
-                refused: Found::Nothing,
+                refused: None,
                 held: after,
             }
         }

@@ -5,13 +5,13 @@ ghost use Rattle.meaning.specs.Register.{Link};
 ghost use Rattle.tables.specs.Columns.{floors_of, schema_of, register_of, no_event, event_row, events_of};
 ghost use Rattle.register.specs.Tables.{objects_with, ObjectsAscend};
 ghost use Rattle.tables.specs.Met.{type_in, met_type};
-ghost use Rattle.tables.specs.declared.Verdict.TheVariants.{Refused};
+ghost use Rattle.std.specs.Prelude.{Err};
 ghost use Rattle.events.specs.Runs.{lent_by, Fit, CanRun, ran_over, RunDone};
 
 use crate::{Ran, step};
 use event_effects::Held;
 use register::columns;
-use tables::{Found, Verdict};
+use tables::Refusal;
 
 // What stands for the type of an object that is not there.
 const NO_TYPE: u32 = 32;
@@ -22,8 +22,8 @@ fn type_in(count: u32, objects: &[u32], id: u32) -> u32
     ensures { (ls : List Link) → result ≡ type_in (objects_with count objects.now ls) id }
 {
     match register::object_row(count, objects, id) {
-        Found::At(row) => columns::type_of(objects, row),
-        Found::Nothing => NO_TYPE,
+        Some(row) => columns::type_of(objects, row),
+        None => NO_TYPE,
     }
 }
 
@@ -48,8 +48,8 @@ fn met_type(count: u32, objects: &[u32], events: &[u32], row: u32) -> u32
 }
 
 // What a run answers that meets a refusal: the used rows as they were lent, and nothing of its events.
-pub fn refused(number: u32, place: u32, objects: u32, links: u32) -> Ran
-    ensures { result ≡ ran_over (Refused number place) objects links [] }
+pub fn refused(refusal: Refusal, objects: u32, links: u32) -> Ran
+    ensures { result ≡ ran_over (Err refusal) objects links [] }
 {
     let held = Held {
         objects,
@@ -59,7 +59,7 @@ pub fn refused(number: u32, place: u32, objects: u32, links: u32) -> Ran
     let met = [NO_TYPE; 256];
     let losses = [0u32; 8704];
     Ran {
-        verdict: Verdict::Refused(number, place),
+        verdict: Err(refusal),
         held,
         met,
         losses,
@@ -94,8 +94,7 @@ fn run_on(
     let mut used = from;
     let mut met = [NO_TYPE; 256];
     let mut losses = [0u32; 8704];
-    let mut row: u32 = 0;
-    while row < event_count {
+    for row in 0..event_count {
         let seen = met_type(used.objects, &*objects, events, row);
         let stepped = step(
             type_count,
@@ -113,16 +112,15 @@ fn run_on(
             events,
             row,
         );
-        let refusal = stepped.refused;
-        if let Found::At(number) = refusal {
-            return refused(number, row, from.objects, from.links);
+        if let Some(number) = stepped.refused {
+            let refusal = Refusal { number, place: row };
+            return refused(refusal, from.objects, from.links);
         }
         met[row as usize] = seen;
         used = stepped.held;
-        row += 1;
     }
     Ran {
-        verdict: Verdict::Clear,
+        verdict: Ok(()),
         held: used,
         met,
         losses,

@@ -15,7 +15,7 @@ ghost use Rattle.reader.specs.Reads.{lent_reading, sheet_after};
 ghost use Rattle.told.specs.Coded.{coded, answer_words, read_words};
 ghost use Rattle.exports.specs.Runs.{used_rows};
 
-use tables::Counts;
+use tables::{Counts, Sheet};
 
 // Refusals 2, 6, 3, 4 and 5 of a lent book and register: a refusal's number times 2^32 plus its place, or 0.
 #[unsafe(no_mangle)]
@@ -47,13 +47,16 @@ pub extern "C" fn checker_check(
     };
     let verdict = checks::check(
         n,
-        types,
-        floors,
-        relationships,
-        rules,
-        bodies,
-        objects,
-        links,
+        &Sheet {
+            types,
+            floors,
+            relationships,
+            rules,
+            bodies,
+            objects,
+            links,
+            events: &[],
+        },
         false,
     );
     told::verdict(verdict)
@@ -90,13 +93,16 @@ pub extern "C" fn checker_full_check(
     };
     let said = full::check(
         n,
-        types,
-        floors,
-        relationships,
-        rules,
-        bodies,
-        objects,
-        links,
+        &Sheet {
+            types,
+            floors,
+            relationships,
+            rules,
+            bodies,
+            objects,
+            links,
+            events: &[],
+        },
     );
     *answer = told::answer(said);
 }

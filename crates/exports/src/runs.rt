@@ -2,7 +2,7 @@
 ghost use Rattle.tables.specs.Layouts.{sheet_of};
 ghost use Rattle.exports.specs.Runs.{all_used, RunTold};
 
-use tables::Counts;
+use tables::{Counts, Sheet};
 
 // The events of a lent batch on a copy of the register's used rows. The answer is 0 and the used rows of the register after the batch, which then stands in the
 // two tables lent for the end, with zeros past its used rows; or 1, a refusal's number and its place.
@@ -43,14 +43,16 @@ pub extern "C" fn checker_run(
     };
     let ran = lent_run::run(
         n,
-        types,
-        floors,
-        relationships,
-        rules,
-        bodies,
-        objects,
-        links,
-        events,
+        &Sheet {
+            types,
+            floors,
+            relationships,
+            rules,
+            bodies,
+            objects,
+            links,
+            events,
+        },
         &mut *end_objects,
         &mut *end_links,
     );

@@ -2,10 +2,10 @@
 ghost use Rattle.std.specs.Prelude.{◌≡◌};
 ghost use Rattle.tables.specs.Layouts.{sheet_of};
 ghost use Rattle.writer.specs.Answers.{answer_for, bytes_left};
-ghost use Rattle.told.specs.Coded.{written_words};
+ghost use Rattle.told.specs.Coded.{counted_words};
 ghost use Rattle.exports.specs.Runs.{all_used};
 
-use tables::Counts;
+use tables::{Counts, Sheet};
 
 // The text of lent tables, into lent bytes. The answer is 0, how many bytes were written, and 0; or 1, a refusal's number and place.
 #[unsafe(no_mangle)]
@@ -30,7 +30,7 @@ pub extern "C" fn checker_write(
 )
     ensures { let n = all_used types_used floors_used relationships_used rules_used objects_used links_used events_used in
         let s = sheet_of types.now floors.now relationships.now rules.now bodies.now objects.now links.now events.now in
-        (answer.new ≡ written_words (answer_for n s out.old)) × (out.new ≡ bytes_left n s out.old) }
+        (answer.new ≡ counted_words (answer_for n s out.old)) × (out.new ≡ bytes_left n s out.old) }
 {
     let n = Counts {
         types: types_used,
@@ -43,15 +43,17 @@ pub extern "C" fn checker_write(
     };
     let written = writer::write(
         n,
-        types,
-        floors,
-        relationships,
-        rules,
-        bodies,
-        objects,
-        links,
-        events,
+        &Sheet {
+            types,
+            floors,
+            relationships,
+            rules,
+            bodies,
+            objects,
+            links,
+            events,
+        },
         out,
     );
-    *answer = told::written(written);
+    *answer = told::counted(written);
 }

@@ -1,5 +1,7 @@
 -- The tables filled line by line.
 use Prim.Native.Nat.{ℕ, zero, suc, ◌+◌, ◌-◌, ◌*◌, ◌/◌, min, ◌≤◌, ◌<◌}
+use Rattle.std.specs.Prelude.{Option, Some, None, IsSome}
+use borrow.Author.Rules.{rules}
 use mathlib.Core.Path.{◌≡◌, refl, sym, ap, ap₂, subst, ◌∙◌}
 use mathlib.Core.Bool.{Bool, true, false, ◌&&◌, ◌||◌, cond, false≢true}
 use mathlib.Core.List.{List, [], ◌∷◌, ◌++◌, append-nil, append_assoc}
@@ -30,7 +32,7 @@ use Rattle.line_reader.specs.declared.line.Row.{Row}
 use Rattle.line_reader.specs.Rows.{row_held, body_place}
 use Rattle.filling.specs.Fills.{row_put, LinePut, sheet_with}
 use Rattle.line_reader.proofs.Bodied.{whole_body_lem}
-use Rattle.reading.proofs.Looking.{Looking, LineRead, look_starts, starts_before, look_done, look_with, ended_fine, section_fine, row_fine, e, found, section_of_lem, words_are, said, count_small, read_short, taken_same}
+use Rattle.reading.proofs.Looking.{Looking, LineRead, line_read, row_there, look_starts, starts_before, look_done, look_with, ended_fine, section_fine, row_fine, e, found, section_of_lem, words_are, said, count_small, read_short, taken_same}
 
 -- ---- words put after those of a table
 
@@ -365,41 +367,41 @@ module _ {text : List ℕ} {old : Sheet} {at : ℕ} {counts cells : List ℕ} {s
       (full k.objects_held j) (full k.links_held j) (full k.events_held j) in
       all ∙ ap (λ es. sheet_with es old) (taken_same (sym (look_done k.looking h) ∙ read_short text lent short q))
 
-  -- a line
+  -- a line, which is a row since the text is taken
+  pub fill_row : at < length text → {es : List Entry} → reading lent text ≡ taken es → {line : List ℕ} → line ≡ line_in (drop at text) → (o : Option Row) → o ≡ row_held (entry_in before line) → IsSome o
+  fill_row h q l None r =
+      let t = read_short text lent short q in
+      absurd (row_there (line_read k.looking h short (ended_fine k.looking h short t) l r) t)
+  fill_row h q l (Some held) r = search rules
+
   module _ (h : at < length text) {es : List Entry} (q : reading lent text ≡ taken es) {line : List ℕ} (l : line ≡ line_in (drop at text))
-      {held : Row} (r : held ≡ row_held (entry_in before line)) where
+      {held : Row} (r : Some held ≡ row_held (entry_in before line)) where
     abbrev is_taken_lem : read_from (length text) lent 1 [] text ≡ taken es
     is_taken_lem = read_short text lent short q
 
-    read : LineRead k.looking held
-    read =
-        record {
-          inside = h;
-          short = short;
-          ended = ended_fine k.looking h short is_taken_lem;
-          held_is = r ∙ ap (λ l. row_held (entry_in before l)) l;
-        }
+    read : LineRead k.looking (Some held)
+    read = line_read k.looking h short (ended_fine k.looking h short is_taken_lem) l r
 
     abbrev S' : ℕ
     S' = held.section
 
     pub fill_section : S' < section_count
-    fill_section = section_fine read is_taken_lem
+    fill_section = section_fine read
 
     abbrev E : Entry
-    E = e read fill_section refl
+    E = e read
 
     fits : sayable before E ≡ true
-    fits = said read fill_section refl
+    fits = said read
 
     in_section : S' ≡ section_of E
-    in_section = section_of_lem read fill_section refl
+    in_section = section_of_lem read
 
     words_held : held.words ≡ padded 10 (entry_words E)
-    words_held = words_are read fill_section refl
+    words_held = words_are read
 
     there : entry_in before line ≡ some E
-    there = ap (entry_in before) l ∙ found read fill_section refl
+    there = ap (entry_in before) l ∙ found read
 
     abbrev full_rows : Bool
     full_rows = ltb (min (limit_of S') (get_or lent S' 0)) (suc (get_or counts S' 0))
@@ -408,10 +410,10 @@ module _ {text : List ℕ} {old : Sheet} {at : ℕ} {counts cells : List ℕ} {s
     long_body_lem = eqb S' rule_name && ltb 64 (get_or held.words 1 0)
 
     not_full : (full_rows || long_body_lem) ≡ false
-    not_full = row_fine read fill_section refl is_taken_lem
+    not_full = row_fine read refl is_taken_lem
 
     pub fill_count : get_or counts S' 0 < 4096
-    fill_count = count_small read fill_section refl not_full
+    fill_count = count_small read refl not_full
 
     left_here : suc (get_or counts S' 0) ≤ get_or lent S' 0
     left_here =
@@ -465,7 +467,7 @@ module _ {text : List ℕ} {old : Sheet} {at : ℕ} {counts cells : List ℕ} {s
         → Filling text old (end + 1) more_counts more_cells S' after
     unfolding width_of lines_lent
     fill_goes_on {after} put a c d =
-        let (m, went) = look_with read fill_section refl not_full a c d in
+        let (m, went) = look_with read refl not_full a c d in
         let lies : (t : List ℕ) (width : ℕ) → length t / width * width ≤ length t = λ t width. div-mul-le_self (length t) width in
         record {
           n = k.n + 1;

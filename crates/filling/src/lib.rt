@@ -10,8 +10,7 @@ ghost use Rattle.text.specs.Entries.{Entry};
 ghost use Rattle.text.specs.Texts.{max_text, taken, reading, filled};
 ghost use Rattle.brackets.specs.Whole.{WholeBody, rows_put};
 ghost use Rattle.line_reader.specs.Rows.{body_place};
-ghost use Rattle.filling.specs.Fills.{sheet_with};
-ghost use Rattle.filling.specs.Fills.{LinePut};
+ghost use Rattle.filling.specs.Fills.{LinePut, sheet_with};
 
 use line_reader::line::{Row, body_place, read_line};
 use reading::look::{more_cells, more_rows};
@@ -60,8 +59,7 @@ fn put_in(table: &mut [u32], wanted: u32, width: u32, section: u32, row: u32, wo
     ensures { table.new ≡ cond (eqb section wanted) (with_row table.old width row (take width words.now)) table.old }
 {
     if section == wanted {
-        let n = width as usize;
-        rows::write_row(&mut *table, width, row, &words[..n]);
+        rows::write_row(table, width, row, &words[..width as usize]);
     }
 }
 
@@ -71,8 +69,7 @@ fn put_body(line: &[u8], section: u32, rule: u32, bodies: &mut [u32])
     ensures { ((t : ℕ) (w : Written) → section ≡ rule_name → WholeBody (drop (body_place line.now) line.now) t w → bodies.new ≡ rows_put bodies.old (rule * body_words) (rows_of w)) × ((section ≡ rule_name → ⊥) → bodies.new ≡ bodies.old) }
 {
     if section == RULE_SECTION {
-        let at = body_place(line);
-        brackets::write_body(line, at, &mut *bodies, rule);
+        brackets::write_body(line, body_place(line), bodies, rule);
     }
 }
 
@@ -96,8 +93,7 @@ fn put_line(
         (sheet_of types.new floors.new relationships.new rules.new bodies.new objects.new links.new events.new) }
 {
     let section = row.section;
-    let held = row.words;
-    let words = &held[..];
+    let words = &row.words[..];
     put_in(types, TYPE_SECTION, TYPE_WIDTH, section, counts[0], words);
     put_in(
         floors,
@@ -136,7 +132,7 @@ fn put_line(
     );
 }
 
-// Puts every row of a text in its place; the tables are clear.
+// Puts every row of a text in its place; the tables are clear. The text is taken, so each of its lines is a row.
 pub fn put_lines(
     text: &[u8],
     types: &mut [u32],
@@ -159,23 +155,22 @@ pub fn put_lines(
     let mut at: usize = 0;
     while at < text.len() {
         let line = lexical::line(text, at);
-        let row = read_line(line, counts[0], counts[2], counts[3], &cells, section);
-        let words = row.words;
+        let row = read_line(line, counts[0], counts[2], counts[3], &cells, section).unwrap();
         section = row.section;
         put_line(
             line,
             row,
             &counts,
-            &mut *types,
-            &mut *floors,
-            &mut *relationships,
-            &mut *rules,
-            &mut *bodies,
-            &mut *objects,
-            &mut *links,
-            &mut *events,
+            types,
+            floors,
+            relationships,
+            rules,
+            bodies,
+            objects,
+            links,
+            events,
         );
-        cells = more_cells(&cells, counts[0], section, words[1]);
+        cells = more_cells(&cells, counts[0], section, row.words[1]);
         counts = more_rows(&counts, section);
         at = lexical::line_end(text, at) + 1;
     }

@@ -1,5 +1,7 @@
 -- What a verdict says about the answer for one rule at one object.
 use Prim.Native.Nat.{ℕ, ◌<◌}
+use Rattle.tables.specs.Refusals.{refused_by}
+use Rattle.tables.specs.declared.Refusal as Code
 use mathlib.Core.Path.{◌≡◌, refl, sym, ap, ◌∙◌}
 use mathlib.Core.Bool.{Bool, true, false, ◌||◌, cond, false≢true}
 use mathlib.Core.List.{List, [], ◌∷◌}
@@ -18,8 +20,8 @@ use Rattle.tables.specs.Layouts.{Sheet, book_tables}
 use Rattle.tables.specs.Columns.{rule_row, book_of, register_in}
 use Rattle.tables.specs.Refusals.{verdict_of, any_overfull, any_long, not_whole, table_refusal, refusal_of, lent_refusal}
 use Rattle.tables.specs.declared.Counts.{Counts}
-use Rattle.tables.specs.declared.Verdict.{Verdict}
-use Rattle.tables.specs.declared.Verdict.TheVariants.{Clear, Refused}
+use Rattle.tables.specs.Refusals.{OrRefused}
+use Rattle.std.specs.Prelude.{Ok, Err}
 use Rattle.schema.proofs.Rows.{length_rows}
 use Rattle.full.specs.Answers.{lent_refusal_for, lent_answer_at, lacking, verdict_for}
 use Rattle.tables.specs.Answers.{answer_of}
@@ -65,31 +67,31 @@ verdict_for_lem n s rule =
 
 -- ---- what the code finds
 
-never_clear : (b : Bool) (number place rule : ℕ) → Clear ≡ cond b (Refused 4 rule) (Refused number place) → false ≡ true
-never_clear true number place rule e = cc
-never_clear false number place rule e = cc
+never_clear : (b : Bool) (r : Code.Refusal) (rule : ℕ) → ◌≡◌ {A = OrRefused (Unit {0})} (Ok tt) (cond b (refused_by 4 rule) (Err r)) → false ≡ true
+never_clear true r rule e = cc
+never_clear false r rule e = cc
 
-pub known_rule : (v : Verdict) (rules rule : ℕ) → Clear ≡ verdict_for v rules rule → rule < rules
+pub known_rule : (v : OrRefused (Unit {0})) (rules rule : ℕ) → Ok tt ≡ verdict_for v rules rule → rule < rules
 known_rule v rules rule e = ltb-true rule rules (step (ltb rule rules) v e)
   where
-    step : (b : Bool) (v : Verdict) → Clear ≡ cond b v (lacking v rule) → b ≡ true
+    step : (b : Bool) (v : OrRefused (Unit {0})) → Ok tt ≡ cond b v (lacking v rule) → b ≡ true
     step true v e = refl
-    step false (Refused number place) e = never_clear (eqb number 5) number place rule e
-    step false Clear e = cc
+    step false (Err r) e = never_clear (eqb r.number 5) r rule e
+    step false (Ok x) e = cc
 
-pub clear_before : (v : Verdict) (rules rule : ℕ) → Clear ≡ verdict_for v rules rule → Clear ≡ v
+pub clear_before : (v : OrRefused (Unit {0})) (rules rule : ℕ) → Ok tt ≡ verdict_for v rules rule → Ok tt ≡ v
 clear_before v rules rule e = step (ltb rule rules) v e
   where
-    step : (b : Bool) (v : Verdict) → Clear ≡ cond b v (lacking v rule) → Clear ≡ v
+    step : (b : Bool) (v : OrRefused (Unit {0})) → Ok tt ≡ cond b v (lacking v rule) → Ok tt ≡ v
     step true v e = e
-    step false (Refused number place) e = absurd (false≢true (never_clear (eqb number 5) number place rule e))
-    step false Clear e = refl
+    step false (Err r) e = absurd (false≢true (never_clear (eqb r.number 5) r rule e))
+    step false (Ok x) e = cc
 
-pub rule_refused : (n : Counts) (s : Sheet) (rule id : ℕ) {number place : ℕ} → Refused number place ≡ verdict_for (verdict_of (lent_refusal n s false)) n.rules rule → Answers.Refused number place ≡ answer_of (lent_answer_at n s rule id)
+pub rule_refused : (n : Counts) (s : Sheet) (rule id : ℕ) {r : Code.Refusal} → Err r ≡ verdict_for (verdict_of (lent_refusal n s false)) n.rules rule → Answers.Refused r.number r.place ≡ answer_of (lent_answer_at n s rule id)
 unfolding lent_answer_at
 rule_refused n s rule id e = refused_answer (lent_refusal_for n s rule) (first_broken (book_of n s) (register_in n s) (pair_of rule id ∷ [])) (e ∙ verdict_for_lem n s rule)
 
-module _ (n : Counts) (s : Sheet) (rule id : ℕ) (clear : Clear ≡ verdict_for (verdict_of (lent_refusal n s false)) n.rules rule) {broke : Bool} (judged : broke ≡ broken_in n s rule id) where
+module _ (n : Counts) (s : Sheet) (rule id : ℕ) (clear : Ok tt ≡ verdict_for (verdict_of (lent_refusal n s false)) n.rules rule) {broke : Bool} (judged : broke ≡ broken_in n s rule id) where
   pair_answer : answer_of (found_answer (cond broke (some (pair_of rule id)) none)) ≡ answer_of (lent_answer_at n s rule id)
   unfolding lent_answer_at first_broken broken_in
   pair_answer =

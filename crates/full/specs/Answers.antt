@@ -8,10 +8,9 @@ use Rattle.meaning.specs.Answers as Meaning
 use Rattle.meaning.specs.Answers.{refusal_for, unless_refused, first_broken, full_check}
 use Rattle.tables.specs.Layouts.{Sheet, book_tables}
 use Rattle.tables.specs.Columns.{book_of, register_in}
-use Rattle.tables.specs.Refusals.{table_refusal}
+use Rattle.tables.specs.Refusals.{OrRefused, refused_by, table_refusal}
 use Rattle.tables.specs.declared.Counts.{Counts}
-use Rattle.tables.specs.declared.Verdict.{Verdict}
-use Rattle.tables.specs.declared.Verdict.TheVariants as Verdict
+use Rattle.std.specs.Prelude.{Ok, Err}
 
 -- The full check of the book and the register that the tables hold, after refusals 2 and 6 of the tables themselves.
 unfoldable pub lent_answer : Counts → Sheet → Meaning.Answer
@@ -27,9 +26,9 @@ unfoldable pub lent_answer_at : Counts → Sheet → ℕ → ℕ → Meaning.Ans
 lent_answer_at n s rule id = unless_refused (lent_refusal_for n s rule) (first_broken (book_of n s) (register_in n s) (pair_of rule id ∷ []))
 
 -- A verdict on the tables, with the stage of a lacked rule put before that of the register.
-abbrev pub lacking : Verdict → ℕ → Verdict
-lacking (Verdict.Refused number place) rule = cond (eqb number 5) (Verdict.Refused 4 rule) (Verdict.Refused number place)
-lacking Verdict.Clear rule = Verdict.Refused 4 rule
+abbrev pub lacking : OrRefused (Unit {0}) → ℕ → OrRefused (Unit {0})
+lacking (Err r) rule = cond (eqb r.number 5) (refused_by 4 rule) (Err r)
+lacking (Ok x) rule = refused_by 4 rule
 
-abbrev pub verdict_for : Verdict → ℕ → ℕ → Verdict
+abbrev pub verdict_for : OrRefused (Unit {0}) → ℕ → ℕ → OrRefused (Unit {0})
 verdict_for verdict rules rule = cond (ltb rule rules) verdict (lacking verdict rule)

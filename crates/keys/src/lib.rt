@@ -9,8 +9,7 @@ ghost use Rattle.keys.specs.Keys.{key_at, KeysAscend, LowerBound};
 pub fn before(t: &[u32], width: u32, row: u32, columns: u32, key: &[u32]) -> bool
     ensures { result ≡ before (key_at t.now width columns row) key.now }
 {
-    let mut column: u32 = 0;
-    while column < columns {
+    for column in 0..columns {
         let at = column as usize;
         if key.len() <= at {
             return false;
@@ -20,7 +19,6 @@ pub fn before(t: &[u32], width: u32, row: u32, columns: u32, key: &[u32]) -> boo
         if w != k {
             return w < k;
         }
-        column += 1;
     }
     false
 }

@@ -10,7 +10,7 @@ ghost use Rattle.tables.specs.Columns.{types_of, relationships_of, schema_of, ev
 ghost use Rattle.tables.specs.Layouts.{sheet_of};
 ghost use Rattle.tables.specs.Refusals.{found_of, event_fault};
 
-use tables::{Counts, EVENT_WIDTH, Found};
+use tables::{Counts, EVENT_WIDTH};
 
 // Whether an id is one that there can be.
 pub fn valid_id(id: u32) -> bool
@@ -106,17 +106,15 @@ pub fn event_known(n: Counts, events: &[u32], row: u32) -> bool
 }
 
 // The first event that is not known.
-pub fn first_unknown(n: Counts, events: &[u32]) -> Found
+pub fn first_unknown(n: Counts, events: &[u32]) -> Option<u32>
     ensures { (types floors relationships rules bodies objects links : List ℕ) →
         result ≡ found_of (event_fault n (sheet_of types floors relationships rules bodies objects links events.now)) }
 {
     let used = n.events;
-    let mut row: u32 = 0;
-    while row < used {
+    for row in 0..used {
         if !event_known(n, events, row) {
-            return Found::At(row);
+            return Some(row);
         }
-        row += 1;
     }
-    Found::Nothing
+    None
 }

@@ -1,5 +1,6 @@
 -- What no refusal of the lent tables gives a run, and the first refusal of all.
 use Prim.Native.Nat.{ℕ}
+use Rattle.tables.specs.declared.Refusal as Code
 use mathlib.Core.Path.{◌≡◌, refl, sym, ap, ap₂, ◌∙◌}
 use mathlib.Core.Bool.{Bool, true, false, ◌||◌, cond}
 use mathlib.Core.List.{List, []}
@@ -16,13 +17,13 @@ use Rattle.tables.specs.Layouts.{Sheet, layouts}
 use Rattle.tables.specs.Columns.{relationship_row, object_row, link_row, book_of, register_in, batch_in}
 use Rattle.tables.specs.Refusals.{verdict_of, any_overfull, any_long, not_whole, table_refusal, refusal_of}
 use Rattle.tables.specs.declared.Counts.{Counts}
-use Rattle.tables.specs.declared.Verdict.TheVariants.{Clear, Refused}
+use Rattle.std.specs.Prelude.{Ok, Err}
 use Rattle.schema.proofs.Rows.{length_rows}
 use Rattle.checks.specs.Given.{Given, EventsLent}
 use Rattle.checks.proofs.Given.{given_all}
 use Rattle.events.specs.declared.Ran.{Ran}
 use Rattle.events.specs.Runs.{lent_by, CanRun, ran_over, ran_by, RunDone}
-use Rattle.events.proofs.Answers.{verdict_over, ran_refused}
+use Rattle.events.proofs.Answers.{refused_clear, verdict_over, ran_refused}
 use Rattle.lent_run.specs.Lent.{shorter, scratch_short, events_meet, run_refusal, LentRun}
 
 or_left : (a b : Bool) → (a || b) ≡ false → a ≡ false
@@ -42,23 +43,20 @@ module _ (n : Counts) (s : Sheet) (scratch_objects scratch_links : List ℕ) whe
   short = scratch_short s.objects s.links scratch_objects scratch_links
 
   -- A refusal of the tables comes before those of the events; the run that it kept from beginning took no step.
-  pub never_ran : {number place : ℕ} → Refused number place ≡ verdict_of (refusal_of layouts n s short) → {ran : Ran} → ran ≡ ran_over (Refused number place) n.objects n.links []
+  pub never_ran : {r : Code.Refusal} → Err r ≡ verdict_of (refusal_of layouts n s short) → {ran : Ran} → ran ≡ ran_over (Err r) n.objects n.links []
       → {o l : List ℕ} → LentRun n s scratch_objects scratch_links ran o l
   unfolding run_refusal
-  never_ran {number} {place} e {ran} is =
+  never_ran {r} e {ran} is =
       record {
         ran_is = is
             ∙ ran_refused (first (refusal_of layouts n s short) (events_meet n s) e) (book_of n s).schema (register_in n s) (batch_in n s)
             (length_rows (object_row s.objects) n.objects) (length_rows (link_row s.links) n.links);
-        left = λ c. absurd (refused_clear (sym (ap (λ (r : Ran). r.verdict) is ∙ verdict_over (Refused number place) n.objects n.links []) ∙ c));
+        left = λ c. absurd (refused_clear (sym (ap (λ (r : Ran). r.verdict) is ∙ verdict_over (Err r) n.objects n.links []) ∙ c));
       }
     where
-      first : (o rest : Option Refusal) → Refused number place ≡ verdict_of o → first_of o rest ≡ some (record { number = number; place = place })
+      first : (o rest : Option Refusal) → Err r ≡ verdict_of o → first_of o rest ≡ some (record { number = r.number; place = r.place })
       first none rest q = cc
-      first (some r) rest q = let a : r.number ≡ number = cc in let b : r.place ≡ place = cc in ap₂ (λ x y. some (record { number = x; place = y })) a b
-
-      refused_clear : Refused number place ≡ Clear → ⊥
-      refused_clear p = let z : ◌≡◌ {A = ℕ} 0 1 = cc in omega arith
+      first (some met) rest q = let a : met.number ≡ r.number = cc in let b : met.place ≡ r.place = cc in ap₂ (λ x y. some (record { number = x; place = y })) a b
 
   module _ (clear : refusal_of layouts n s short ≡ none) where
     given : Given n s × EventsLent n s

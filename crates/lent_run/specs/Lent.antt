@@ -7,7 +7,7 @@ use Rattle.tables.specs.Layouts.{Sheet, layouts}
 use Rattle.tables.specs.Columns.{book_of, register_in, batch_in}
 use Rattle.tables.specs.Refusals.{refusal_of}
 use Rattle.tables.specs.declared.Counts.{Counts}
-use Rattle.tables.specs.declared.Verdict.TheVariants.{Clear}
+use Rattle.std.specs.Prelude.{Ok}
 use Rattle.events.specs.declared.Ran.{Ran}
 use Rattle.events.specs.Runs.{lent_by, ran_by, RunLeft}
 
@@ -30,5 +30,5 @@ run_refusal n s scratch_objects scratch_links =
 -- A lent batch that was run: what it answers, by the first refusal, and where none is met what it leaves in the scratch. A refusal leaves the scratch free.
 pub record LentRun (n : Counts) (s : Sheet) (scratch_objects scratch_links : List ℕ) (ran : Ran) (objects links : List ℕ) : Type 0 where
   pub ran_is : ran ≡ ran_by (run_refusal n s scratch_objects scratch_links) (book_of n s).schema (register_in n s) (batch_in n s)
-  pub left : ran.verdict ≡ Clear
+  pub left : ran.verdict ≡ Ok tt
       → RunLeft (book_of n s).schema (lent_by s.objects s.links 0) (register_in n s) (batch_in n s) ran.held.objects objects ran.held.links links

@@ -2,11 +2,11 @@
 #![tactic(auto)]
 
 ghost use Rattle.std.specs.Prelude.{◌≡◌};
-ghost use Rattle.tables.specs.Layouts.{sheet_of};
+ghost use Rattle.tables.specs.Layouts.{sheet_in};
 ghost use Rattle.lent_run.specs.Lent.{scratch_short, LentRun};
 
 use events::Ran;
-use tables::{Counts, Verdict};
+use tables::{Counts, Sheet};
 
 // 6, of the scratch: shorter than the table that is copied to it.
 fn short(objects: &[u32], links: &[u32], scratch_objects: &[u32], scratch_links: &[u32]) -> bool
@@ -19,51 +19,33 @@ fn short(objects: &[u32], links: &[u32], scratch_objects: &[u32], scratch_links:
 }
 
 // Runs a batch on a copy of the lent register's used rows. Where no refusal is met, the scratch is the register after it.
-pub fn run(
-    n: Counts,
-    types: &[u32],
-    floors: &[u32],
-    relationships: &[u32],
-    rules: &[u32],
-    bodies: &[u32],
-    objects: &[u32],
-    links: &[u32],
-    events: &[u32],
-    scratch_objects: &mut [u32],
-    scratch_links: &mut [u32],
-) -> Ran
-    ensures { LentRun n (sheet_of types.now floors.now relationships.now rules.now bodies.now objects.now links.now events.now)
+pub fn run(n: Counts, sheet: &Sheet, scratch_objects: &mut [u32], scratch_links: &mut [u32]) -> Ran
+    ensures { LentRun n (sheet_in sheet.now)
         scratch_objects.old scratch_links.old result scratch_objects.new scratch_links.new }
 {
-    let too_short = short(objects, links, &*scratch_objects, &*scratch_links);
-    match checks::check_all(
-        n,
-        types,
-        floors,
-        relationships,
-        rules,
-        bodies,
-        objects,
-        links,
-        events,
-        too_short,
-    ) {
-        Verdict::Refused(number, place) => events::refused(number, place, n.objects, n.links),
-        Verdict::Clear => events::run(
+    let too_short = short(
+        sheet.objects,
+        sheet.links,
+        &*scratch_objects,
+        &*scratch_links,
+    );
+    match checks::check_all(n, sheet, too_short) {
+        Err(refusal) => events::refused(refusal, n.objects, n.links),
+        Ok(()) => events::run(
             n.types,
-            types,
+            sheet.types,
             n.floors,
-            floors,
+            sheet.floors,
             n.relationships,
-            relationships,
+            sheet.relationships,
             n.objects,
-            objects,
+            sheet.objects,
             n.links,
-            links,
+            sheet.links,
             scratch_objects,
             scratch_links,
             n.events,
-            events,
+            sheet.events,
         ),
     }
 }

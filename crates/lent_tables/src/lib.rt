@@ -3,7 +3,7 @@
 
 ghost use Rattle.std.specs.Prelude.{◌≡◌, ◌||◌, not, []};
 ghost use Rattle.rows.specs.Rows.{whole_rows};
-ghost use Rattle.tables.specs.Layouts.{sheet_of, book_tables};
+ghost use Rattle.tables.specs.Layouts.{book_tables, register_sheet};
 ghost use Rattle.tables.specs.Refusals.{overfull, any_overfull, any_long, not_whole};
 
 use meaning::{
@@ -11,7 +11,7 @@ use meaning::{
 };
 use tables::{
     BODY_WIDTH, Counts, FLOOR_WIDTH, LINK_WIDTH, OBJECT_WIDTH, RELATIONSHIP_WIDTH, RULE_WIDTH,
-    TYPE_WIDTH,
+    Sheet, TYPE_WIDTH,
 };
 
 // 2: whether more rows are used than the limit allows or the slice has.
@@ -34,46 +34,35 @@ pub fn or(a: bool, b: bool) -> bool
 pub fn any_long(rules: &[u32], count: u32) -> bool
     ensures { result ≡ any_long rules.now count }
 {
-    let mut row: u32 = 0;
-    while row < count {
+    for row in 0..count {
         if MAX_FORMS < rows::word(rules, RULE_WIDTH, row, 1) {
             return true;
         }
-        row += 1;
     }
     false
 }
 
 // 2: whether a table of a book or a register has more used rows than it may.
-pub fn any_overfull(
-    n: Counts,
-    types: &[u32],
-    floors: &[u32],
-    relationships: &[u32],
-    rules: &[u32],
-    bodies: &[u32],
-    objects: &[u32],
-    links: &[u32],
-) -> bool
-    ensures { result ≡ any_overfull book_tables n (sheet_of types.now floors.now relationships.now rules.now bodies.now objects.now links.now []) }
+pub fn any_overfull(n: Counts, sheet: &Sheet) -> bool
+    ensures { result ≡ any_overfull book_tables n (register_sheet sheet.now) }
 {
-    let a = too_many(types, TYPE_WIDTH, n.types as usize, MAX_TYPES);
-    let b = too_many(floors, FLOOR_WIDTH, n.floors as usize, MAX_FLOORS);
+    let a = too_many(sheet.types, TYPE_WIDTH, n.types as usize, MAX_TYPES);
+    let b = too_many(sheet.floors, FLOOR_WIDTH, n.floors as usize, MAX_FLOORS);
     let c = too_many(
-        relationships,
+        sheet.relationships,
         RELATIONSHIP_WIDTH,
         n.relationships as usize,
         MAX_RELATIONSHIPS,
     );
-    let d = too_many(rules, RULE_WIDTH, n.rules as usize, MAX_RULES);
+    let d = too_many(sheet.rules, RULE_WIDTH, n.rules as usize, MAX_RULES);
     let e = too_many(
-        bodies,
+        sheet.bodies,
         BODY_WIDTH,
         (n.rules as usize) * (MAX_FORMS as usize),
         MAX_RULES * MAX_FORMS,
     );
-    let f = too_many(objects, OBJECT_WIDTH, n.objects as usize, MAX_OBJECTS);
-    let g = too_many(links, LINK_WIDTH, n.links as usize, MAX_LINKS);
+    let f = too_many(sheet.objects, OBJECT_WIDTH, n.objects as usize, MAX_OBJECTS);
+    let g = too_many(sheet.links, LINK_WIDTH, n.links as usize, MAX_LINKS);
     or(a, or(b, or(c, or(d, or(e, or(f, or(g, false)))))))
 }
 
@@ -84,23 +73,15 @@ pub fn not_whole(t: &[u32], width: u32) -> bool
 }
 
 // 6: whether a table of a book or a register is not whole rows.
-pub fn any_broken(
-    types: &[u32],
-    floors: &[u32],
-    relationships: &[u32],
-    rules: &[u32],
-    bodies: &[u32],
-    objects: &[u32],
-    links: &[u32],
-) -> bool
-    ensures { result ≡ not_whole book_tables (sheet_of types.now floors.now relationships.now rules.now bodies.now objects.now links.now []) }
+pub fn any_broken(sheet: &Sheet) -> bool
+    ensures { result ≡ not_whole book_tables (register_sheet sheet.now) }
 {
-    let a = not_whole(types, TYPE_WIDTH);
-    let b = not_whole(floors, FLOOR_WIDTH);
-    let c = not_whole(relationships, RELATIONSHIP_WIDTH);
-    let d = not_whole(rules, RULE_WIDTH);
-    let e = not_whole(bodies, BODY_WIDTH);
-    let f = not_whole(objects, OBJECT_WIDTH);
-    let g = not_whole(links, LINK_WIDTH);
+    let a = not_whole(sheet.types, TYPE_WIDTH);
+    let b = not_whole(sheet.floors, FLOOR_WIDTH);
+    let c = not_whole(sheet.relationships, RELATIONSHIP_WIDTH);
+    let d = not_whole(sheet.rules, RULE_WIDTH);
+    let e = not_whole(sheet.bodies, BODY_WIDTH);
+    let f = not_whole(sheet.objects, OBJECT_WIDTH);
+    let g = not_whole(sheet.links, LINK_WIDTH);
     or(a, or(b, or(c, or(d, or(e, or(f, or(g, false)))))))
 }

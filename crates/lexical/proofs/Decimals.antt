@@ -15,7 +15,9 @@ use Rattle.meaning.specs.Lists.{every}
 use Rattle.rows.specs.Rows.{signed, word_of}
 use Rattle.rows.proofs.Words.{word_signed, signed_fits, signed_word, word_fits}
 use Rattle.lexical.specs.Decimals.{leading, digits_of, decimal_of, is_digit, digits_in, value_of, plain, Numeral, positive, negative, number_in, number_at}
-use Rattle.lexical.specs.declared.Number.TheVariants.{Value}
+use Rattle.std.specs.Prelude.{Some}
+use Rattle.std.proofs.lemmas.Option.{same_Some}
+use Rattle.lexical.specs.declared.Number.{Number}
 use Rattle.lexical.proofs.Runs.{both, take_run, run_passes, after_run, run_append}
 use Rattle.lexical.proofs.Spelling.{digit_is, value_digits, every_digits, plain_digits, digits_value}
 
@@ -102,12 +104,15 @@ one_spelling k l m n e f h = (written_read k m e).text ∙ ap decimal_of h ∙ s
 
 -- ---- the same of words, as the reader answers
 
+abbrev pub number : ℕ → ℕ → Number
+number w next = record { word = w; next = next }
+
 pub read_word : (w at : ℕ) (rest : List ℕ) → w < 2 ^ 32 → is_digit (get_or rest 0 0) ≡ false
-    → number_at at (number_in (decimal_of (signed w) ++ rest)) ≡ Value w (at + length (decimal_of (signed w)))
+    → number_at at (number_in (decimal_of (signed w) ++ rest)) ≡ Some (number w (at + length (decimal_of (signed w))))
 unfolding fits_word
 read_word w at rest h k =
     rw (read_written (signed w) rest (lt-ltb (mag (signed w)) (2 ^ 31) (signed_fits w)) k)
-    (ap (λ (v : ℕ). Value v (at + length (decimal_of (signed w)))) (word_signed w h))
+    (ap (λ (v : ℕ). Some (number v (at + length (decimal_of (signed w))))) (word_signed w h))
 
 -- the bytes from the place up to the next are the word's decimal, and no digit follows
 pub record SpelledWord (l : List ℕ) (at w next : ℕ) : Type 0 where
@@ -115,17 +120,18 @@ pub record SpelledWord (l : List ℕ) (at w next : ℕ) : Type 0 where
   pub fits : w < 2 ^ 32
   pub ends : is_digit (get_or l (next - at) 0) ≡ false
 
-pub word_read : (l : List ℕ) (at w next : ℕ) → number_at at (number_in l) ≡ Value w next → SpelledWord l at w next
+pub word_read : (l : List ℕ) (at w next : ℕ) → number_at at (number_in l) ≡ Some (number w next) → SpelledWord l at w next
 unfolding fits_word
 word_read l at w next e = go (number_in l) refl e
   where
-    go : (o : Option Numeral) → number_in l ≡ o → number_at at o ≡ Value w next → SpelledWord l at w next
-    go none f g = absurd (let z : ◌≡◌ {A = ℕ} 0 1 = cc in omega arith)
+    go : (o : Option Numeral) → number_in l ≡ o → number_at at o ≡ Some (number w next) → SpelledWord l at w next
+    go none f g = absurd (grind arith)
     go (some m) f g =
         let s = written_read l m f in
         let small : mag m.value < 2 ^ 31 = ltb-true (mag m.value) (2 ^ 31) s.fits in
-        let word : word_of m.value ≡ w = cc in
-        let end : at + m.size ≡ next = cc in
+        let same = same_Some _ _ g in
+        let word : word_of m.value ≡ w = ap (λ (n : Number). n.word) same in
+        let end : at + m.size ≡ next = ap (λ (n : Number). n.next) same in
         let size : next - at ≡ m.size = omega arith in
         let back : signed w ≡ m.value = ap signed (sym word) ∙ signed_word m.value small in
         record {

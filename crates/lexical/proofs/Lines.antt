@@ -1,11 +1,11 @@
 -- A text is its first line and what follows it.
-use Prim.Native.Nat.{ℕ, ◌+◌, ◌-◌, ◌≤◌}
+use Prim.Native.Nat.{ℕ, ◌+◌, ◌-◌}
 use mathlib.Core.Path.{◌≡◌, refl, sym, ap, ◌∙◌}
-use mathlib.Core.Bool.{true, false}
+use mathlib.Core.Bool.{true}
 use mathlib.Core.List.{List, ◌∷◌, ◌++◌}
 use native.Mathlib.Omega.{arith}
 use lib.Dec.{eqb}
-use lib.ListN.{length, get_or, take, drop, take-append-drop, get_or-eq_default}
+use lib.ListN.{length, get_or, take, drop, take-append-drop}
 use lib.Seq.{get_or-drop, get_or-append_seam}
 use Rattle.meaning.specs.Lists.{every}
 use Rattle.lexical.specs.Lines.{is_inner, line_in, line_ended}
@@ -34,6 +34,3 @@ module _ (t : List ℕ) (i e : ℕ) (h : e ≡ i + length (line_in (drop i t))) 
 
   pub ended_at_lem : eqb (get_or t e 0) 10 ≡ line_ended (drop i t)
   ended_at_lem = rw h (ap (λ (b : ℕ). eqb b 10) (sym (get_or-drop i t (length (line_in (drop i t))) 0)))
-
-  pub not_ended : length t ≤ e → false ≡ line_ended (drop i t)
-  not_ended k = ap (λ (b : ℕ). eqb b 10) (sym (get_or-eq_default t 0 k)) ∙ ended_at_lem

@@ -1,13 +1,13 @@
 -- The bytes at the start of a list that pass a test.
 use Prim.Native.Nat.{ℕ, ◌+◌, ◌-◌, ◌≤◌, ◌<◌}
-use mathlib.Core.Path.{◌≡◌, refl, ap, ◌∙◌}
+use mathlib.Core.Path.{◌≡◌, refl, ap}
 use mathlib.Core.Bool.{Bool, true, false, ◌&&◌, cond, false≢true}
 use mathlib.Core.List.{List, [], ◌∷◌, ◌++◌}
-use native.Mathlib.Nat.{le_refl, add-zero, not-suc-le-zero}
+use native.Mathlib.Nat.{le_refl}
 use native.Mathlib.Numerals.{add-one}
 use native.Mathlib.Omega.{arith}
-use lib.ListN.{length, get_or, take, drop, length-drop, drop_of_length-le}
-use lib.Seq.{drop-cons, get_or-drop}
+use lib.ListN.{length, get_or, take, drop, length-drop}
+use lib.Seq.{drop-cons}
 use Rattle.meaning.specs.Lists.{every}
 use Rattle.lexical.specs.Runs.{run}
 
@@ -21,12 +21,6 @@ module _ (p : ℕ → Bool) where
   pub run_go : (t : List ℕ) (i : ℕ) → i < length t → p (get_or t i 0) ≡ true → run p (drop i t) ≡ get_or t i 0 ∷ run p (drop (i + 1) t)
   run_go t i h e = rw (add-one, drop-cons t i 0, e)
 
-  pub run_stop : (t : List ℕ) (i : ℕ) → i < length t → p (get_or t i 0) ≡ false → run p (drop i t) ≡ []
-  run_stop t i h e = rw (drop-cons t i 0, e)
-
-  pub run_end : (t : List ℕ) (i : ℕ) → length t ≤ i → run p (drop i t) ≡ []
-  run_end t i h = rw (drop_of_length-le t h)
-
   -- the run ends within the text, and its first byte is the one at the place
   run_short : (l : List ℕ) → length (run p l) ≤ length l
   run_short [] = le_refl 0
@@ -38,17 +32,6 @@ module _ (p : ℕ → Bool) where
 
   pub run_within : (t : List ℕ) (i : ℕ) → length (run p (drop i t)) ≤ length t - i
   run_within t i = rw length-drop at (run_short (drop i t))
-
-  first : (l : List ℕ) → 0 < length (run p l) → get_or (run p l) 0 0 ≡ get_or l 0 0
-  first [] h = refl
-  first (b ∷ l) h = step (p b) h
-    where
-      step : (q : Bool) → 0 < length (cond q (b ∷ run p l) []) → get_or (cond q (b ∷ run p l) []) 0 0 ≡ b
-      step true k = refl
-      step false k = absurd (not-suc-le-zero k)
-
-  pub run_first : (t : List ℕ) (i : ℕ) → 0 < length (run p (drop i t)) → get_or (run p (drop i t)) 0 0 ≡ get_or t i 0
-  run_first t i h = first (drop i t) h ∙ get_or-drop i t 0 0 ∙ rw add-zero
 
   -- the run is the front of the list, all of it passes, and what stands after it does not
   pub take_run : (l : List ℕ) → take (length (run p l)) l ≡ run p l

@@ -1,14 +1,14 @@
 -- The digits of a number: what they are made of, and what they say.
 use Prim.Native.Nat.{ℕ, zero, suc, ◌+◌, ◌-◌, ◌*◌, ◌/◌, ◌%◌, ◌^◌, ◌≤◌, ◌<◌}
 use mathlib.Core.Path.{◌≡◌, refl, sym, ap, ◌∙◌}
-use mathlib.Core.Bool.{true, false, false≢true, or-true, and-false}
+use mathlib.Core.Bool.{true, false≢true, or-true}
 use mathlib.Core.List.{List, [], ◌∷◌, ◌++◌, append-nil, append_assoc}
 use native.Mathlib.Nat.{not-suc-le-zero, le_refl, pow-suc}
 use native.Mathlib.Numerals.{add-one}
 use native.Mathlib.Omega.{arith}
-use borrow.Author.Tests.{lt-ltb, le-ltb, lt-leb, le-leb, leb-true, eq-eqb, ne_eqb, eqb-false, not-true}
+use borrow.Author.Tests.{lt-ltb, le-ltb, le-leb, leb-true, ne_eqb, eqb-false, not-true}
 use lib.Dec.{eqb, leb, eqb-suc-zero}
-use lib.ListN.{length, get_or, drop, set, length-append, drop_of_length-le}
+use lib.ListN.{length, drop, set, length-append, drop_of_length-le}
 use Rattle.meaning.specs.Lists.{every}
 use Rattle.rows.specs.Rows.{signed}
 use Rattle.lexical.specs.Decimals.{leading, digits_of, decimal_of, is_digit, value_from, value_of, plain}
@@ -28,12 +28,6 @@ digit_is b e =
 
 pub is_digit_lem : (b : ℕ) → 48 ≤ b → b ≤ 57 → is_digit b ≡ true
 is_digit_lem b h k = rw (le-leb 48 b h, le-leb b 57 k)
-
-pub below_digits : (b : ℕ) → b < 48 → is_digit b ≡ false
-below_digits b h = rw (lt-leb 48 b h)
-
-pub above_digits : (b : ℕ) → 57 < b → is_digit b ≡ false
-above_digits b h = rw (lt-leb b 57 h) (and-false (leb 48 b))
 
 -- ---- the digits of q, none of 0
 
@@ -205,34 +199,3 @@ digits_value (d ∷ x ∷ ds) e p =
     (sym (lead_digits (value_from (d - 48) (x ∷ ds)) (value_grows (d - 48) (x ∷ ds) h))
     ∙ lead_value (d - 48) (x ∷ ds) h f.1
     ∙ rw (lead_one (d - 48) h (omega (arith, k.high)), b))
-
--- ---- the tests that the reader makes
-
-module _ (ds : List ℕ) where
-  pub plain_none : length ds ≤ 0 → plain ds ≡ false
-  plain_none = go ds
-    where
-      go : (s : List ℕ) → length s ≤ 0 → plain s ≡ false
-      go [] h = refl
-      go (d ∷ s) h = absurd (not-suc-le-zero h)
-
-  pub plain_zero : get_or ds 0 0 ≡ 48 → 1 < length ds → plain ds ≡ false
-  plain_zero = go ds
-    where
-      go : (s : List ℕ) → get_or s 0 0 ≡ 48 → 1 < length s → plain s ≡ false
-      go [] e h = refl
-      go (d ∷ s) e h = rw (ne_eqb (length s) 0 (omega arith), eq-eqb d 48 e)
-
-  pub plain_one : length ds ≡ 1 → plain ds ≡ true
-  plain_one = go ds
-    where
-      go : (s : List ℕ) → length s ≡ 1 → plain s ≡ true
-      go [] h = absurd (omega arith)
-      go (d ∷ s) h = rw (eq-eqb (length s) 0 (omega arith))
-
-  pub plain_some : (get_or ds 0 0 ≡ 48 → ⊥) → 0 < length ds → plain ds ≡ true
-  plain_some = go ds
-    where
-      go : (s : List ℕ) → (get_or s 0 0 ≡ 48 → ⊥) → 0 < length s → plain s ≡ true
-      go [] n h = absurd (not-suc-le-zero h)
-      go (d ∷ s) n h = rw (ne_eqb d 48 n) (or-true (eqb (length s) 0))

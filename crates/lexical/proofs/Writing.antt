@@ -7,8 +7,8 @@ use native.Mathlib.Numerals.{add-one}
 use native.Mathlib.Omega.{arith}
 use native.Mathlib.Decide.{dec_le}
 use borrow.Author.Tests.{lt-leb, le-leb, leb-true}
-use lib.ListN.{length, get_or, take, drop, set, length-set, length-append, length-take, length-drop}
-use lib.Seq.{drop-cons, get_or-set_same, drop-set-lt, paste, paste-suc, take-length, take_at, drop_at, drop-drop}
+use lib.ListN.{length, take, drop, set, length-set, length-append, length-take, length-drop}
+use lib.Seq.{drop-cons, get_or-set_same, drop-set-lt, take_at, drop_at, drop-drop}
 use Rattle.lexical.specs.Writing.{fits_at, written, place_after}
 
 -- a byte before those from a place on
@@ -16,11 +16,6 @@ pub drop_set : (l : List ℕ) (i v : ℕ) → i < length l → drop i (set l i v
 drop_set l i v h =
     drop-cons (set l i v) i 0 (rw length-set h)
     ∙ rw (get_or-set_same l i v 0 h, add-one, drop-set-lt (suc i) l i v (omega arith))
-
--- a turn of the loop that copies
-pub paste_more : (d : List ℕ) (at : ℕ) (s : List ℕ) (j : ℕ) {l : List ℕ} → l ≡ paste d at s j → at + j < length d → j < length s
-    → set l (at + j) (get_or s j 0) ≡ paste d at s (j + 1)
-paste_more d at s j e h k = rw (e, add-one) (paste-suc d at s j 0 h k)
 
 -- the bytes fit, or they do not
 module _ (d : List ℕ) (at : ℕ) (s : List ℕ) where
@@ -31,9 +26,6 @@ module _ (d : List ℕ) (at : ℕ) (s : List ℕ) where
   pub text_is : at + length s ≤ length d → written d at s ≡ take at d ++ s ++ drop (at + length s) d
   unfolding written
   text_is h = rw (le-leb (at + length s) (length d) h)
-
-  pub fits_text : at + length s ≤ length d → written d at s ≡ paste d at s (length s)
-  fits_text h = text_is h ∙ rw (take-length s)
 
   pub over_place : length d < at + length s → place_after d at s ≡ length d + 1
   unfolding place_after

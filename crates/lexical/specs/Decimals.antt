@@ -1,10 +1,10 @@
 -- Numbers as text: "Decimal, `-` before negatives, no leading zero, no minus zero".
-use Rattle.std.specs.Prelude.{ℕ, zero, suc, ◌+◌, ◌-◌, ◌*◌, ◌/◌, ◌%◌, ◌^◌, min, Bool, false, ◌&&◌, ◌||◌, not, cond, List, [], ◌∷◌, ◌++◌, leb, ltb, eqb, length, ℤ, pos, negsuc}
-use Rattle.std.proofs.Math.Option.{Option, none, some}
+use Rattle.std.specs.Prelude.{ℕ, zero, suc, ◌+◌, ◌-◌, ◌*◌, ◌/◌, ◌%◌, ◌^◌, min, Bool, false, ◌&&◌, ◌||◌, not, cond, List, [], ◌∷◌, ◌++◌, leb, ltb, eqb, length, ℤ, pos, negsuc, Option, Some, None}
+use Rattle.std.proofs.Math.Option.{Option as Maybe, none, some}
 use Rattle.rows.specs.Rows.{word_of}
 use Rattle.lexical.specs.Runs.{run}
 use Rattle.lexical.specs.declared.Number.{Number}
-use Rattle.lexical.specs.declared.Number.TheVariants.{Value, Bad}
+use Rattle.lexical.specs.declared.Digits.{Digits}
 
 -- ---- a number's text
 
@@ -52,25 +52,25 @@ pub record Numeral : Type 0 where
   pub size : ℕ
 
 -- digits as a number of signed 32 bits: at most 2^31 - 1
-unfoldable pub positive : List ℕ → Option Numeral
+unfoldable pub positive : List ℕ → Maybe Numeral
 positive ds = cond (plain ds && ltb (value_of ds) (2 ^ 31)) (some (record { value = pos (value_of ds); size = length ds })) none
 
 -- digits after a `-`: "no minus zero", and at most 2^31
-unfoldable pub negative : List ℕ → Option Numeral
+unfoldable pub negative : List ℕ → Maybe Numeral
 negative ds =
     cond (plain ds && (ltb 0 (value_of ds) && leb (value_of ds) (2 ^ 31)))
     (some (record { value = negsuc (value_of ds - 1); size = suc (length ds) }))
     none
 
 -- "Decimal, `-` before negatives": the number that the longest run of digits says, after a `-` or not
-unfoldable pub number_in : List ℕ → Option Numeral
+unfoldable pub number_in : List ℕ → Maybe Numeral
 number_in [] = none
 number_in (b ∷ l) = cond (eqb b 45) (negative (digits_in l)) (positive (digits_in (b ∷ l)))
 
 -- ---- what the reader answers of a number that starts at a place: its word, and the place after it
-abbrev pub number_at : ℕ → Option Numeral → Number
-number_at at none = Bad
-number_at at (some n) = Value (word_of n.value) (at + n.size)
+abbrev pub number_at : ℕ → Maybe Numeral → Option Number
+number_at at none = None
+number_at at (some n) = Some (record { word = word_of n.value; next = at + n.size })
 
 -- ---- what the reader keeps of digits, however many
 
@@ -81,6 +81,6 @@ too_large = 2147483649
 abbrev pub cut_value : List ℕ → ℕ
 cut_value ds = min too_large (value_of ds)
 
--- and so do digits that are not plain
-abbrev pub plain_value : List ℕ → ℕ
-plain_value ds = cond (plain ds) (cut_value ds) too_large
+-- the same of plain digits at a place, and where they end
+abbrev pub plain_at : ℕ → List ℕ → Option Digits
+plain_at at ds = cond (plain ds) (Some (record { value = cut_value ds; end = at + length ds })) None

@@ -3,15 +3,15 @@
 
 ghost use Rattle.std.specs.Prelude.{◌≡◌, ◌+◌, ◌≤◌, ◌<◌, length, drop};
 ghost use Rattle.rows.specs.Rows.{signed};
-ghost use Rattle.lexical.specs.Decimals.{digits_of, decimal_of, digits_in, cut_value, plain_value, negative, number_in, number_at};
+ghost use Rattle.lexical.specs.Decimals.{digits_of, decimal_of, digits_in, cut_value, plain_at, negative, number_in, number_at};
 ghost use Rattle.lexical.specs.Lines.{line_in, line_ended};
 ghost use Rattle.lexical.specs.Writing.{written, place_after};
 
 // A number that was read: its two's complement word, and the place after it.
 #[derive(Clone, Copy)]
-pub enum Number {
-    Value { word: u32, next: usize },
-    Bad,
+pub struct Number {
+    pub word: u32,
+    pub next: usize,
 }
 
 // What the digits at a place say, and where they end.
@@ -26,79 +26,65 @@ fn scan(text: &[u8], at: usize) -> Digits
     ensures { (result.value ≡ cut_value (digits_in (drop at text.now))) × (result.end ≡ at + length (digits_in (drop at text.now))) }
 {
     let mut value: u64 = 0;
-    let mut i = at;
-    while i < text.len() {
+    for i in at..text.len() {
         let b = text[i];
-        if b < 48 {
+        if !b.is_ascii_digit() {
             return Digits { value, end: i };
         }
-        if 57 < b {
-            return Digits { value, end: i };
-        }
-        let next = value * 10 + ((b - 48) as u64);
-        value = if next < 2147483649 { next } else { 2147483649 };
-        i += 1;
+        value = (value * 10 + ((b - b'0') as u64)).min(2147483649);
     }
-    Digits { value, end: i }
+    Digits {
+        value,
+        end: text.len().max(at),
+    }
 }
 
-// The same of plain digits, and 2^31 + 1 where there is none or a 0 before others.
-fn plain_digits(text: &[u8], at: usize) -> Digits
-    ensures { (result.value ≡ plain_value (digits_in (drop at text.now))) × (result.end ≡ at + length (digits_in (drop at text.now))) }
+// The same of plain digits; none where there is no digit or a 0 before others.
+fn plain_digits(text: &[u8], at: usize) -> Option<Digits>
+    ensures { result ≡ plain_at at (digits_in (drop at text.now)) }
 {
     let d = scan(text, at);
     let end = d.end;
     if end <= at {
-        return Digits {
-            value: 2147483649,
-            end,
-        };
+        return None;
     }
-    if text[at] == 48 {
-        if at + 1 < end {
-            return Digits {
-                value: 2147483649,
-                end,
-            };
-        }
+    if text[at] == b'0' && at + 1 < end {
+        return None;
     }
-    d
+    Some(d)
 }
 
 // The number whose `-` stands at the place.
-fn read_negative(text: &[u8], at: usize) -> Number
+fn read_negative(text: &[u8], at: usize) -> Option<Number>
     requires { at < length text.now }
     ensures { result ≡ number_at at (negative (digits_in (drop (at + 1) text.now))) }
 {
-    let d = plain_digits(text, at + 1);
+    let d = plain_digits(text, at + 1)?;
     let value = d.value;
-    if value < 1 {
-        return Number::Bad;
-    }
-    if 2147483648 < value {
-        return Number::Bad;
+    if value < 1 || 2147483648 < value {
+        return None;
     }
     let word = (4294967296 - value) as u32;
-    Number::Value { word, next: d.end }
+    Some(Number { word, next: d.end })
 }
 
 // The number at a place, in its one spelling; past the end there is none.
-pub fn read_number(text: &[u8], at: usize) -> Number
+pub fn read_number(text: &[u8], at: usize) -> Option<Number>
     ensures { result ≡ number_at at (number_in (drop at text.now)) }
 {
     if text.len() <= at {
-        return Number::Bad;
+        return None;
     }
-    if text[at] == 45 {
+    if text[at] == b'-' {
         return read_negative(text, at);
     }
-    let d = plain_digits(text, at);
+    let d = plain_digits(text, at)?;
     let value = d.value;
     if 2147483647 < value {
-        return Number::Bad;
+        return None;
     }
     let word = value as u32;
-    Number::Value { word, next: d.end }
+    Some(Number { word, next: d.end })
 }
 
 // Puts the digits of n at the end of the buffer, and answers where they start.
@@ -107,11 +93,11 @@ fn spell_digits(n: u32, buffer: &mut [u8; 11]) -> usize
     ensures { (1 ≤ result) × (result ≤ 10) × (drop result buffer.new ≡ digits_of n) × (length buffer.new ≡ 11) }
 {
     let mut i = 10;
-    buffer[i] = 48 + (n % 10) as u8;
+    buffer[i] = b'0' + (n % 10) as u8;
     let mut rest = n / 10;
     while 0 < rest {
         i -= 1;
-        buffer[i] = 48 + (rest % 10) as u8;
+        buffer[i] = b'0' + (rest % 10) as u8;
         rest /= 10;
     }
     i
@@ -123,11 +109,11 @@ fn spell(word: u32, buffer: &mut [u8; 11]) -> usize
     ensures { (result ≤ 10) × (drop result buffer.new ≡ decimal_of (signed word)) × (length buffer.new ≡ 11) }
 {
     if word < 2147483648 {
-        return spell_digits(word, &mut *buffer);
+        return spell_digits(word, buffer);
     }
-    let start = spell_digits(4294967295 - word + 1, &mut *buffer);
+    let start = spell_digits(4294967295 - word + 1, buffer);
     let sign = start - 1;
-    buffer[sign] = 45;
+    buffer[sign] = b'-';
     sign
 }
 
@@ -135,18 +121,12 @@ fn spell(word: u32, buffer: &mut [u8; 11]) -> usize
 pub fn write_bytes(out: &mut [u8], at: usize, bytes: &[u8]) -> usize
     ensures { (result ≡ place_after out.old at bytes.now) × (out.new ≡ written out.old at bytes.now) }
 {
-    if out.len() < at {
+    if out.len() < at || out.len() - at < bytes.len() {
         return out.len() + 1;
     }
-    if out.len() - at < bytes.len() {
-        return out.len() + 1;
-    }
-    let mut i = 0;
-    while i < bytes.len() {
-        out[at + i] = bytes[i];
-        i += 1;
-    }
-    at + i
+    let end = at + bytes.len();
+    out[at..end].copy_from_slice(bytes);
+    end
 }
 
 // Puts a word's decimal at a place, as write_bytes does.
@@ -162,14 +142,12 @@ pub fn write_number(out: &mut [u8], at: usize, word: u32) -> usize
 pub fn line_end(text: &[u8], at: usize) -> usize
     ensures { result ≡ at + length (line_in (drop at text.now)) }
 {
-    let mut i = at;
-    while i < text.len() {
-        if text[i] == 10 {
+    for i in at..text.len() {
+        if text[i] == b'\n' {
             return i;
         }
-        i += 1;
     }
-    i
+    text.len().max(at)
 }
 
 // The line at a place, as the very part of the text; past the end it is empty.
@@ -188,8 +166,5 @@ pub fn is_ended(text: &[u8], at: usize) -> bool
     ensures { result ≡ line_ended (drop at text.now) }
 {
     let end = line_end(text, at);
-    if end < text.len() {
-        return text[end] == 10;
-    }
-    false
+    end < text.len() && text[end] == b'\n'
 }

@@ -3,7 +3,9 @@ use Prim.Native.Nat.{ℕ, ◌+◌, ◌-◌, ◌≤◌}
 use mathlib.Core.Path.{◌≡◌, refl, sym, ap, subst, ◌∙◌}
 use mathlib.Core.Bool.{Bool, true, false, ◌&&◌, cond, false≢true}
 use mathlib.Core.List.{List, [], ◌∷◌}
-use mathlib.Core.Option.{Option, none, some, bind, none-ne-some}
+use Rattle.std.specs.Prelude.{Option, Some, None}
+use Rattle.std.proofs.lemmas.Option.{none-some}
+use mathlib.Core.Option.{Option as Maybe, none, some, bind, none-ne-some}
 use native.Mathlib.Omega.{arith}
 use lib.Dec.{eqb, leb}
 use lib.ListN.{length, get_or, drop}
@@ -11,21 +13,21 @@ use borrow.Author.Tests.{eqb-true, eqb-false}
 use Rattle.meaning.specs.Limits.{max_forms, cell_count}
 use Rattle.tables.specs.Layouts.{floor_table, link_table}
 use Rattle.text.specs.Names.{rule_name, type_name, floor_name, relationship_name, object_name, link_name, first_event, letters_in, place_of}
-use Rattle.text.specs.Tokens.{Token, item, is_word, token_in, tokens_in, bracket_in}
+use Rattle.text.specs.Tokens.{Token, begin, item, end, is_word, token_in, tokens_in, bracket_in}
 use Rattle.text.specs.Bodies.{Written, forms_in, padded, form_in}
 use Rattle.text.specs.Entries.{Entry, row, rule, section_of, count_of, last_section, items_in, row_if, event_section, parent_word, is_type_line, is_relationship_line, is_object_line, is_plain_line, is_event_line, type_in, relationship_in, object_in, plain_in, event_in, row_in, only_end, body_in, rule_in, inside_in, in_order, entry_in}
 use Rattle.tokens.specs.Tokens.{found_at}
 use Rattle.brackets.specs.Whole.{WholeBody}
 use Rattle.line_reader.specs.declared.line.ItemAt.{ItemAt}
-use Rattle.line_reader.specs.Rows.{no_row, row_held, item_of, body_place}
+use Rattle.line_reader.specs.Rows.{row_held, item_of, next_of, next_after, body_place}
 use Rattle.line_reader.proofs.Lines.{bind_nothing, not_item, is_item, says_empty, says_other, named}
 
-bind_some : {A B : Type 0} (o : Option A) (f : A → Option B) (b : B) → bind o f ≡ some b → (a : A) × (o ≡ some a) × (f a ≡ some b)
+bind_some : {A B : Type 0} (o : Maybe A) (f : A → Maybe B) (b : B) → bind o f ≡ some b → (a : A) × (o ≡ some a) × (f a ≡ some b)
 unfolding bind
 bind_some none f b e = absurd (none-ne-some b e)
 bind_some (some a) f b e = (a, refl, e)
 
-not_none : {A : Type 0} (a : A) {o : Option A} → o ≡ none → o ≡ some a → ⊥
+not_none : {A : Type 0} (a : A) {o : Maybe A} → o ≡ none → o ≡ some a → ⊥
 not_none a p q = none-ne-some a (sym p ∙ q)
 
 order_same : (before : List Entry) (e f : Entry) → in_order before e ≡ some f → e ≡ f
@@ -39,7 +41,7 @@ order_same before e f q = step (leb (last_section 0 before) (section_of e)) q
 -- ---- a row is no rule
 
 module _ (t : ℕ) (w : Written) where
-  abbrev is_row : Option Entry → Bool
+  abbrev is_row : Maybe Entry → Bool
   is_row none = true
   is_row (some (row s words)) = true
   is_row (some (rule c b)) = false
@@ -48,7 +50,7 @@ module _ (t : ℕ) (w : Written) where
   if_no true s words = refl
   if_no false s words = refl
 
-  one_of : (b : Bool) (x y : Option Entry) → is_row x ≡ true → is_row y ≡ true → is_row (cond b x y) ≡ true
+  one_of : (b : Bool) (x y : Maybe Entry) → is_row x ≡ true → is_row y ≡ true → is_row (cond b x y) ≡ true
   one_of true x y p q = p
   one_of false x y p q = q
 
@@ -78,56 +80,36 @@ body_context c ts t w q =
     step false form q = absurd (none-ne-some (rule t w) q)
 
 module _ (before : List Entry) (line : List ℕ) (t : ℕ) (w : Written) where
-  -- from a rule's number on
-  module _ (at : ℕ) (q : bind (tokens_in (drop at line)) (rule_in before) ≡ some (rule t w)) where
-    abbrev number : ItemAt
-    number = item_of (found_at at (token_in (drop at line)))
+  -- an item stands where nothing is said of other tokens
+  item_there : (at : ℕ) (says : List Token → Maybe Entry) → bind (tokens_in (drop at line)) says ≡ some (rule t w) → says [] ≡ none → ((k : ℕ) (ts : List Token) → says (begin k ∷ ts) ≡ none) → ((ts : List Token) → says (end ∷ ts) ≡ none)
+      → (i : ItemAt) × (item_of (found_at at (token_in (drop at line))) ≡ Some i) × (bind (tokens_in (drop i.next line)) (λ ts. says (item i.value ∷ ts)) ≡ some (rule t w))
+  item_there at says q empty begins ends = step (item_of (found_at at (token_in (drop at line)))) refl
+    where
+      step : (o : Option ItemAt) → item_of (found_at at (token_in (drop at line))) ≡ o
+          → (i : ItemAt) × (item_of (found_at at (token_in (drop at line))) ≡ Some i) × (bind (tokens_in (drop i.next line)) (λ ts. says (item i.value ∷ ts)) ≡ some (rule t w))
+      step None h = absurd (not_none (rule t w) (not_item line at says h empty begins ends) q)
+      step (Some i) h = (i, h, sym (is_item line at says i h) ∙ q)
 
-    abbrev context : ItemAt
-    context = item_of (found_at number.next (token_in (drop number.next line)))
-
-    abbrev says_context : List Token → Option Entry
-    says_context ts = rule_in before (item number.value ∷ ts)
-
-    numbered : number.good ≡ true
-    unfolding rule_in
-    numbered = step number.good refl
-      where
-        step : (b : Bool) → number.good ≡ b → number.good ≡ true
-        step true h = h
-        step false h = absurd (not_none (rule t w) (not_item line at (rule_in before) h refl (λ k ts. refl) (λ ts. refl)) q)
-
-    at_context : bind (tokens_in (drop number.next line)) says_context ≡ some (rule t w)
-    at_context = sym (is_item line at (rule_in before) numbered) ∙ q
-
-    typed : context.good ≡ true
-    unfolding rule_in
-    typed = step context.good refl
-      where
-        step : (b : Bool) → context.good ≡ b → context.good ≡ true
-        step true h = h
-        step false h = absurd (not_none (rule t w) (not_item line number.next says_context h refl (λ k ts. refl) (λ ts. refl)) at_context)
-
-    at_body : bind (tokens_in (drop context.next line)) (λ ts. cond (eqb number.value (count_of rule_name before) && is_word context.value) (body_in context.value ts) none) ≡ some (rule t w)
-    unfolding rule_in
-    at_body = sym (is_item line number.next says_context typed) ∙ at_context
-
-    in_context_lem : bind (tokens_in (drop context.next line)) (body_in context.value) ≡ some (rule t w)
-    in_context_lem = step (eqb number.value (count_of rule_name before) && is_word context.value) at_body
-      where
-        step : (b : Bool) → bind (tokens_in (drop context.next line)) (λ ts. cond b (body_in context.value ts) none) ≡ some (rule t w) → bind (tokens_in (drop context.next line)) (body_in context.value) ≡ some (rule t w)
-        step true r = r
-        step false r = absurd (not_none (rule t w) (bind_nothing (tokens_in (drop context.next line)) (λ ts. none) (λ ts. refl)) r)
-
-    pub body_read : bind (tokens_in (drop context.next line)) (body_in t) ≡ some (rule t w)
-    body_read =
-        let (ts, found, body) = bind_some (tokens_in (drop context.next line)) (body_in context.value) (rule t w) in_context_lem in
-        subst (λ c. bind (tokens_in (drop context.next line)) (body_in c) ≡ some (rule t w)) (body_context context.value ts t w body) in_context_lem
+  -- a rule's body, after its number and its context
+  pub body_read : (at : ℕ) → bind (tokens_in (drop at line)) (rule_in before) ≡ some (rule t w) → bind (tokens_in (drop (next_after line (next_after line at)) line)) (body_in t) ≡ some (rule t w)
+  unfolding rule_in
+  body_read at q =
+      let (number, n_is, at_context) = item_there at (rule_in before) q refl (λ k ts. refl) (λ ts. refl) in
+      let (context, c_is, at_body) = item_there number.next (λ ts. rule_in before (item number.value ∷ ts)) at_context refl (λ k ts. refl) (λ ts. refl) in
+      let first : next_after line at ≡ number.next = ap next_of n_is in
+      let second : next_after line number.next ≡ context.next = ap next_of c_is in
+      let body = in_context context (eqb number.value (count_of rule_name before) && is_word context.value) at_body in
+      let (ts, found, said) = bind_some (tokens_in (drop context.next line)) (body_in context.value) (rule t w) body in
+      rw (first, second) (subst (λ c. bind (tokens_in (drop context.next line)) (body_in c) ≡ some (rule t w)) (body_context context.value ts t w said) body)
+    where
+      in_context : (context : ItemAt) (b : Bool) → bind (tokens_in (drop context.next line)) (λ ts. cond b (body_in context.value ts) none) ≡ some (rule t w) → bind (tokens_in (drop context.next line)) (body_in context.value) ≡ some (rule t w)
+      in_context context true r = r
+      in_context context false r = absurd (not_none (rule t w) (bind_nothing (tokens_in (drop context.next line)) (λ ts. none) (λ ts. refl)) r)
 
   module _ (q : bind (bracket_in line) (inside_in before) ≡ some (rule t w)) where
-    no_row_lem : no_row ≡ row_held (bind (bracket_in line) (inside_in before)) → ⊥
-    unfolding row_held section_of
-    no_row_lem r = omega (arith, ap (λ h. h.section) (r ∙ ap row_held q))
+    no_row_lem : None ≡ row_held (bind (bracket_in line) (inside_in before)) → ⊥
+    unfolding row_held
+    no_row_lem r = none-some _ (r ∙ ap row_held q)
 
     long : 1 ≤ length line
     long = step line refl

@@ -1,13 +1,15 @@
 -- The row that the code holds of a line without an inner bracket is the row that the line says.
 use Prim.Native.Nat.{ℕ, zero, suc, ◌+◌, ◌-◌, ◌^◌, ◌≤◌, ◌<◌}
 use mathlib.Core.Path.{◌≡◌, refl, sym, ap, ap₂, ◌∙◌}
-use mathlib.Core.Bool.{Bool, true, false, ◌&&◌, ◌||◌, cond, and_assoc}
+use mathlib.Core.Bool.{Bool, true, false, ◌&&◌, ◌||◌, cond}
 use mathlib.Core.List.{List, [], ◌∷◌, ◌++◌}
-use mathlib.Core.Option.{Option, none, some, bind}
+use mathlib.Core.Option.{Option as Maybe, none, some, bind}
+use Rattle.std.specs.Prelude.{Option, Some, None}
+use Rattle.std.proofs.lemmas.Option.{none-some, same_Some}
 use native.Mathlib.Omega.{arith}
 use lib.Dec.{ltb, leb, eqb}
 use lib.ListN.{length, get_or, drop, replicate}
-use borrow.Author.Tests.{ltb-true, leb-true, leb-false, eqb-true, le-ltb, le-leb, ne_eqb}
+use borrow.Author.Tests.{ltb-true, leb-true, leb-false, eqb-true, le-leb, ne_eqb}
 use Rattle.meaning.specs.Lists.{every}
 use Rattle.meaning.specs.Limits.{cell_count}
 use Rattle.lexical.proofs.Runs.{both}
@@ -17,10 +19,10 @@ use Rattle.text.specs.Tokens.{dash, is_word}
 use Rattle.text.specs.Bodies.{padded}
 use Rattle.text.specs.Entries.{Entry, section_of, entry_words, count_of, cells_in, event_section, parent_word, event_fields, row_if, is_type_line, type_in, is_relationship_line, relationship_in, is_object_line, object_in, is_plain_line, plain_in, is_event_line, event_in, row_in}
 use Rattle.text.proofs.Entries.{fields_few, padded_length}
-use Rattle.tokens.specs.Tokens.{max_items, no_items, items_held}
+use Rattle.tokens.specs.Tokens.{max_items, items_held}
 use Rattle.tokens.specs.declared.ItemsFound.{ItemsFound}
 use Rattle.line_reader.specs.declared.line.Row.{Row}
-use Rattle.line_reader.specs.Rows.{no_row, row_held, value_at, row_when, type_held, relationship_held, object_held, plain_held, event_held, flat_held, Follows}
+use Rattle.line_reader.specs.Rows.{row_held, value_at, row_when, type_held, relationship_held, object_held, plain_held, event_held, flat_held, Follows}
 use Rattle.line_reader.proofs.Rows.{padded_all}
 
 and_left : (a b : Bool) → a ≡ false → (a && b) ≡ false
@@ -68,7 +70,7 @@ just_three (a ∷ b ∷ c ∷ d ∷ is) h = absurd (omega (arith, h))
 -- ---- items that are held
 
 abbrev held : List ℕ → ItemsFound
-held is = record { good = true; count = length is; values = padded max_items is }
+held is = record { count = length is; values = padded max_items is }
 
 module _ (is : List ℕ) where
   value : (k : ℕ) → value_at (held is) k ≡ get_or is k 0
@@ -103,7 +105,7 @@ module _ (is : List ℕ) where
       once : (b : Bool) → is_plain_line l is ≡ b → row_when b l.section (padded max_items is) ≡ row_when b l.section is
       once true h =
           let sized = eqb-true (length is) l.width (both (eqb (length is) l.width) _ h).0 in
-          ap (λ words. record { section = l.section; words = words }) (padded_all (padded max_items is) (padded_length max_items is (omega (arith, sized, few))))
+          ap (λ words. Some (record { section = l.section; words = words })) (padded_all (padded max_items is) (padded_length max_items is (omega (arith, sized, few))))
       once false h = refl
 
   event_same : (kind : ℕ) → event_held (held is) kind ≡ row_held (event_in kind is)
@@ -132,36 +134,11 @@ module _ (is : List ℕ) where
       by_type t true e = ap (λ n. ltb t types && (leb n cell_count && eqb (length is) (2 + n))) (same t (ltb-true t types e))
       by_type t false e = and_left (ltb t types) _ e ∙ sym (and_left (ltb t types) _ e)
 
--- ---- a line of no items, or of too many
-
-fields_some : (kind : ℕ) → (ltb kind 7 && eqb 0 (event_fields kind)) ≡ false
-unfolding event_fields
-fields_some zero = refl
-fields_some (suc zero) = refl
-fields_some (suc (suc zero)) = refl
-fields_some (suc (suc (suc zero))) = refl
-fields_some (suc (suc (suc (suc zero)))) = refl
-fields_some (suc (suc (suc (suc (suc zero))))) = refl
-fields_some (suc (suc (suc (suc (suc (suc zero)))))) = refl
-fields_some (suc (suc (suc (suc (suc (suc (suc kind))))))) = ap (λ b. b && eqb 0 (event_fields (suc (suc (suc (suc (suc (suc (suc kind))))))))) (le-ltb (suc (suc (suc (suc (suc (suc (suc kind))))))) 7 (omega arith))
-
-event_none : (kind : ℕ) → event_held no_items kind ≡ no_row
-unfolding event_held
-event_none kind = ap (λ b. row_when b event_section (kind ∷ 0 ∷ 0 ∷ 0 ∷ [])) (sym (and_assoc (ltb kind 7) (eqb 0 (event_fields kind)) true) ∙ ap (λ b. b && true) (fields_some kind))
+-- ---- a line of too many items
 
 either : {A : Type 0} {x y z : A} (b : Bool) → x ≡ z → y ≡ z → cond b x y ≡ z
 either true p q = p
 either false p q = q
-
-flat_none : (name types relationships : ℕ) (cells : List ℕ) → flat_held no_items name types relationships cells ≡ no_row
-unfolding flat_held type_held relationship_held object_held plain_held
-flat_none name types relationships cells =
-    either (eqb name type_name) refl
-    (either (eqb name floor_name) refl
-    (either (eqb name relationship_name) refl
-    (either (eqb name object_name) refl
-    (either (eqb name link_name) refl
-    (either (leb first_event name) (event_none (name - first_event)) refl)))))
 
 too_many : (n : ℕ) (is : List ℕ) → 10 < length is → n ≤ 10 → eqb (length is) n ≡ false
 too_many n is long few = ne_eqb (length is) n (λ q. omega (arith, long, few, q))
@@ -215,14 +192,26 @@ flat_event items name types relationships cells h =
     let other : (n : ℕ) → n < first_event → eqb name n ≡ false = λ n l. ne_eqb name n (λ q. omega (arith, h, l, q)) in
     rw (other type_name (omega arith), other floor_name (omega arith), other relationship_name (omega arith), other object_name (omega arith), other link_name (omega arith), le-leb first_event name h)
 
-cond_held : (b : Bool) {x y : Row} (o p : Option Entry) → x ≡ row_held o → y ≡ row_held p → cond b x y ≡ row_held (cond b o p)
+cond_held : (b : Bool) {x y : Option Row} (o p : Maybe Entry) → x ≡ row_held o → y ≡ row_held p → cond b x y ≡ row_held (cond b o p)
 cond_held true o p h g = h
 cond_held false o p h g = g
 
-pub flat_says : {before : List Entry} {types relationships rules : ℕ} {cells : List ℕ} {section : ℕ} → Follows before types relationships rules cells section → (o : Option (List ℕ)) (name : ℕ) → flat_held (items_held o) name types relationships cells ≡ row_held (bind o (row_in before name))
+-- the items of a line, where they are not as many as may be held
+pub says_none : (before : List Entry) (o : Maybe (List ℕ)) (name : ℕ) → None ≡ items_held o → None ≡ row_held (bind o (row_in before name))
+unfolding items_held row_held bind
+says_none before none name h = refl
+says_none before (some is) name h = step (leb (length is) max_items) refl h
+  where
+    step : (b : Bool) → leb (length is) max_items ≡ b → None ≡ cond b (Some (held is)) None → None ≡ row_held (row_in before name is)
+    step true e h = absurd (none-some _ h)
+    step false e h = ap row_held (sym (row_long before is (leb-false (length is) max_items e) name))
+
+-- and where they are
+pub says_items : {before : List Entry} {types relationships rules : ℕ} {cells : List ℕ} {section : ℕ} → Follows before types relationships rules cells section → (o : Maybe (List ℕ)) (name : ℕ) (items : ItemsFound) → Some items ≡ items_held o
+    → flat_held items name types relationships cells ≡ row_held (bind o (row_in before name))
 unfolding items_held row_held bind flat_held row_in
-flat_says {before} {types} {relationships} {rules} {cells} f none name = flat_none name types relationships cells
-flat_says {before} {types} {relationships} {rules} {cells} f (some is) name = step (leb (length is) max_items) refl
+says_items f none name items h = absurd (none-some items (sym h))
+says_items {before} {types} {relationships} {rules} {cells} f (some is) name items h = step (leb (length is) max_items) h
   where
     by_name : flat_held (held is) name types relationships cells ≡ row_held (row_in before name is)
     by_name =
@@ -233,6 +222,6 @@ flat_says {before} {types} {relationships} {rules} {cells} f (some is) name = st
         (cond_held (eqb name link_name) _ _ (plain_same is link_table (omega arith))
         (cond_held (leb first_event name) _ _ (event_same is (name - first_event)) refl)))))
 
-    step : (b : Bool) → leb (length is) max_items ≡ b → flat_held (cond b (held is) no_items) name types relationships cells ≡ row_held (row_in before name is)
-    step true e = by_name
-    step false e = flat_none name types relationships cells ∙ ap row_held (sym (row_long before is (leb-false (length is) max_items e) name))
+    step : (b : Bool) → Some items ≡ cond b (Some (held is)) None → flat_held items name types relationships cells ≡ row_held (row_in before name is)
+    step true h = ap (λ i. flat_held i name types relationships cells) (same_Some items (held is) h) ∙ by_name
+    step false h = absurd (none-some items (sym h))

@@ -1,6 +1,6 @@
 -- That what is held of a line is what the line says.
 --   Words    the numbers of a line as words
---   Rows     rows that a line says, and those that it does not
+--   Rows     words that fill a row
 --   Flat     the lines of every section but the rules'
 --   Lines    a line after the lines before it
 --   Bodied   a rule's line with its body

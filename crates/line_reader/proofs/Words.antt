@@ -1,6 +1,6 @@
 -- Values that are words, one after the other.
 use Prim.Native.Nat.{ℕ, suc, ◌+◌, ◌≤◌, ◌<◌}
-use mathlib.Core.Path.{◌≡◌, refl, sym, ap, ◌∙◌}
+use mathlib.Core.Path.{◌≡◌, sym, ap, ◌∙◌}
 use mathlib.Core.Bool.{true, false, ◌&&◌}
 use mathlib.Core.List.{List, [], ◌∷◌, ◌++◌}
 use native.Mathlib.Numerals.{add-one}
@@ -17,9 +17,6 @@ pub record Taken (values words : List ℕ) (i : ℕ) : Type 0 where
   pub held : length words ≡ 10
   pub taken : take i words ≡ take i values
   pub rest : every is_word values ≡ every is_word (drop i values)
-
-pub taken_none : (values words : List ℕ) → length words ≡ 10 → Taken values words 0
-taken_none values words h = record { few = omega arith; held = h; taken = refl; rest = refl }
 
 module _ {values words : List ℕ} {i : ℕ} (t : Taken values words i) (size : length values ≡ 10) (h : i < 10) where
   here : every is_word (drop i values) ≡ is_word (get_or values i 0) && every is_word (drop (suc i) values)

@@ -65,10 +65,8 @@ pub fn numbers(out: &mut [u8], at: usize, t: &[u32], from: usize, count: usize) 
     ensures { Put out.old at (spell_items (take count (drop from t.now))) out.new result }
 {
     let mut next = at;
-    let mut i = 0;
-    while i < count {
+    for i in 0..count {
         next = number(&mut *out, next, t[from + i]);
-        i += 1;
     }
     next
 }

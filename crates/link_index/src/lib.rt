@@ -7,7 +7,6 @@ ghost use Rattle.link_index.specs.Slots.{laid_link, Indexable, Indexed};
 
 use chains::push;
 use register::{columns, search};
-use tables::Found;
 
 // The row of the object of an id; 0 where there is none.
 fn row_of(object_count: u32, objects: &[u32], table: &[u16; 4096], id: u32) -> u32
@@ -15,8 +14,8 @@ fn row_of(object_count: u32, objects: &[u32], table: &[u16; 4096], id: u32) -> u
     ensures { result ≡ row_at object_count objects.now id }
 {
     match search::quick_row(object_count, objects, table, id) {
-        Found::At(row) => row,
-        Found::Nothing => 0,
+        Some(row) => row,
+        None => 0,
     }
 }
 
@@ -52,9 +51,7 @@ pub fn index(
 {
     let mut table = [0u16; 4096];
     search::guesses(object_count, objects, &mut table);
-    let mut row = link_count;
-    while 0 < row {
-        row -= 1;
+    for row in (0..link_count).rev() {
         let source = row_of(
             object_count,
             objects,

@@ -13,12 +13,10 @@ pub fn count(marks: &[bool; 1792]) -> u32
     ensures { result ≡ length (marked_below marks.now places) }
 {
     let mut n: u32 = 0;
-    let mut place: usize = 0;
-    while place < PLACES {
+    for place in 0..PLACES {
         if marks[place] {
             n += 1;
         }
-        place += 1;
     }
     n
 }
@@ -42,12 +40,10 @@ pub fn write(marks: &[bool; 1792], list: &mut [u16])
     ensures { list.new ≡ in_front (place_words (marked_below marks.now places)) list.old }
 {
     let mut at: usize = 0;
-    let mut place: usize = 0;
-    while place < PLACES {
+    for place in 0..PLACES {
         if marks[place] {
             put(place, at, list);
             at += 3;
         }
-        place += 1;
     }
 }

@@ -45,11 +45,9 @@ fn put_types(kind: u32, cell: u32, these: &[bool; 32], except: &[bool; 32], mark
     ensures { Added marks.old marks.new (λ place. eqb kind (place / 256) && (eqb cell (place % 8)
         && (get_or these.now (place / 8 % 32) false && not (get_or except.now (place / 8 % 32) false)))) }
 {
-    let mut t: u32 = 0;
-    while t < meaning::MAX_TYPES {
+    for t in 0..meaning::MAX_TYPES {
         let at = t as usize;
         put(but_not(these[at], except[at]), kind, t, cell, marks);
-        t += 1;
     }
 }
 
@@ -127,11 +125,9 @@ pub fn mark_events(
         → Counted marks.old marks.new (occurs c) }
 {
     let count = n.events;
-    let mut i: u32 = 0;
-    while i < count {
+    for i in 0..count {
         let at = i as usize;
         let m = met[at];
         put_event(n.types, types, n.objects, objects, events, i, m, marks);
-        i += 1;
     }
 }

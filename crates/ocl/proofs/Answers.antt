@@ -23,7 +23,8 @@ use Rattle.operators.specs.Operators.{connective_of, quantifier_of, arithmetic_o
 use Rattle.walks.specs.Values.{truth_of, number_of, members_of, cell_in, weight_of}
 use Rattle.walks.specs.Walks.{Went, BegunIn, WalkedIn, Stepped, Anywhere, instances_from, far_step, left_in, StandsIn, collection_at, left_at, Stands, Begun, Walked}
 use Rattle.ocl.specs.Ready.{Ready}
-use Rattle.walks.specs.declared.Step.{Step}
+use Rattle.std.specs.Prelude as Std
+use Rattle.walks.specs.declared.Member.{Member}
 use Rattle.walks.proofs.Objects.{under_in, cell_in_lem}
 use Rattle.ocl.proofs.Loops.{quantified_none, quantified_stop, quantified_on, weighed, total_none, total_more}
 use Rattle.ocl.proofs.Nums.{members_few, number_within}
@@ -116,7 +117,7 @@ module _ {w : Site} {starts : List ℕ} {e : ℕ} {vars : List ℕ} {depth : ℕ
         (role_begun w ready.indexed fields.x fields.y vars depth near_there near_is (ready.steady.far_ascend fields.y _)
         (z ∙ ap₂ (λ a b. get_or w.index (16384 + (a * 1024 + b)) 0) q (u ∙ ap (λ j. get_or vars j 0) p)))
 
-    pub role_stepped : {word : ℕ} {s : Step} → Stands w e vars word → s ≡ far_step w.index word → Walked w e vars depth word s
+    pub role_stepped : {word : ℕ} {s : Std.Option Member} → Stands w e vars word → s ≡ far_step w.index word → Walked w e vars depth word s
     role_stepped {word} {s} stands z =
         subst (λ f. WalkedIn w f vars depth word s) (sym (role_is ready h))
         (subst (λ s'. WalkedIn w (role fields.x fields.y) vars depth word s') (sym z)
@@ -132,7 +133,7 @@ module _ {w : Site} {starts : List ℕ} {e : ℕ} {vars : List ℕ} {depth : ℕ
     pub all_began : Begun w e vars depth 0
     all_began = subst (λ f. BegunIn w f vars depth 0) (sym (all_is ready h)) (all_begun w ready.indexed fields.x vars depth)
 
-    pub all_stepped : {word t : ℕ} {s : Step} → t ≡ fields.x → Stepped w.objects w.counts.objects (instances_from (types_at w) w.objects w.counts.objects t) Anywhere word s → Walked w e vars depth word s
+    pub all_stepped : {word t : ℕ} {s : Std.Option Member} → t ≡ fields.x → Stepped w.objects w.counts.objects (instances_from (types_at w) w.objects w.counts.objects t) Anywhere word s → Walked w e vars depth word s
     all_stepped {word} {t} {s} q stepped =
         subst (λ f. WalkedIn w f vars depth word s) (sym (all_is ready h))
         (all_walked w ready.indexed fields.x vars depth

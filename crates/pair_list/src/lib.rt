@@ -5,7 +5,7 @@ ghost use Rattle.std.specs.Prelude.{◌≡◌, [], ◌*◌, ◌≤◌, length};
 ghost use Rattle.meaning.specs.Limits.{max_objects, max_rules};
 ghost use Rattle.meaning.specs.Answers.{first_broken};
 ghost use Rattle.rows.specs.Rows.{in_front};
-ghost use Rattle.tables.specs.Layouts.{sheet_of};
+ghost use Rattle.tables.specs.Layouts.{register_sheet};
 ghost use Rattle.tables.specs.Columns.{book_of, register_in};
 ghost use Rattle.tables.specs.Answers.{answer_of};
 ghost use Rattle.full_search.specs.Search.{Clear};
@@ -13,7 +13,7 @@ ghost use Rattle.pair_list.specs.Pairs.{marked_pairs, pair_words};
 
 use full_search::breaks;
 use pair_marks::{next_row, next_rule};
-use tables::{Answer, Counts};
+use tables::{Answer, Counts, Sheet};
 
 // Writes the pairs at the front of the list; the words past them keep what they held.
 pub fn write(n: Counts, marks: &[u32; 1024], objects: &[u32], list: &mut [u32])
@@ -37,35 +37,22 @@ pub fn write(n: Counts, marks: &[u32; 1024], objects: &[u32], list: &mut [u32])
 }
 
 // The search: the rules that have a mark one after the other, and the marked objects of each, left at the first body that does not hold.
-pub fn search(
-    n: Counts,
-    types: &[u32],
-    floors: &[u32],
-    relationships: &[u32],
-    rules: &[u32],
-    bodies: &[u32],
-    objects: &[u32],
-    links: &[u32],
-    index: &[u16; 81920],
-    marks: &[u32; 1024],
-) -> Answer
-    requires { Clear n (sheet_of types.now floors.now relationships.now rules.now bodies.now objects.now links.now []) index.now }
-    ensures { let s = sheet_of types.now floors.now relationships.now rules.now bodies.now objects.now links.now [] in
-        result ≡ answer_of (first_broken (book_of n s) (register_in n s) (marked_pairs n objects.now marks.now)) }
+pub fn search(n: Counts, sheet: &Sheet, index: &[u16; 81920], marks: &[u32; 1024]) -> Answer
+    requires { Clear n (register_sheet sheet.now) index.now }
+    ensures { let s = register_sheet sheet.now in
+        result ≡ answer_of (first_broken (book_of n s) (register_in n s) (marked_pairs n sheet.now.objects.now marks.now)) }
 {
     let mut answer = Answer::Accepted;
     let mut rule: u32 = next_rule(marks, 0);
     'search: while rule < n.rules {
-        let context = rows::word(rules, tables::RULE_WIDTH, rule, 0);
-        let size = rows::word(rules, tables::RULE_WIDTH, rule, 1);
-        let spans = body_rows::body::scan(bodies, rule, size);
+        let context = rows::word(sheet.rules, tables::RULE_WIDTH, rule, 0);
+        let size = rows::word(sheet.rules, tables::RULE_WIDTH, rule, 1);
+        let spans = body_rows::body::scan(sheet.bodies, rule, size);
         let starts = spans.starts;
         let mut row = next_row(marks, rule, 0);
         while row < n.objects {
-            if breaks(
-                n, types, objects, links, index, bodies, &starts, context, rule, size, row,
-            ) {
-                answer = Answer::Broken(rule, register::id_of(objects, row));
+            if breaks(n, sheet, index, &starts, context, rule, size, row) {
+                answer = Answer::Broken(rule, register::id_of(sheet.objects, row));
                 break 'search;
             }
             row = next_row(marks, rule, row + 1);

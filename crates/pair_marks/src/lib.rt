@@ -47,13 +47,11 @@ pub fn next_rule(marks: &[u32; 1024], from: u32) -> u32
     requires { from ≤ max_rules }
     ensures { Next (has_mark marks.now) max_rules from result }
 {
-    let mut word = from * 32;
-    while word < 1024 {
+    for word in from * 32..1024 {
         let at = word as usize;
         if bits::lowest(marks[at]) < 32 {
             return word / 32;
         }
-        word += 1;
     }
     32
 }

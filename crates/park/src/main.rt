@@ -1,7 +1,7 @@
 // Reads the text of a park from standard input and prints what the first argument asks. Alone or with another word it says how to use it.
 #![tactic(auto)]
 
-use park_answers::words::{Word, asked_by};
+use park_answers::words::asked_by;
 use programs::Failure;
 use std::io;
 use std::rt::Env;
@@ -24,7 +24,7 @@ fn main(rt: HostRuntime) -> Result<(), Failure> {
     let mut word = [0u8; 6];
     let length = rt.arg(1, &mut word).unwrap_or(0);
     match asked_by(&word[..length]) {
-        Word::Asks(asked) => programs::park(asked, &mut rt.stdin(), &mut rt.stdout()),
-        Word::Unknown => usage(&rt).map_err(Failure::Writing),
+        Some(asked) => programs::park(asked, &mut rt.stdin(), &mut rt.stdout()),
+        None => usage(&rt).map_err(Failure::Writing),
     }
 }

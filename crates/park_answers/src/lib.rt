@@ -8,8 +8,7 @@ ghost use Rattle.rows.specs.Rows.{in_front};
 ghost use Rattle.tables.specs.Layouts.{sheet_of};
 ghost use Rattle.park_answers.specs.Prints.{tables_printed, park_prints};
 
-use reader::Outcome;
-use tables::Counts;
+use tables::{Counts, Sheet};
 
 // What may be asked of a text: the batch check, the full check of its register, the event lists of its rules, or the text after its batch.
 #[derive(Clone, Copy)]
@@ -54,22 +53,30 @@ fn print_tables(
         ),
         Asked::Full => park_tables::print_full(
             n,
-            types,
-            floors,
-            relationships,
-            rules,
-            bodies,
-            &*objects,
-            &*links,
+            &Sheet {
+                types,
+                floors,
+                relationships,
+                rules,
+                bodies,
+                objects: &*objects,
+                links: &*links,
+                events: &[],
+            },
             out,
         ),
         Asked::Events => park_tables::print_events(
             n,
-            types,
-            floors,
-            relationships,
-            rules,
-            bodies,
+            &Sheet {
+                types,
+                floors,
+                relationships,
+                rules,
+                bodies,
+                objects: &[],
+                links: &[],
+                events: &[],
+            },
             out,
         ),
         Asked::After => park_tables::print_after(
@@ -113,8 +120,8 @@ pub fn print(asked: Asked, text: &[u8], out: &mut [u8; 1048576]) -> usize
         &mut links,
         &mut events,
     ) {
-        Outcome::Refused(number, line) => printing::refuse(number, line, out),
-        Outcome::Done(n) => print_tables(
+        Err(refusal) => printing::refuse(refusal.number, refusal.place, out),
+        Ok(n) => print_tables(
             asked,
             n,
             &types,

@@ -5,26 +5,20 @@ ghost use Rattle.park_answers.specs.Words.{asked_by};
 use crate::Asked;
 
 // What a word asks, if it is one of the four.
-#[derive(Clone, Copy)]
-pub enum Word {
-    Asks(Asked),
-    Unknown,
-}
-
-pub fn asked_by(word: &[u8]) -> Word
+pub fn asked_by(word: &[u8]) -> Option<Asked>
     ensures { result ≡ asked_by word.now }
 {
-    if check::same(word, b"check") {
-        return Word::Asks(Asked::Check);
+    if word == b"check".as_slice() {
+        return Some(Asked::Check);
     }
-    if check::same(word, b"full") {
-        return Word::Asks(Asked::Full);
+    if word == b"full".as_slice() {
+        return Some(Asked::Full);
     }
-    if check::same(word, b"events") {
-        return Word::Asks(Asked::Events);
+    if word == b"events".as_slice() {
+        return Some(Asked::Events);
     }
-    if check::same(word, b"after") {
-        return Word::Asks(Asked::After);
+    if word == b"after".as_slice() {
+        return Some(Asked::After);
     }
-    Word::Unknown
+    None
 }

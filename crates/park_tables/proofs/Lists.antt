@@ -1,5 +1,6 @@
 -- The line of a rule, by what its event list says, and one line more.
 use Prim.Native.Nat.{ℕ, ◌+◌, ◌*◌, ◌≤◌, ◌<◌}
+use Rattle.tables.specs.declared.Refusal as Code
 use mathlib.Core.Path.{◌≡◌, refl, sym, ap, ap₂, ◌∙◌}
 use mathlib.Core.List.{List, [], ◌++◌, flat_map}
 use mathlib.Core.Option.{none}
@@ -12,9 +13,8 @@ use Rattle.tables.specs.Layouts.{Sheet, sheet_of}
 use Rattle.tables.specs.Columns.{book_of}
 use Rattle.tables.specs.Refusals.{verdict_of}
 use Rattle.tables.specs.declared.Counts.{Counts}
-use Rattle.tables.specs.declared.Verdict.TheVariants.{Clear}
+use Rattle.std.specs.Prelude.{Ok, Err}
 use Rattle.event_list.specs.Answers.{lent_book_refusal, rule_refusal, list_of, list_words, answer, list_after}
-use Rattle.event_list.specs.declared.Listed.TheVariants.{Types, Refused}
 use Rattle.event_list.proofs.Answers.{rule_known, few_listed, list_fits}
 use Rattle.printing.proofs.Rows.{flat_more}
 use Rattle.event_lines.specs.Events.{events_line, event_types_in, room_for_events}
@@ -46,19 +46,19 @@ module _ (n : Counts) (types floors relationships rules bodies : List ℕ) (rule
   es = list_of (book_of n s) rule
 
   module _ (clear : lent_book_refusal n s ≡ none) (known : rule < n.rules) (lent : length words ≡ 5376) where
-    not_refused : Clear ≡ verdict_of (rule_refusal n s rule)
+    not_refused : Ok tt ≡ verdict_of (rule_refusal n s rule)
     not_refused = rule_known n types floors relationships rules bodies rule (sym (ap verdict_of clear)) known
 
-    fits : (answer n s rule (length words) ≡ Types (length es)) × (list_after n s rule words ≡ in_front (list_words es) words)
+    fits : (answer n s rule (length words) ≡ Ok (length es)) × (list_after n s rule words ≡ in_front (list_words es) words)
     fits = list_fits n types floors relationships rules bodies rule not_refused words (omega arith)
 
     few : length es ≤ 1792
     few = few_listed n types floors relationships rules bodies rule not_refused
 
-    pub never_refused : {number place : ℕ} → Refused number place ≡ answer n s rule (length words) → ⊥
+    pub never_refused : {r : Code.Refusal} → Err r ≡ answer n s rule (length words) → ⊥
     never_refused e = let is = fits.0 in let z : ◌≡◌ {A = ℕ} 0 1 = cc in omega arith
 
-    module _ {count : ℕ} {list : List ℕ} (told : Types count ≡ answer n s rule (length words)) (left : list ≡ list_after n s rule words) where
+    module _ {count : ℕ} {list : List ℕ} (told : Ok count ≡ answer n s rule (length words)) (left : list ≡ list_after n s rule words) where
       count_is : count ≡ length es
       count_is = let is = fits.0 in cc
 

@@ -1,46 +1,37 @@
 // The text of book and register after a batch.
 ghost use Rattle.std.specs.Prelude.{◌≡◌, false, [], ◌≤◌, length};
 ghost use Rattle.rows.specs.Rows.{in_front};
-ghost use Rattle.tables.specs.Layouts.{sheet_of};
+ghost use Rattle.tables.specs.Layouts.{sheet_of, register_sheet};
 ghost use Rattle.batch.specs.Checked.{lent_outcome, RegisterLeft};
 ghost use Rattle.printing.specs.Printed.{room_for};
 ghost use Rattle.park_tables.specs.Tables.{text_printed, after_printed};
 
-use tables::{Answer, Counts};
-use writer::Written;
+use tables::{Answer, Counts, Sheet};
 
 // The text of a book and a register, or the writer's refusal.
-fn print_text(
-    n: Counts,
-    types: &[u32],
-    floors: &[u32],
-    relationships: &[u32],
-    rules: &[u32],
-    bodies: &[u32],
-    objects: &[u32],
-    links: &[u32],
-    out: &mut [u8],
-) -> usize
+fn print_text(n: Counts, sheet: &Sheet, out: &mut [u8]) -> usize
     requires { 65536 ≤ length out.old }
-    ensures { let s = sheet_of types.now floors.now relationships.now rules.now bodies.now objects.now links.now [] in
+    ensures { let s = register_sheet sheet.now in
         let bytes = text_printed n s in
         (out.new ≡ in_front bytes out.old) × (result ≡ length bytes) }
 {
-    let none = &types[..0];
+    let none = &sheet.types[..0];
     match writer::write(
         n,
-        types,
-        floors,
-        relationships,
-        rules,
-        bodies,
-        objects,
-        links,
-        none,
+        &Sheet {
+            types: sheet.types,
+            floors: sheet.floors,
+            relationships: sheet.relationships,
+            rules: sheet.rules,
+            bodies: sheet.bodies,
+            objects: sheet.objects,
+            links: sheet.links,
+            events: none,
+        },
         &mut *out,
     ) {
-        Written::Refused(number, place) => printing::refuse(number, place, out),
-        Written::Done(size) => size as usize,
+        Err(refusal) => printing::refuse(refusal.number, refusal.place, out),
+        Ok(size) => size as usize,
     }
 }
 
@@ -93,13 +84,16 @@ pub fn print_after(
     if let Answer::Accepted = answer {
         return print_text(
             left,
-            types,
-            floors,
-            relationships,
-            rules,
-            bodies,
-            &*objects,
-            &*links,
+            &Sheet {
+                types,
+                floors,
+                relationships,
+                rules,
+                bodies,
+                objects: &*objects,
+                links: &*links,
+                events: &[],
+            },
             out,
         );
     }

@@ -6,7 +6,7 @@ mod left;
 
 ghost use Rattle.std.specs.Prelude.{◌≡◌, false, [], ◌≤◌, length};
 ghost use Rattle.rows.specs.Rows.{in_front};
-ghost use Rattle.tables.specs.Layouts.{sheet_of};
+ghost use Rattle.tables.specs.Layouts.{sheet_of, register_sheet};
 ghost use Rattle.batch.specs.Checked.{lent_outcome, RegisterLeft};
 ghost use Rattle.printing.specs.Printed.{room_for};
 ghost use Rattle.answers.specs.Checks.{batch_printed};
@@ -14,35 +14,16 @@ ghost use Rattle.park_tables.specs.Tables.{full_printed};
 
 pub use event_lists::print_events;
 pub use left::print_after;
-use tables::Counts;
+use tables::{Counts, Sheet};
 
 // The full check's answer.
-pub fn print_full(
-    n: Counts,
-    types: &[u32],
-    floors: &[u32],
-    relationships: &[u32],
-    rules: &[u32],
-    bodies: &[u32],
-    objects: &[u32],
-    links: &[u32],
-    out: &mut [u8],
-) -> usize
+pub fn print_full(n: Counts, sheet: &Sheet, out: &mut [u8]) -> usize
     requires { room_for 0 ≤ length out.old }
-    ensures { let s = sheet_of types.now floors.now relationships.now rules.now bodies.now objects.now links.now [] in
+    ensures { let s = register_sheet sheet.now in
         let bytes = full_printed n s in
         (out.new ≡ in_front bytes out.old) × (result ≡ length bytes) }
 {
-    let answer = full::check(
-        n,
-        types,
-        floors,
-        relationships,
-        rules,
-        bodies,
-        objects,
-        links,
-    );
+    let answer = full::check(n, sheet);
     let none = [0u32; 1];
     printing::print(answer, 0, &none, out)
 }

@@ -35,12 +35,10 @@ fn pair_lines(out: &mut [u8], at: usize, pairs: u32, list: &[u32]) -> usize
     ensures { Put out.old at (pair_lines (pairs_in list.now pairs)) out.new result }
 {
     let mut next = at;
-    let mut i: u32 = 0;
-    while i < pairs {
+    for i in 0..pairs {
         let rule = rows::word(list, tables::PAIR_WIDTH, i, 0);
         let id = rows::word(list, tables::PAIR_WIDTH, i, 1);
         next = line(&mut *out, next, b"pair", rule, id);
-        i += 1;
     }
     next
 }

@@ -6,9 +6,9 @@ ghost use Rattle.meaning.specs.Reach.{Change, some_step, taken};
 ghost use Rattle.tables.specs.Columns.{types_of, event_of, event_row};
 ghost use Rattle.walks.specs.Site.{id_in};
 ghost use Rattle.trace_places.specs.Questions.{named, asked, question_of, answers_at};
-ghost use Rattle.trace_places.specs.Traces.{there_word, met_word, Traced, Traces};
+ghost use Rattle.trace_places.specs.Traces.{there_word, met_word, TracesIn, TracedIn};
 
-use tables::Counts;
+use tables::{Counts, Sheet};
 use trace_types::types::was_under;
 
 // The questions, by what they are about: a cell; a role; a type.
@@ -141,26 +141,24 @@ pub fn answered(
 }
 
 // Whether some event of the batch that names the object in a row answers a question about it.
-fn named(
-    n: Counts,
-    types: &[u32],
-    objects: &[u32],
-    links: &[u32],
-    events: &[u32],
-    trace: &[u16; 16675],
-    row: u32,
-    question: u32,
-    x: u32,
-) -> bool
-    requires { (Traces n types.now objects.now links.now events.now trace.now) × (row < n.objects) × (question < 6) }
-    ensures { (c : Change) → Traced c n types.now objects.now links.now events.now trace.now
-        → result ≡ named c (question_of question x) (id_in objects.now row) }
+fn named(n: Counts, sheet: &Sheet, trace: &[u16; 16675], row: u32, question: u32, x: u32) -> bool
+    requires { (TracesIn n sheet.now trace.now) × (row < n.objects) × (question < 6) }
+    ensures { (c : Change) → TracedIn c n sheet.now trace.now
+        → result ≡ named c (question_of question x) (id_in sheet.now.objects.now row) }
 {
     let head = (14625 + 2 * row) as usize;
     let mut word = rows::wide(trace[head]);
     while word != 0 {
         let place = word - 1;
-        if answered(n.types, types, events, trace, place, question, x) {
+        if answered(
+            n.types,
+            sheet.types,
+            sheet.events,
+            trace,
+            place,
+            question,
+            x,
+        ) {
             return true;
         }
         let next = (512 + place) as usize;
@@ -170,19 +168,10 @@ fn named(
 }
 
 // Whether a delete took a link of a role from the object in a row.
-fn lost(
-    n: Counts,
-    types: &[u32],
-    objects: &[u32],
-    links: &[u32],
-    events: &[u32],
-    trace: &[u16; 16675],
-    row: u32,
-    role: u32,
-) -> bool
-    requires { (Traces n types.now objects.now links.now events.now trace.now) × (row < n.objects) }
-    ensures { (c : Change) → Traced c n types.now objects.now links.now events.now trace.now
-        → result ≡ some_step c (taken role (id_in objects.now row)) }
+fn lost(n: Counts, sheet: &Sheet, trace: &[u16; 16675], row: u32, role: u32) -> bool
+    requires { (TracesIn n sheet.now trace.now) × (row < n.objects) }
+    ensures { (c : Change) → TracedIn c n sheet.now trace.now
+        → result ≡ some_step c (taken role (id_in sheet.now.objects.now row)) }
 {
     let head = (14626 + 2 * row) as usize;
     let mut word = rows::wide(trace[head]);
@@ -199,28 +188,18 @@ fn lost(
 }
 
 // Whether some event of the batch answers a question about the object in a row.
-pub fn ask(
-    n: Counts,
-    types: &[u32],
-    objects: &[u32],
-    links: &[u32],
-    events: &[u32],
-    trace: &[u16; 16675],
-    row: u32,
-    question: u32,
-    x: u32,
-) -> bool
-    requires { (Traces n types.now objects.now links.now events.now trace.now) × (row < n.objects) × (question < 6) }
-    ensures { (c : Change) → Traced c n types.now objects.now links.now events.now trace.now
-        → result ≡ asked c (question_of question x) (id_in objects.now row) }
+pub fn ask(n: Counts, sheet: &Sheet, trace: &[u16; 16675], row: u32, question: u32, x: u32) -> bool
+    requires { (TracesIn n sheet.now trace.now) × (row < n.objects) × (question < 6) }
+    ensures { (c : Change) → TracedIn c n sheet.now trace.now
+        → result ≡ asked c (question_of question x) (id_in sheet.now.objects.now row) }
 {
-    if named(n, types, objects, links, events, trace, row, question, x) {
+    if named(n, sheet, trace, row, question, x) {
         return true;
     }
     if question != PARTED {
         return false;
     }
-    lost(n, types, objects, links, events, trace, row, x)
+    lost(n, sheet, trace, row, x)
 }
 
 // The same, asked only where both conditions hold.
@@ -228,18 +207,15 @@ pub fn ask_if(
     first: bool,
     second: bool,
     n: Counts,
-    types: &[u32],
-    objects: &[u32],
-    links: &[u32],
-    events: &[u32],
+    sheet: &Sheet,
     trace: &[u16; 16675],
     row: u32,
     question: u32,
     x: u32,
 ) -> bool
-    requires { (Traces n types.now objects.now links.now events.now trace.now) × (row < n.objects) × (question < 6) }
-    ensures { (c : Change) → Traced c n types.now objects.now links.now events.now trace.now
-        → result ≡ (first && (second && asked c (question_of question x) (id_in objects.now row))) }
+    requires { (TracesIn n sheet.now trace.now) × (row < n.objects) × (question < 6) }
+    ensures { (c : Change) → TracedIn c n sheet.now trace.now
+        → result ≡ (first && (second && asked c (question_of question x) (id_in sheet.now.objects.now row))) }
 {
     if !first {
         return false;
@@ -247,5 +223,5 @@ pub fn ask_if(
     if !second {
         return false;
     }
-    ask(n, types, objects, links, events, trace, row, question, x)
+    ask(n, sheet, trace, row, question, x)
 }

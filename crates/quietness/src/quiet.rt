@@ -37,24 +37,10 @@ pub struct Still {
     pub special: bool,
 }
 
-// Whether both hold.
-pub fn both(a: bool, b: bool) -> bool
-    ensures { result ≡ (a && b) }
-{
-    if a { b } else { false }
-}
-
 fn turned(other: bool, want: bool) -> bool
     ensures { result ≡ turn other want }
 {
     if other { !want } else { want }
-}
-
-// Whether one of the two holds.
-fn either(a: bool, b: bool) -> bool
-    ensures { result ≡ (a || b) }
-{
-    if a { true } else { b }
 }
 
 fn of_two(all: bool, a: bool, b: bool) -> bool
@@ -66,13 +52,13 @@ fn of_two(all: bool, a: bool, b: bool) -> bool
 fn connective(code: u32) -> bool
     ensures { result ≡ connects code }
 {
-    either(either(code == AND, code == OR), code == IMPLIES)
+    (code == AND) | (code == OR) | (code == IMPLIES)
 }
 
 fn quantifier(code: u32) -> bool
     ensures { result ≡ quantifies code }
 {
-    either(code == FORALL, code == EXISTS)
+    (code == FORALL) | (code == EXISTS)
 }
 
 // Whether a role counts.
@@ -94,7 +80,7 @@ fn of_self(roles: Roles, relationships: &[u32], bodies: &[u32], rule: u32, end: 
     let row = end - 1;
     let role = field(bodies, rule, row, 0) == ROLE;
     let own = field(bodies, rule, row, 1) == 0;
-    if !both(role, own) {
+    if !(role & own) {
         return false;
     }
     counts(roles, relationships, field(bodies, rule, row, 2))
@@ -128,10 +114,7 @@ fn quietly(
         return of_two(turned(code != AND, want), a, b);
     }
     if quantifier(code) {
-        return both(
-            turned(code == EXISTS, want),
-            of_self(roles, relationships, bodies, rule, first),
-        );
+        return turned(code == EXISTS, want) & of_self(roles, relationships, bodies, rule, first);
     }
     false
 }

@@ -1,61 +1,24 @@
 -- What a read answers, by what was seen of the text and of the tables.
-use Prim.Native.Nat.{ℕ, zero, suc, ◌-◌, ◌/◌, min, ◌≤◌, ◌<◌}
+use Prim.Native.Nat.{ℕ, ◌-◌, ◌/◌, min, ◌≤◌, ◌<◌}
 use mathlib.Core.Path.{◌≡◌, refl, sym, ap, ap₂, ◌∙◌}
 use mathlib.Core.Bool.{Bool, true, false, cond}
-use mathlib.Core.List.{List, [], ◌∷◌, ◌++◌}
-use mathlib.Core.Option.{Option, none, some}
+use mathlib.Core.List.{List, [], ◌∷◌}
 use native.Mathlib.Omega.{arith}
 use lib.Dec.{ltb}
 use lib.ListN.{length, get_or, length-replicate}
-use borrow.Author.Tests.{ltb-true, ltb-false, lt-ltb}
-use Rattle.lexical.specs.Lines.{line_in, line_ended}
+use borrow.Author.Tests.{ltb-false, lt-ltb}
 use Rattle.tables.specs.Layouts.{Sheet, sheet_of, layouts, lines_lent}
 use Rattle.tables.specs.Refusals.{not_whole}
+use Rattle.std.specs.Prelude.{Ok, Err}
 use Rattle.tables.specs.declared.Counts.{Counts}
+use Rattle.tables.specs.declared.Refusal.{Refusal}
 use Rattle.text.specs.Names.{type_name, floor_name, relationship_name, rule_name, object_name, link_name}
-use Rattle.text.specs.Entries.{Entry, event_section, entry_in, table_of, bodies_of}
-use Rattle.text.specs.Texts.{max_text, no_room, Reading, taken, refused, entry_then, line_then, after_line, read_from, reading, filled}
-use Rattle.reader.specs.declared.Outcome.TheVariants.{Done, Refused}
+use Rattle.text.specs.Entries.{Entry, event_section, table_of, bodies_of}
+use Rattle.text.specs.Texts.{max_text, Reading, taken, refused, read_from, reading, filled}
 use Rattle.reading.specs.declared.look.Seen.{Seen}
-use Rattle.reading.specs.Looks.{Counted, refusal_number, Shown}
+use Rattle.reading.specs.Looks.{Counted, Shown}
 use Rattle.reader.specs.Reads.{unless_broken, lent_reading, read_answer, sheet_after}
 use Rattle.filling.specs.Fills.{sheet_with}
-
--- ---- a refusal has a number
-
-abbrev numbered : Reading → Bool
-numbered (taken es) = true
-numbered (refused number line) = ltb 0 number
-
-line_numbered : (lent : List ℕ) (n : ℕ) (before : List Entry) (more : Entry → Reading) → ((e : Entry) → numbered (more e) ≡ true) → (text : List ℕ) → numbered (line_then lent n before more text) ≡ true
-unfolding line_then entry_then
-line_numbered lent n before more h [] = refl
-line_numbered lent n before more h (b ∷ l) = ended (line_ended (b ∷ l))
-  where
-    full : (e : Entry) (b : Bool) → numbered (cond b (refused 2 n) (more e)) ≡ true
-    full e true = refl
-    full e false = h e
-
-    said : (o : Option Entry) → numbered (entry_then lent n before more o) ≡ true
-    said none = refl
-    said (some e) = full e (no_room lent before e)
-
-    ended : (c : Bool) → numbered (cond c (entry_then lent n before more (entry_in before (line_in (b ∷ l)))) (refused 1 n)) ≡ true
-    ended true = said (entry_in before (line_in (b ∷ l)))
-    ended false = refl
-
-read_numbered : (fuel : ℕ) (lent : List ℕ) (n : ℕ) (before : List Entry) (text : List ℕ) → numbered (read_from fuel lent n before text) ≡ true
-unfolding read_from
-read_numbered zero lent n before text = line_numbered lent n before (λ e. taken before) (λ e. refl) text
-read_numbered (suc fuel) lent n before text = line_numbered lent n before (λ e. read_from fuel lent (suc n) (before ++ e ∷ []) (after_line text)) (λ e. read_numbered fuel lent (suc n) (before ++ e ∷ []) (after_line text)) text
-
-reading_numbered : (lent text : List ℕ) → numbered (reading lent text) ≡ true
-unfolding reading
-reading_numbered lent text = step (ltb max_text (length text))
-  where
-    step : (b : Bool) → numbered (cond b (refused 2 0) (read_from (length text) lent 1 [] text)) ≡ true
-    step true = refl
-    step false = read_numbered (length text) lent 1 [] text
 
 -- ---- refusals
 
@@ -64,20 +27,15 @@ unfolding reading unless_broken
 too_long_lem lent text broken h =
     ap (λ b. unless_broken (cond b (refused 2 0) (read_from (length text) lent 1 [] text)) broken) (lt-ltb max_text (length text) h)
 
-pub refusal : (r : Reading) (broken : Bool) {seen : Seen} → Shown r seen → 0 < seen.number → unless_broken r broken ≡ refused seen.number seen.line
+pub refusal : (r : Reading) (broken : Bool) (e : Refusal) → Shown r (Err e) → unless_broken r broken ≡ refused e.number e.place
 unfolding unless_broken
-refusal (taken es) broken k h = absurd (omega (arith, h, k.number_is))
-refusal (refused number line) broken k h = ap₂ (λ n l. refused n l) (sym k.number_is) (sym k.line_is)
+refusal (taken es) broken e k = absurd k
+refusal (refused number line) broken e k = sym (ap (λ (e : Refusal). refused e.number e.place) k)
 
 -- where no refusal was seen, the text is taken
-pub is_taken_lem : (lent text : List ℕ) {seen : Seen} → Shown (reading lent text) seen → seen.number ≤ 0 → (es : List Entry) × (reading lent text ≡ taken es)
-is_taken_lem lent text {seen} k h = step (reading lent text) refl
-  where
-    step : (r : Reading) → reading lent text ≡ r → (es : List Entry) × (reading lent text ≡ taken es)
-    step (taken es) q = (es, q)
-    step (refused number line) q =
-        let positive = ltb-true 0 number (ap numbered (sym q) ∙ reading_numbered lent text) in
-        absurd (omega (arith, h, k.number_is, ap refusal_number q, positive))
+pub is_taken_lem : (r : Reading) (seen : Seen) → Shown r (Ok seen) → (es : List Entry) × (r ≡ taken es) × Counted es seen.counts seen.cells
+is_taken_lem (taken es) seen k = (es, refl, k)
+is_taken_lem (refused number line) seen k = absurd k
 
 pub unless_broken_lem : {r : Reading} {es : List Entry} → r ≡ taken es → {broken b : Bool} → broken ≡ b → unless_broken r broken ≡ cond b (refused 6 0) (taken es)
 unfolding unless_broken
@@ -85,14 +43,14 @@ unless_broken_lem q s = ap₂ unless_broken q s
 
 -- ---- the answer
 
-pub refused_so : {r : Reading} {number line : ℕ} → r ≡ refused number line → Refused number line ≡ read_answer r
+pub refused_so : {r : Reading} {number line : ℕ} → r ≡ refused number line → Err (record { number = number; place = line }) ≡ read_answer r
 refused_so q = sym (ap read_answer q)
 
 pub done_so : {r : Reading} {es : List Entry} → r ≡ taken es → (counts cells : List ℕ) → Counted es counts cells
-    → Done (record { types = get_or counts type_name 0; floors = get_or counts floor_name 0; relationships = get_or counts relationship_name 0; rules = get_or counts rule_name 0; objects = get_or counts object_name 0; links = get_or counts link_name 0; events = get_or counts event_section 0 })
+    → Ok (record { types = get_or counts type_name 0; floors = get_or counts floor_name 0; relationships = get_or counts relationship_name 0; rules = get_or counts rule_name 0; objects = get_or counts object_name 0; links = get_or counts link_name 0; events = get_or counts event_section 0 })
     ≡ read_answer r
 done_so q counts cells k =
-    (λ i. Done (record {
+    (λ i. Ok (record {
       types = k.rows type_name (omega arith) i;
       floors = k.rows floor_name (omega arith) i;
       relationships = k.rows relationship_name (omega arith) i;
@@ -105,14 +63,14 @@ done_so q counts cells k =
 
 -- ---- the tables
 
-pub kept_so : (r : Reading) {number line : ℕ} → Refused number line ≡ read_answer r → (s : Sheet) → s ≡ sheet_after r s
+pub kept_so : (r : Reading) {e : Refusal} → Err e ≡ read_answer r → (s : Sheet) → s ≡ sheet_after r s
 unfolding sheet_after
-kept_so (taken es) q s = let z : ◌≡◌ {A = ℕ} 0 1 = cc in absurd (omega arith)
+kept_so (taken es) q s = absurd (grind arith)
 kept_so (refused number line) q s = refl
 
-pub taken_so : (r : Reading) {n : Counts} → Done n ≡ read_answer r → (es : List Entry) × (r ≡ taken es)
+pub taken_so : (r : Reading) {n : Counts} → Ok n ≡ read_answer r → (es : List Entry) × (r ≡ taken es)
 taken_so (taken es) q = (es, refl)
-taken_so (refused number line) q = let z : ◌≡◌ {A = ℕ} 0 1 = cc in absurd (omega arith)
+taken_so (refused number line) q = absurd (grind arith)
 
 -- a text that is taken into the tables is no longer than it may be, and is taken by itself
 pub taken_text : (text : List ℕ) (s : Sheet) {es : List Entry} → lent_reading text s ≡ taken es → (length text ≤ max_text) × (reading (lines_lent s) text ≡ taken es)

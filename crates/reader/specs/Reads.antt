@@ -1,14 +1,12 @@
 -- What a read answers, and what it leaves in the lent tables.
-use Rattle.std.specs.Prelude.{ℕ, Bool, cond, List}
+use Rattle.std.specs.Prelude.{ℕ, Bool, cond, List, Ok}
 use Rattle.tables.specs.Layouts.{Sheet, layouts, lines_lent}
-use Rattle.tables.specs.Refusals.{not_whole}
+use Rattle.tables.specs.Refusals.{OrRefused, refused_by, not_whole}
 use Rattle.tables.specs.declared.Counts.{Counts}
 use Rattle.text.specs.Names.{type_name, floor_name, relationship_name, rule_name, object_name, link_name}
 use Rattle.text.specs.Entries.{Entry, event_section, count_of}
 use Rattle.text.specs.Texts.{Reading, taken, refused, reading}
 use Rattle.filling.specs.Fills.{sheet_with}
-use Rattle.reader.specs.declared.Outcome.{Outcome}
-use Rattle.reader.specs.declared.Outcome.TheVariants.{Done, Refused}
 
 -- 6, "not whole rows", after what the text meets
 unfoldable pub unless_broken : Reading → Bool → Reading
@@ -33,9 +31,9 @@ counts_of es =
     }
 
 -- a reading as the code gives it: the rows of each table, or a refusal
-abbrev pub read_answer : Reading → Outcome
-read_answer (taken es) = Done (counts_of es)
-read_answer (refused number line) = Refused number line
+abbrev pub read_answer : Reading → OrRefused Counts
+read_answer (taken es) = Ok (counts_of es)
+read_answer (refused number line) = refused_by number line
 
 -- "a refusal changes nothing lent"; "After a read all unused rows are 0"
 unfoldable pub sheet_after : Reading → Sheet → Sheet

@@ -25,14 +25,14 @@ pub fn fill(
         after ≡ sheet_after (lent_reading text.now before) before }
 {
     clear_all(
-        &mut *types,
-        &mut *floors,
-        &mut *relationships,
-        &mut *rules,
-        &mut *bodies,
-        &mut *objects,
-        &mut *links,
-        &mut *events,
+        types,
+        floors,
+        relationships,
+        rules,
+        bodies,
+        objects,
+        links,
+        events,
     );
     put_lines(
         text,

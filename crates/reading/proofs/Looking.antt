@@ -3,7 +3,9 @@ use Prim.Native.Nat.{ℕ, zero, suc, ◌+◌, ◌-◌, ◌*◌, min, ◌≤◌, 
 use mathlib.Core.Path.{◌≡◌, refl, sym, ap, ap₂, subst, ◌∙◌}
 use mathlib.Core.Bool.{Bool, true, false, ◌&&◌, ◌||◌, not, cond, false≢true}
 use mathlib.Core.List.{List, [], ◌∷◌, ◌++◌, append-nil}
-use mathlib.Core.Option.{Option, none, some}
+use mathlib.Core.Option.{Option as Maybe, none, some}
+use Rattle.std.specs.Prelude.{Option, Some, None, Result, Ok, Err}
+use Rattle.std.proofs.lemmas.Option.{none-some, same_Some}
 use native.Mathlib.Numerals.{add-one}
 use native.Mathlib.Omega.{arith}
 use lib.Dec.{ltb, leb, eqb}
@@ -25,10 +27,11 @@ use Rattle.text.proofs.Entries.{sayable, row_fits, by_section_lem, entry_spelled
 use Rattle.text.proofs.Determined.{last_one}
 use Rattle.text.proofs.Blocks.{count_append, table_append}
 use Rattle.line_reader.specs.declared.line.Row.{Row}
+use Rattle.tables.specs.declared.Refusal.{Refusal}
 use Rattle.reading.specs.declared.look.Seen.{Seen}
 use Rattle.line_reader.specs.Rows.{row_held, Follows}
 use Rattle.line_reader.proofs.Flat.{value_padded}
-use Rattle.reading.specs.Looks.{Counted, refusal_number, refusal_line, Shown}
+use Rattle.reading.specs.Looks.{Shown}
 
 -- ---- one line of a reading
 
@@ -65,18 +68,17 @@ long_body_lem before (row s words) h = by_section_lem before s words (λ s. fals
 long_body_lem before (rule t body) h = refl
 
 -- the entry of a row that was held
-row_entry_lem : (o : Option Entry) {held : Row} → held ≡ row_held o → held.section < section_count → (e : Entry) × (o ≡ some e) × (held.section ≡ section_of e) × (held.words ≡ padded 10 (entry_words e))
+row_entry_lem : (o : Maybe Entry) {held : Row} → Some held ≡ row_held o → (e : Entry) × (o ≡ some e) × (held.section ≡ section_of e) × (held.words ≡ padded 10 (entry_words e))
 unfolding row_held
-row_entry_lem none q h = absurd (omega (arith, h, ap (λ r. r.section) q))
-row_entry_lem (some e) q h = (e, refl, ap (λ r. r.section) q, ap (λ r. r.words) q)
+row_entry_lem none {held} q = absurd (none-some held (sym q))
+row_entry_lem (some e) {held} q =
+    let same = same_Some held _ q in
+    (e, refl, ap (λ (r : Row). r.section) same, ap (λ (r : Row). r.words) same)
 
-no_entry : (before : List Entry) (line : List ℕ) {held : Row} → held ≡ row_held (entry_in before line) → section_count ≤ held.section → entry_in before line ≡ none
+no_entry : (o : Maybe Entry) → None ≡ row_held o → o ≡ none
 unfolding row_held
-no_entry before line {held} q h = step (entry_in before line) refl q
-  where
-    step : (o : Option Entry) → entry_in before line ≡ o → held ≡ row_held o → entry_in before line ≡ none
-    step none e q = e
-    step (some f) e q = absurd (omega (arith, h, ap (λ r. r.section) q, section_small before f (entry_spelled before line f e).fits))
+no_entry none q = refl
+no_entry (some e) q = absurd (none-some _ q)
 
 or_none : (a b : Bool) → (a || b) ≡ false → a ≡ false
 or_none true b h = h
@@ -130,12 +132,10 @@ unfolding look_starts
 starts_before text lent = refl
 
 -- what a reading shows
-shown : (text lent : List ℕ) (r : Reading) → length text ≤ max_text → read_from (length text) lent 1 [] text ≡ r → {seen : Seen} → seen.number ≡ refusal_number r → seen.line ≡ refusal_line r → ((es : List Entry) → r ≡ taken es → Counted es seen.counts seen.cells) → Shown (reading lent text) seen
+shown : (text lent : List ℕ) (r : Reading) → length text ≤ max_text → read_from (length text) lent 1 [] text ≡ r → (seen : Result Seen Refusal) → Shown r seen → Shown (reading lent text) seen
 unfolding reading
-shown text lent r short q {seen} n l c =
-    subst (λ r. Shown r seen)
-    (sym (ap (λ b. cond b (refused 2 0) (read_from (length text) lent 1 [] text)) (le-ltb max_text (length text) short) ∙ q))
-    (record { number_is = n; line_is = l; counted = c })
+shown text lent r short q seen is =
+    subst (λ r. Shown r seen) (sym (ap (λ b. cond b (refused 2 0) (read_from (length text) lent 1 [] text)) (le-ltb max_text (length text) short) ∙ q)) is
 
 abbrev is_taken : Reading → Bool
 is_taken (taken es) = true
@@ -165,10 +165,8 @@ module _ {text lent : List ℕ} {at n : ℕ} {counts cells : List ℕ} {section 
   pub look_done : length text ≤ at → read_from (length text) lent 1 [] text ≡ taken k.before
   look_done h = sym k.same ∙ ap (read_from k.fuel lent n k.before) (drop_of_length-le text h) ∙ reading_end k.fuel lent n k.before
 
-  pub look_ends : length text ≤ at → length text ≤ max_text → Shown (reading lent text) (record { number = 0; line = 0; counts = counts; cells = cells })
-  look_ends h short =
-      shown text lent (taken k.before) short (look_done h) refl refl
-      (λ es q. subst (λ es. Counted es counts cells) (taken_same q) (record { rows = k.rows; cells_of_lem = k.cells_of_lem }))
+  pub look_ends : length text ≤ at → length text ≤ max_text → Shown (reading lent text) (Ok (record { counts = counts; cells = cells }))
+  look_ends h short = shown text lent (taken k.before) short (look_done h) _ (record { rows = k.rows; cells_of_lem = k.cells_of_lem })
 
   -- ---- a line
 
@@ -194,8 +192,8 @@ module _ {text lent : List ℕ} {at n : ℕ} {counts cells : List ℕ} {section 
     one_line : read_from (length text) lent 1 [] text ≡ cond (line_ended rest) (entry_then lent n k.before more (entry_in k.before (line_in rest))) (refused 1 n)
     one_line = sym k.same ∙ reading_line k.fuel lent n k.before rest some_left k.left
 
-    refusing : (number : ℕ) → read_from (length text) lent 1 [] text ≡ refused number n → {seen : Seen} → (seen.number ≡ number) × (seen.line ≡ n) → Shown (reading lent text) seen
-    refusing number q is = shown text lent (refused number n) short q is.0 is.1 (λ es e. absurd (false≢true (ap is_taken e)))
+    refusing : (number : ℕ) → read_from (length text) lent 1 [] text ≡ refused number n → Shown (reading lent text) (Err (record { number = number; place = n }))
+    refusing number q = shown text lent (refused number n) short q _ refl
 
     -- a text that is taken ends its line
     pub ended_fine : {es : List Entry} → read_from (length text) lent 1 [] text ≡ taken es → line_ended rest ≡ true
@@ -205,71 +203,75 @@ module _ {text lent : List ℕ} {at n : ℕ} {counts cells : List ℕ} {section 
         step true o q = refl
         step false o q = absurd (false≢true (ap is_taken q))
 
-    pub look_unended : {ended : Bool} → ended ≡ line_ended rest → not ended ≡ true → {seen : Seen} → (seen.number ≡ 1) × (seen.line ≡ n) → Shown (reading lent text) seen
-    look_unended {ended} q g is = refusing 1 (one_line ∙ ap (λ b. cond b (entry_then lent n k.before more (entry_in k.before (line_in rest))) (refused 1 n)) (sym q ∙ not-true ended g)) is
+    pub look_unended : {ended : Bool} → ended ≡ line_ended rest → not ended ≡ true → Shown (reading lent text) (Err (record { number = 1; place = n }))
+    look_unended {ended} q g = refusing 1 (one_line ∙ ap (λ b. cond b (entry_then lent n k.before more (entry_in k.before (line_in rest))) (refused 1 n)) (sym q ∙ not-true ended g))
 
--- the line at a place, which is ended, and the row that it was found to say
-pub record LineRead {text lent : List ℕ} {at n : ℕ} {counts cells : List ℕ} {section : ℕ} (k : Looking text lent at n counts cells section) (held : Row) : Type 0 where
+-- the line at a place, which is ended, and the row that it was found to say, if any
+pub record LineRead {text lent : List ℕ} {at n : ℕ} {counts cells : List ℕ} {section : ℕ} (k : Looking text lent at n counts cells section) (held : Option Row) : Type 0 where
   pub inside : at < length text
   pub short : length text ≤ max_text
   pub ended : line_ended (drop at text) ≡ true
   pub held_is : held ≡ row_held (entry_in k.before (line_in (drop at text)))
 
-module _ {text lent : List ℕ} {at n : ℕ} {counts cells : List ℕ} {section : ℕ} {k : Looking text lent at n counts cells section} {held : Row} (line : LineRead k held) where
-  abbrev unread : List ℕ
-  unread = drop at text
+pub line_read : {text lent : List ℕ} {at n : ℕ} {counts cells : List ℕ} {section : ℕ} (k : Looking text lent at n counts cells section) {held : Option Row} {line : List ℕ} → at < length text → length text ≤ max_text
+    → line_ended (drop at text) ≡ true → line ≡ line_in (drop at text) → held ≡ row_held (entry_in k.before line) → LineRead k held
+line_read k inside short ended l r =
+    record { inside = inside; short = short; ended = ended; held_is = r ∙ ap (λ l. row_held (entry_in k.before l)) l }
 
-  abbrev onwards : Entry → Reading
-  onwards = more k line.inside line.short
+module _ {text lent : List ℕ} {at n : ℕ} {counts cells : List ℕ} {section : ℕ} {k : Looking text lent at n counts cells section} where
+  abbrev onwards : {held : Option Row} → LineRead k held → Entry → Reading
+  onwards line = more k line.inside line.short
 
-  at_entry : read_from (length text) lent 1 [] text ≡ entry_then lent n k.before onwards (entry_in k.before (line_in unread))
-  at_entry =
+  at_entry : {held : Option Row} (line : LineRead k held) → read_from (length text) lent 1 [] text ≡ entry_then lent n k.before (onwards line) (entry_in k.before (line_in (drop at text)))
+  at_entry line =
       one_line k line.inside line.short
-      ∙ ap (λ b. cond b (entry_then lent n k.before onwards (entry_in k.before (line_in unread))) (refused 1 n)) line.ended
+      ∙ ap (λ b. cond b (entry_then lent n k.before (onwards line) (entry_in k.before (line_in (drop at text)))) (refused 1 n)) line.ended
 
-  -- a text that is taken has a row there
-  pub section_fine : {es : List Entry} → read_from (length text) lent 1 [] text ≡ taken es → held.section < section_count
-  unfolding entry_then row_held
-  section_fine {es} t = step (entry_in k.before (line_in unread)) refl (sym at_entry ∙ t) line.held_is
-    where
-      step : (o : Option Entry) → entry_in k.before (line_in unread) ≡ o → entry_then lent n k.before onwards o ≡ taken es → held ≡ row_held o → held.section < section_count
-      step none e t r = absurd (false≢true (ap is_taken t))
-      step (some f) e t r = omega (arith, ap (λ r. r.section) r, section_small k.before f (entry_spelled k.before (line_in unread) f e).fits)
-
-  pub look_bad : section_count ≤ held.section → {seen : Seen} → (seen.number ≡ 1) × (seen.line ≡ n) → Shown (reading lent text) seen
+  -- a line that says no row is refused, so a text that is taken has none
+  no_row_lem : (line : LineRead k None) → read_from (length text) lent 1 [] text ≡ refused 1 n
   unfolding entry_then
-  look_bad s is = refusing k line.inside line.short 1 (at_entry ∙ ap (entry_then lent n k.before onwards) (no_entry k.before (line_in unread) line.held_is s)) is
+  no_row_lem line = at_entry line ∙ ap (entry_then lent n k.before (onwards line)) (no_entry (entry_in k.before (line_in (drop at text))) line.held_is)
 
-  module _ (s : held.section < section_count) {full : Bool} (f : full ≡ (ltb (min (limit_of held.section) (get_or lent held.section 0)) (suc (get_or counts held.section 0)) || (eqb held.section rule_name && ltb max_forms (get_or held.words 1 0)))) where
-    pub e : Entry
-    e = (row_entry_lem (entry_in k.before (line_in unread)) line.held_is s).0
+  pub look_bad : LineRead k None → Shown (reading lent text) (Err (record { number = 1; place = n }))
+  look_bad line = refusing k line.inside line.short 1 (no_row_lem line)
 
-    pub found : entry_in k.before (line_in unread) ≡ some e
-    unfolding e
-    found = (row_entry_lem (entry_in k.before (line_in unread)) line.held_is s).1
+  pub row_there : {es : List Entry} → LineRead k None → read_from (length text) lent 1 [] text ≡ taken es → ⊥
+  row_there line t = false≢true (ap is_taken (sym (no_row_lem line) ∙ t))
 
-    pub section_of_lem : held.section ≡ section_of e
-    unfolding e
-    section_of_lem = (row_entry_lem (entry_in k.before (line_in unread)) line.held_is s).2
+module _ {text lent : List ℕ} {at n : ℕ} {counts cells : List ℕ} {section : ℕ} {k : Looking text lent at n counts cells section} {held : Row} (line : LineRead k (Some held)) where
+  pub e : Entry
+  e = (row_entry_lem (entry_in k.before (line_in (drop at text))) line.held_is).0
 
-    pub words_are : held.words ≡ padded 10 (entry_words e)
-    unfolding e
-    words_are = (row_entry_lem (entry_in k.before (line_in unread)) line.held_is s).3
+  pub found : entry_in k.before (line_in (drop at text)) ≡ some e
+  unfolding e
+  found = (row_entry_lem (entry_in k.before (line_in (drop at text))) line.held_is).1
 
-    pub said : sayable k.before e ≡ true
-    said = (entry_spelled k.before (line_in unread) e found).fits
+  pub section_of_lem : held.section ≡ section_of e
+  unfolding e
+  section_of_lem = (row_entry_lem (entry_in k.before (line_in (drop at text))) line.held_is).2
 
+  pub words_are : held.words ≡ padded 10 (entry_words e)
+  unfolding e
+  words_are = (row_entry_lem (entry_in k.before (line_in (drop at text))) line.held_is).3
+
+  pub said : sayable k.before e ≡ true
+  said = (entry_spelled k.before (line_in (drop at text)) e found).fits
+
+  pub section_fine : held.section < section_count
+  section_fine = omega (arith, section_of_lem, section_small k.before e said)
+
+  module _ {full : Bool} (f : full ≡ (ltb (min (limit_of held.section) (get_or lent held.section 0)) (suc (get_or counts held.section 0)) || (eqb held.section rule_name && ltb max_forms (get_or held.words 1 0)))) where
     full_is : full ≡ no_room lent k.before e
     unfolding no_room
     full_is =
         f
-        ∙ ap₂ (λ c w. ltb (min (limit_of held.section) (get_or lent held.section 0)) (suc c) || (eqb held.section rule_name && ltb max_forms (get_or w 1 0))) (k.rows held.section s) words_are
+        ∙ ap₂ (λ c w. ltb (min (limit_of held.section) (get_or lent held.section 0)) (suc c) || (eqb held.section rule_name && ltb max_forms (get_or w 1 0))) (k.rows held.section section_fine) words_are
         ∙ ap (λ s. ltb (min (limit_of s) (get_or lent s 0)) (suc (count_of s k.before)) || (eqb s rule_name && ltb max_forms (get_or (padded 10 (entry_words e)) 1 0))) section_of_lem
         ∙ ap (λ b. ltb (min (limit_of (section_of e)) (get_or lent (section_of e) 0)) (suc (count_of (section_of e) k.before)) || b) (sym (long_body_lem k.before e said))
 
-    at_row : read_from (length text) lent 1 [] text ≡ cond full (refused 2 n) (onwards e)
+    at_row : read_from (length text) lent 1 [] text ≡ cond full (refused 2 n) (onwards line e)
     unfolding entry_then
-    at_row = at_entry ∙ ap (entry_then lent n k.before onwards) found ∙ ap (λ b. cond b (refused 2 n) (onwards e)) (sym full_is)
+    at_row = at_entry line ∙ ap (entry_then lent n k.before (onwards line)) found ∙ ap (λ b. cond b (refused 2 n) (onwards line e)) (sym full_is)
 
     pub row_fine : {es : List Entry} → read_from (length text) lent 1 [] text ≡ taken es → full ≡ false
     row_fine t = step full _ (sym at_row ∙ t)
@@ -278,8 +280,8 @@ module _ {text lent : List ℕ} {at n : ℕ} {counts cells : List ℕ} {section 
         step true o q = absurd (false≢true (ap is_taken q))
         step false o q = refl
 
-    pub look_full : full ≡ true → {seen : Seen} → (seen.number ≡ 2) × (seen.line ≡ n) → Shown (reading lent text) seen
-    look_full t is = refusing k line.inside line.short 2 (at_row ∙ ap (λ b. cond b (refused 2 n) (onwards e)) t) is
+    pub look_full : full ≡ true → Shown (reading lent text) (Err (record { number = 2; place = n }))
+    look_full t = refusing k line.inside line.short 2 (at_row ∙ ap (λ b. cond b (refused 2 n) (onwards line e)) t)
 
     -- ---- a line with a row
 
@@ -319,7 +321,7 @@ module _ {text lent : List ℕ} {at n : ℕ} {counts cells : List ℕ} {section 
       count_here t h = step (eqb S t) refl
         where
           step : (b : Bool) → eqb S t ≡ b → get_or (set counts S (get_or counts S 0 + 1)) t 0 ≡ cond b (get_or counts t 0 + 1) (get_or counts t 0)
-          step true q = ap (λ k. get_or (set counts S (get_or counts S 0 + 1)) k 0) (sym (eqb-true S t q)) ∙ get_or-set_same counts S (get_or counts S 0 + 1) 0 (omega (arith, s, k.counts_held)) ∙ ap (λ k. get_or counts k 0 + 1) (eqb-true S t q)
+          step true q = ap (λ k. get_or (set counts S (get_or counts S 0 + 1)) k 0) (sym (eqb-true S t q)) ∙ get_or-set_same counts S (get_or counts S 0 + 1) 0 (omega (arith, section_fine, k.counts_held)) ∙ ap (λ k. get_or counts k 0 + 1) (eqb-true S t q)
           step false q = get_or-set_other counts S t (get_or counts S 0 + 1) 0 (λ e. eqb-false S t q (sym e))
 
       rows_next : (s : ℕ) → s < section_count → get_or (set counts S (get_or counts S 0 + 1)) s 0 ≡ count_of s next
@@ -390,15 +392,15 @@ module _ {text lent : List ℕ} {at n : ℕ} {counts cells : List ℕ} {section 
               before_it (omega (arith, h, none_more, N-is))
               ∙ sym (ap (λ l. word_at l 2 t 1) (table_next ∙ ap (λ b. table ++ cond b (entry_words e) []) q ∙ append-nil table))
 
-      goes_on : {after : ℕ} → after ≡ at + length (line_in unread) + 1 → Looking text lent after (n + 1) (set counts S (get_or counts S 0 + 1)) (cond (eqb S type_name && ltb (get_or counts type_name 0) 32) (set cells (get_or counts type_name 0) (get_or held.words 1 0)) cells) S
+      goes_on : {after : ℕ} → after ≡ at + length (line_in (drop at text)) + 1 → Looking text lent after (n + 1) (set counts S (get_or counts S 0 + 1)) (cond (eqb S type_name && ltb (get_or counts type_name 0) 32) (set cells (get_or counts type_name 0) (get_or held.words 1 0)) cells) S
       goes_on {after} a =
-          let place : after ≡ at + suc (length (line_in unread)) = omega (arith, a) in
-          let there : drop after text ≡ after_line unread = ap (λ m. drop m text) place ∙ sym (drop-drop (suc (length (line_in unread))) at text) in
+          let place : after ≡ at + suc (length (line_in (drop at text))) = omega (arith, a) in
+          let there : drop after text ≡ after_line (drop at text) = ap (λ m. drop m text) place ∙ sym (drop-drop (suc (length (line_in (drop at text)))) at text) in
           record {
             before = next;
             fuel = k.fuel - 1;
             left = omega (arith, a, line.inside, k.left, length-drop after text, length-drop at text);
-            same = ap₂ (λ m t. read_from (k.fuel - 1) lent m next t) (add-one n) there ∙ sym (at_row ∙ ap (λ b. cond b (refused 2 n) (onwards e)) room);
+            same = ap₂ (λ m t. read_from (k.fuel - 1) lent m next t) (add-one n) there ∙ sym (at_row ∙ ap (λ b. cond b (refused 2 n) (onwards line e)) room);
             few = omega (arith, a, k.few);
             counts_held = length-set counts S (get_or counts S 0 + 1) ∙ k.counts_held;
             cells_held = step (eqb S type_name && ltb (get_or counts type_name 0) 32);
@@ -413,13 +415,13 @@ module _ {text lent : List ℕ} {at n : ℕ} {counts cells : List ℕ} {section 
           step true = length-set cells (get_or counts type_name 0) (get_or held.words 1 0) ∙ k.cells_held
           step false = k.cells_held
 
-      pub look_goes_on : {end : ℕ} {more_counts more_cells : List ℕ} → end ≡ at + length (line_in unread) → more_counts ≡ set counts S (get_or counts S 0 + 1) → more_cells ≡ cond (eqb S type_name && ltb (get_or counts type_name 0) 32) (set cells (get_or counts type_name 0) (get_or held.words 1 0)) cells → Looking text lent (end + 1) (n + 1) more_counts more_cells S
+      pub look_goes_on : {end : ℕ} {more_counts more_cells : List ℕ} → end ≡ at + length (line_in (drop at text)) → more_counts ≡ set counts S (get_or counts S 0 + 1) → more_cells ≡ cond (eqb S type_name && ltb (get_or counts type_name 0) 32) (set cells (get_or counts type_name 0) (get_or held.words 1 0)) cells → Looking text lent (end + 1) (n + 1) more_counts more_cells S
       look_goes_on {end} {more_counts} {more_cells} a c d =
           subst (λ l. Looking text lent (end + 1) (n + 1) l more_cells S) (sym c)
           (subst (λ l. Looking text lent (end + 1) (n + 1) (set counts S (get_or counts S 0 + 1)) l S) (sym d) (goes_on {after = end + 1} (ap (λ m. m + 1) a)))
 
       -- the same, with the lines before it
-      pub look_with : {end : ℕ} {more_counts more_cells : List ℕ} → end ≡ at + length (line_in unread) → more_counts ≡ set counts S (get_or counts S 0 + 1) → more_cells ≡ cond (eqb S type_name && ltb (get_or counts type_name 0) 32) (set cells (get_or counts type_name 0) (get_or held.words 1 0)) cells → (m : Looking text lent (end + 1) (n + 1) more_counts more_cells S) × (m.before ≡ next)
+      pub look_with : {end : ℕ} {more_counts more_cells : List ℕ} → end ≡ at + length (line_in (drop at text)) → more_counts ≡ set counts S (get_or counts S 0 + 1) → more_cells ≡ cond (eqb S type_name && ltb (get_or counts type_name 0) 32) (set cells (get_or counts type_name 0) (get_or held.words 1 0)) cells → (m : Looking text lent (end + 1) (n + 1) more_counts more_cells S) × (m.before ≡ next)
       unfolding goes_on
       look_with {end} {more_counts} {more_cells} a c d =
           subst (λ l. (m : Looking text lent (end + 1) (n + 1) l more_cells S) × (m.before ≡ next)) (sym c)

@@ -11,51 +11,25 @@ use meaning::{
     MAX_EVENTS, MAX_FLOORS, MAX_FORMS, MAX_LINKS, MAX_OBJECTS, MAX_RELATIONSHIPS, MAX_RULES,
     MAX_TYPES,
 };
-use text::{RULE_SECTION, SECTION_COUNT, TYPE_SECTION};
+use tables::Refusal;
+use text::{RULE_SECTION, TYPE_SECTION};
 
-// What was seen: a refusal's number and line, or 0 and the rows of each section, with the cells of each type.
+// What was seen: the rows of each section, and the cells of each type.
 #[derive(Clone, Copy)]
 pub struct Seen {
-    pub number: u32,
-    pub line: u32,
     pub counts: [u32; 7],
     pub cells: [u32; 32],
 }
 
-// A refusal, with nothing counted.
-fn refused(number: u32, line: u32) -> Seen
-    ensures { (result.number ≡ number) × (result.line ≡ line) }
-{
-    Seen {
-        number,
-        line,
-        counts: [0u32; 7],
-        cells: [0u32; 32],
-    }
-}
-
-// The limit on a section's rows.
-fn limit_of(section: u32) -> u32
-    requires { section < section_count }
-    ensures { result ≡ limit_of section }
-{
-    let limits = [
-        MAX_TYPES,
-        MAX_FLOORS,
-        MAX_RELATIONSHIPS,
-        MAX_RULES,
-        MAX_OBJECTS,
-        MAX_LINKS,
-        MAX_EVENTS,
-    ];
-    limits[section as usize]
-}
-
-pub fn lesser(a: usize, b: usize) -> usize
-    ensures { result ≡ min a b }
-{
-    if a < b { a } else { b }
-}
+const LIMITS: [u32; 7] = [
+    MAX_TYPES,
+    MAX_FLOORS,
+    MAX_RELATIONSHIPS,
+    MAX_RULES,
+    MAX_OBJECTS,
+    MAX_LINKS,
+    MAX_EVENTS,
+];
 
 // Whether there is no row left for a line of the section, or its body has too many forms.
 fn is_full(section: u32, forms: u32, counts: &[u32; 7], room: &[usize; 7]) -> bool
@@ -63,14 +37,8 @@ fn is_full(section: u32, forms: u32, counts: &[u32; 7], room: &[usize; 7]) -> bo
     ensures { result ≡ (ltb (min (limit_of section) (get_or room.now section 0)) (suc (get_or counts.now section 0)) || (eqb section rule_name && ltb max_forms forms)) }
 {
     let at = section as usize;
-    let most = lesser(limit_of(section) as usize, room[at]) as u32;
-    if most <= counts[at] {
-        return true;
-    }
-    if section == RULE_SECTION {
-        return MAX_FORMS < forms;
-    }
-    false
+    let most = room[at].min(LIMITS[at] as usize);
+    most <= counts[at] as usize || section == RULE_SECTION && MAX_FORMS < forms
 }
 
 // The types' cells, with those of one more where the line is a type's.
@@ -78,11 +46,8 @@ pub fn more_cells(cells: &[u32; 32], types: u32, section: u32, size: u32) -> [u3
     ensures { result ≡ cond (eqb section type_name && ltb types 32) (set cells.now types size) cells.now }
 {
     let mut more = *cells;
-    if section == TYPE_SECTION {
-        if types < 32 {
-            more[types as usize] = size;
-            return more;
-        }
+    if section == TYPE_SECTION && types < 32 {
+        more[types as usize] = size;
     }
     more
 }
@@ -93,13 +58,12 @@ pub fn more_rows(counts: &[u32; 7], section: u32) -> [u32; 7]
     ensures { result ≡ set counts.now section (get_or counts.now section 0 + 1) }
 {
     let mut more = *counts;
-    let at = section as usize;
-    more[at] = more[at] + 1;
+    more[section as usize] += 1;
     more
 }
 
-// Looks the text through. `room` has the rows lent for each section.
-pub fn look(text: &[u8], room: &[usize; 7]) -> Seen
+// Looks the text through: a refusal's place is its line. `room` has the rows lent for each section.
+pub fn look(text: &[u8], room: &[usize; 7]) -> Result<Seen, Refusal>
     requires { length text.now ≤ max_text }
     ensures { Shown (reading room.now text.now) result }
 {
@@ -110,27 +74,31 @@ pub fn look(text: &[u8], room: &[usize; 7]) -> Seen
     let mut n: u32 = 1;
     while at < text.len() {
         if !lexical::is_ended(text, at) {
-            return refused(1, n);
+            return Err(Refusal {
+                number: 1,
+                place: n,
+            });
         }
         let line = lexical::line(text, at);
         let row = read_line(line, counts[0], counts[2], counts[3], &cells, section);
-        let words = row.words;
+        let Some(row) = row else {
+            return Err(Refusal {
+                number: 1,
+                place: n,
+            });
+        };
         section = row.section;
-        if SECTION_COUNT <= section {
-            return refused(1, n);
+        let size = row.words[1];
+        if is_full(section, size, &counts, room) {
+            return Err(Refusal {
+                number: 2,
+                place: n,
+            });
         }
-        if is_full(section, words[1], &counts, room) {
-            return refused(2, n);
-        }
-        cells = more_cells(&cells, counts[0], section, words[1]);
+        cells = more_cells(&cells, counts[0], section, size);
         counts = more_rows(&counts, section);
         at = lexical::line_end(text, at) + 1;
         n += 1;
     }
-    Seen {
-        number: 0,
-        line: 0,
-        counts,
-        cells,
-    }
+    Ok(Seen { counts, cells })
 }

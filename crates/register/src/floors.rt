@@ -40,8 +40,7 @@ pub fn below_floor(
     ensures { result ≡ below_floor (types_of type_count types.now) (floors_of floor_count floors.now)
         t (object_row objects.now row).cells }
 {
-    let mut cell: u32 = 0;
-    while cell < meaning::CELLS {
+    for cell in 0..meaning::CELLS {
         if cell_below(
             type_count,
             types,
@@ -54,7 +53,6 @@ pub fn below_floor(
         ) {
             return true;
         }
-        cell += 1;
     }
     false
 }

@@ -8,22 +8,21 @@ ghost use Rattle.register.specs.Guesses.{guess_place, with_guess, with_guesses};
 ghost use Rattle.register.specs.Tables.{ObjectsAscend, LinksAscend, object_place, link_place};
 
 use crate::columns;
-use tables::Found;
 
 // The row of the object of an id.
-pub fn object_row(object_count: u32, objects: &[u32], id: u32) -> Found
+pub fn object_row(object_count: u32, objects: &[u32], id: u32) -> Option<u32>
     requires { ObjectsAscend object_count objects.now }
     ensures { result ≡ found_of (object_place object_count objects.now id) }
 {
     let key = [id];
     let row = keys::place(objects, tables::OBJECT_WIDTH, object_count, 1, &key);
     if row >= object_count {
-        return Found::Nothing;
+        return None;
     }
     if columns::id_of(objects, row) == id {
-        Found::At(row)
+        Some(row)
     } else {
-        Found::Nothing
+        None
     }
 }
 
@@ -47,19 +46,19 @@ pub fn link_row(
     relationship: u32,
     source: u32,
     target: u32,
-) -> Found
+) -> Option<u32>
     requires { LinksAscend link_count links.now }
     ensures { result ≡ found_of (link_place link_count links.now (link_of relationship source target)) }
 {
     let key = [relationship, source, target];
     let row = keys::place(links, tables::LINK_WIDTH, link_count, 3, &key);
     if row >= link_count {
-        return Found::Nothing;
+        return None;
     }
     if is_link(links, row, relationship, source, target) {
-        Found::At(row)
+        Some(row)
     } else {
-        Found::Nothing
+        None
     }
 }
 
@@ -88,10 +87,8 @@ fn put_guess(table: &mut [u16; 4096], id: u32, row: u32)
 pub fn guesses(object_count: u32, objects: &[u32], table: &mut [u16; 4096])
     ensures { table.new ≡ with_guesses table.old objects.now 0 object_count }
 {
-    let mut row: u32 = 0;
-    while row < object_count {
+    for row in 0..object_count {
         put_guess(table, columns::id_of(objects, row), row);
-        row += 1;
     }
 }
 
@@ -106,17 +103,17 @@ fn has_id(object_count: u32, objects: &[u32], row: u32, id: u32) -> bool
 }
 
 // The row of the object of an id, whatever the guesses are: most often a guessed one, else it is searched for.
-pub fn quick_row(object_count: u32, objects: &[u32], table: &[u16; 4096], id: u32) -> Found
+pub fn quick_row(object_count: u32, objects: &[u32], table: &[u16; 4096], id: u32) -> Option<u32>
     requires { ObjectsAscend object_count objects.now }
     ensures { result ≡ found_of (object_place object_count objects.now id) }
 {
     let first = rows::wide(table[place(id, 0)]);
     if has_id(object_count, objects, first, id) {
-        return Found::At(first);
+        return Some(first);
     }
     let second = rows::wide(table[place(id, 1)]);
     if has_id(object_count, objects, second, id) {
-        return Found::At(second);
+        return Some(second);
     }
     object_row(object_count, objects, id)
 }

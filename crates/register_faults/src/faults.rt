@@ -10,18 +10,15 @@ ghost use Rattle.register.specs.Tables.{objects_with, ObjectsAscend};
 
 use register::floors::below_floor;
 use register::{columns, search};
-use tables::Found;
 
 // Whether the cells of an object's row from one on are 0.
 fn zero_from(objects: &[u32], row: u32, cells: u32) -> bool
     ensures { result ≡ every is_zero (drop cells (object_row objects.now row).cells) }
 {
-    let mut cell = cells;
-    while cell < meaning::CELLS {
+    for cell in cells..meaning::CELLS {
         if columns::cell_of(objects, row, cell) != 0 {
             return false;
         }
-        cell += 1;
     }
     true
 }
@@ -94,19 +91,17 @@ pub fn object_fault(
     floors: &[u32],
     object_count: u32,
     objects: &[u32],
-) -> Found
+) -> Option<u32>
     ensures { (ls : List Link) →
         result ≡ found_of (object_fault (types_of type_count types.now) (floors_of floor_count floors.now)
         (objects_with object_count objects.now ls)) }
 {
-    let mut row: u32 = 0;
-    while row < object_count {
+    for row in 0..object_count {
         if faulty_object(type_count, types, floor_count, floors, objects, row) {
-            return Found::At(row);
+            return Some(row);
         }
-        row += 1;
     }
-    Found::Nothing
+    None
 }
 
 // Whether the object of an id is there and its type is under t.
@@ -124,8 +119,8 @@ fn is_under(
         result ≡ is_under (types_of type_count types.now) (objects_with object_count objects.now ls) id t }
 {
     match search::quick_row(object_count, objects, table, id) {
-        Found::At(row) => schema::under(type_count, types, columns::type_of(objects, row), t),
-        Found::Nothing => false,
+        Some(row) => schema::under(type_count, types, columns::type_of(objects, row), t),
+        None => false,
     }
 }
 
@@ -236,14 +231,13 @@ pub fn link_fault(
     table: &[u16; 4096],
     link_count: u32,
     links: &[u32],
-) -> Found
+) -> Option<u32>
     requires { ObjectsAscend object_count objects.now }
     ensures { (fs : List Floor) → result ≡ found_of (link_fault
         (schema_of type_count types.now fs relationship_count relationships.now)
         (register_of object_count objects.now link_count links.now)) }
 {
-    let mut row: u32 = 0;
-    while row < link_count {
+    for row in 0..link_count {
         if faulty_link(
             type_count,
             types,
@@ -255,9 +249,8 @@ pub fn link_fault(
             links,
             row,
         ) {
-            return Found::At(row);
+            return Some(row);
         }
-        row += 1;
     }
-    Found::Nothing
+    None
 }

@@ -10,7 +10,6 @@ ghost use Rattle.tables.specs.Columns.{types_of, floors_of, schema_of, register_
 ghost use Rattle.tables.specs.Refusals.{found_of};
 
 use register::search;
-use tables::Found;
 
 // Refusal 5: the first faulty object, else the first faulty link.
 pub fn check(
@@ -24,7 +23,7 @@ pub fn check(
     objects: &[u32],
     link_count: u32,
     links: &[u32],
-) -> Found
+) -> Option<u32>
     ensures { result ≡ found_of (first_of
         (object_fault (types_of type_count types.now) (floors_of floor_count floors.now)
         (register_of object_count objects.now link_count links.now))
@@ -40,8 +39,8 @@ pub fn check(
         object_count,
         objects,
     ) {
-        Found::At(row) => Found::At(row),
-        Found::Nothing => {
+        Some(row) => Some(row),
+        None => {
             let mut table = [0u16; 4096];
             search::guesses(object_count, objects, &mut table);
             faults::link_fault(

@@ -15,7 +15,7 @@ use Rattle.meaning.specs.Forms.{Rule}
 use Rattle.meaning.specs.Events.{link_of}
 use Rattle.rows.specs.Rows.{word_at, read_rows, signed}
 use Rattle.rows.proofs.Listed.{rows_same}
-use Rattle.rows.proofs.Meet.{get_d_past}
+use Rattle.rows.proofs.Moves.{get_d_past}
 use Rattle.rows.proofs.Offsets.{row_before}
 use Rattle.tables.specs.Layouts.{Sheet, sheet_of}
 use Rattle.tables.specs.Bodies.{BodyRow, body_row, read_body}

@@ -22,7 +22,7 @@ use Rattle.rows.specs.Rows.{word_at, read_rows, rows_lent}
 use Rattle.tables.specs.Layouts.{Sheet, Layout, type_table, floor_table, relationship_table, rule_table, body_table, object_table, link_table, event_table, layouts, lines_lent}
 use Rattle.tables.specs.Bodies.{read_body, write_form}
 use Rattle.tables.specs.Columns.{rule_row, no_event, event_row, book_of, register_in, batch_in}
-use Rattle.tables.specs.Refusals.{not_whole, sheet_refusal}
+use Rattle.tables.specs.Refusals.{OrRefused, not_whole, sheet_refusal}
 use Rattle.tables.specs.declared.Counts.{Counts}
 use Rattle.tables.proofs.Forms.{nums_fit, words_from, body_count, body_read, table_words}
 use Rattle.schema.proofs.Rows.{length_rows, row_there}
@@ -39,7 +39,7 @@ use Rattle.text.proofs.Texts.{write_after_read}
 use Rattle.text.proofs.Determined.{one_spelling}
 use Rattle.reader.specs.Reads.{unless_broken, lent_reading, read_answer, counts_of, sheet_after}
 use Rattle.filling.specs.Fills.{sheet_with}
-use Rattle.reader.specs.declared.Outcome.TheVariants as Outcome
+use Rattle.std.specs.Prelude.{Ok, Err}
 use Rattle.writer.specs.Answers.{text_refusal, writer_refusal, write_answer, bytes_after}
 use Rattle.round_trip.specs.Claims.{SmallWords, text_in, written_text, Enough, ReadAs, WrittenIsRead, NoOtherIsRead}
 use Rattle.round_trip.proofs.Sheets.{known, rule_few, Room, sheet_fits, sheet_read}
@@ -206,7 +206,7 @@ module _ (n : Counts) (s : Sheet) (out : List ℕ) (small : SmallWords s) (clear
         let filled = exact_used lines into n in
         let after : sheet_after (lent_reading (written_text n s out) into) into ≡ sheet_with lines into = ap (λ r. sheet_after r into) is_read in
         record {
-          answer_is = ap read_answer is_read ∙ ap Outcome.Done (same_counts n s);
+          answer_is = ap read_answer is_read ∙ ap Ok (same_counts n s);
           book_is = ap (book_of n) after ∙ same_book filled ∙ same_book used_same;
           register_is = ap (register_in n) after ∙ same_register filled ∙ same_register used_same;
           batch_is = ap (batch_in n) after ∙ same_batch filled ∙ same_batch used_same;
@@ -215,13 +215,13 @@ module _ (n : Counts) (s : Sheet) (out : List ℕ) (small : SmallWords s) (clear
   -- ---- no other text
 
   module _ (text : List ℕ) (into : Sheet) (m : Counts) (r : ReadAs text into m (book_of n s) (register_in n s) (batch_in n s)) where
-    done_taken : (o : Reading) (broken : Bool) → read_answer (unless_broken o broken) ≡ Outcome.Done m
+    done_taken : (o : Reading) (broken : Bool) → read_answer (unless_broken o broken) ≡ Ok m
         → (es : List Entry) × (o ≡ taken es) × (unless_broken o broken ≡ taken es) × (counts_of es ≡ m)
     unfolding unless_broken
     done_taken (taken es) true e = let z : ◌≡◌ {A = ℕ} 0 1 = cc in absurd (omega arith)
     done_taken (taken es) false e = (es, refl, refl, counts_of_lem e)
       where
-        counts_of_lem : Outcome.Done (counts_of es) ≡ Outcome.Done m → counts_of es ≡ m
+        counts_of_lem : ◌≡◌ {A = OrRefused Counts} (Ok (counts_of es)) (Ok m) → counts_of es ≡ m
         counts_of_lem e = cc
     done_taken (refused number line) broken e = let z : ◌≡◌ {A = ℕ} 0 1 = cc in absurd (omega arith)
 

@@ -10,10 +10,9 @@ use Rattle.tables.specs.Columns.{book_of, register_in, batch_in}
 use Rattle.tables.specs.Refusals.{any_overfull, not_whole}
 use Rattle.tables.specs.declared.Counts.{Counts}
 use Rattle.reader.specs.Reads.{lent_reading, read_answer, sheet_after}
-use Rattle.reader.specs.declared.Outcome.TheVariants as Outcome
+use Rattle.std.specs.Prelude.{Ok, Err}
+use Rattle.tables.specs.Refusals.{OrRefused}
 use Rattle.writer.specs.Answers.{writer_refusal, answer_for, bytes_left}
-use Rattle.writer.specs.declared.Written.{Written}
-use Rattle.writer.specs.declared.Written.TheVariants.{Done, Refused}
 
 -- ---- what the claims speak of
 
@@ -32,9 +31,9 @@ pub record SmallWords (s : Sheet) : Type 0 where
   pub of_events : Small s.events
 
 -- the text that a call of the writer leaves in the lent bytes: as many of them as it answers
-abbrev pub text_in : Written → List ℕ → List ℕ
-text_in (Done size) bytes = take size bytes
-text_in (Refused number place) bytes = []
+abbrev pub text_in : OrRefused ℕ → List ℕ → List ℕ
+text_in (Ok size) bytes = take size bytes
+text_in (Err r) bytes = []
 
 abbrev pub written_text : Counts → Sheet → List ℕ → List ℕ
 written_text n s out = text_in (answer_for n s out) (bytes_left n s out)
@@ -46,7 +45,7 @@ pub record Enough (n : Counts) (into : Sheet) : Type 0 where
 
 -- A text that is read into lent tables: the answer is done with so many rows, and these are the book, the register and the batch.
 pub record ReadAs (text : List ℕ) (into : Sheet) (n : Counts) (book : Book) (register : Register) (batch : List Event) : Type 0 where
-  pub answer_is : read_answer (lent_reading text into) ≡ Outcome.Done n
+  pub answer_is : read_answer (lent_reading text into) ≡ Ok n
   pub book_is : book_of n (sheet_after (lent_reading text into) into) ≡ book
   pub register_is : register_in n (sheet_after (lent_reading text into) into) ≡ register
   pub batch_is : batch_in n (sheet_after (lent_reading text into) into) ≡ batch

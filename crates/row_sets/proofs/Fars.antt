@@ -59,7 +59,7 @@ module _ (w : Site) (x : Indexed w.counts.objects w.objects w.counts.links w.lin
 
     module _ (slot : ℕ) (e : suc slot ≡ word) where
       pub went : Went w.objects w.counts.objects to_come (StandsIn w (role 0 r) from) (suc slot) (get_or w.index slot 0) (get_or w.index (8192 + slot) 0)
-      went = (role_walked w x 0 r from 1 h refl up (suc slot) (subst (StandsIn w (role 0 r) from) (sym e) walk.stands)).went (get_or w.index slot 0) (get_or w.index (8192 + slot) 0) refl
+      went = (role_walked w x 0 r from 1 h refl up (suc slot) (subst (StandsIn w (role 0 r) from) (sym e) walk.stands)).went (record { row = get_or w.index slot 0; next = get_or w.index (8192 + slot) 0 }) refl
 
       pub far_goes_on : (after : ℕ → Bool) {far next : ℕ} → far ≡ get_or w.index slot 0 → next ≡ get_or w.index (8192 + slot) 0 → ((y : ℕ) → marked y ≡ true → after y ≡ true) → after far ≡ true → FarWalk w r row after next
       far_goes_on after {far} {next} f q kept own =

@@ -12,11 +12,11 @@ ghost use Rattle.link_index.specs.Slots.{Indexed};
 ghost use Rattle.ocl.specs.Ready.{Steady};
 ghost use Rattle.walks.specs.Site.{id_in};
 ghost use Rattle.trace_places.specs.Questions.{named, asked, question_of};
-ghost use Rattle.trace_places.specs.Traces.{place_answers, row_lost, loss_role, Traced, Traces};
+ghost use Rattle.trace_places.specs.Traces.{place_answers, row_lost, loss_role, TracesIn, TracedIn};
 ghost use Rattle.row_sets.specs.Sets.{sets_of, in_set, Room, Grown, Cleared};
 
 use directions::{DOWN, UP};
-use tables::Counts;
+use tables::{Counts, Sheet};
 
 // The number of self among a rule's variables.
 pub const SELF: u32 = 0;
@@ -93,10 +93,7 @@ fn put_answer(
 // Puts the rows of the objects for which some event that names them answers a question into a variable's set.
 fn put_named(
     n: Counts,
-    types: &[u32],
-    objects: &[u32],
-    links: &[u32],
-    events: &[u32],
+    sheet: &Sheet,
     trace: &[u16; 16675],
     question: u32,
     x: u32,
@@ -104,16 +101,25 @@ fn put_named(
     marks: &mut [bool; 1024],
     sets: &mut [bool],
 )
-    requires { (Traces n types.now objects.now links.now events.now trace.now) × (question < 6) × (v < 64) × (Room (sets_of marks.old sets.old)) }
+    requires { (TracesIn n sheet.now trace.now) × (question < 6) × (v < 64) × (Room (sets_of marks.old sets.old)) }
     ensures { (Grown (sets_of marks.old sets.old) (sets_of marks.new sets.new))
-        × ((c : Change) → Traced c n types.now objects.now links.now events.now trace.now
-        → (row : ℕ) → row < n.objects → named c (question_of question x) (id_in objects.now row) ≡ true
+        × ((c : Change) → TracedIn c n sheet.now trace.now
+        → (row : ℕ) → row < n.objects → named c (question_of question x) (id_in sheet.now.objects.now row) ≡ true
         → in_set (sets_of marks.new sets.new) v row ≡ true) }
 {
-    let mut place: u32 = 0;
-    while place < 2 * n.events {
-        put_answer(n, types, events, trace, place, question, x, v, marks, sets);
-        place += 1;
+    for place in 0..2 * n.events {
+        put_answer(
+            n,
+            sheet.types,
+            sheet.events,
+            trace,
+            place,
+            question,
+            x,
+            v,
+            marks,
+            sets,
+        );
     }
 }
 
@@ -143,37 +149,29 @@ fn put_loss(
 // Puts the rows of the objects from which a role lost a link, taken along by a delete, into a variable's set.
 fn put_lost(
     n: Counts,
-    types: &[u32],
-    objects: &[u32],
-    links: &[u32],
-    events: &[u32],
+    sheet: &Sheet,
     trace: &[u16; 16675],
     role: u32,
     v: u32,
     marks: &mut [bool; 1024],
     sets: &mut [bool],
 )
-    requires { (Traces n types.now objects.now links.now events.now trace.now) × (v < 64) × (Room (sets_of marks.old sets.old)) }
+    requires { (TracesIn n sheet.now trace.now) × (v < 64) × (Room (sets_of marks.old sets.old)) }
     ensures { (Grown (sets_of marks.old sets.old) (sets_of marks.new sets.new))
-        × ((c : Change) → Traced c n types.now objects.now links.now events.now trace.now
-        → (row : ℕ) → row < n.objects → some_step c (taken role (id_in objects.now row)) ≡ true
+        × ((c : Change) → TracedIn c n sheet.now trace.now
+        → (row : ℕ) → row < n.objects → some_step c (taken role (id_in sheet.now.objects.now row)) ≡ true
         → in_set (sets_of marks.new sets.new) v row ≡ true) }
 {
     let count = rows::wide(trace[14624]);
-    let mut j: u32 = 0;
-    while j < count {
+    for j in 0..count {
         put_loss(n, trace, j, role, v, marks, sets);
-        j += 1;
     }
 }
 
 // Puts the rows of the objects for which some event answers a question into a variable's set.
 pub fn put_answers(
     n: Counts,
-    types: &[u32],
-    objects: &[u32],
-    links: &[u32],
-    events: &[u32],
+    sheet: &Sheet,
     trace: &[u16; 16675],
     question: u32,
     x: u32,
@@ -181,38 +179,15 @@ pub fn put_answers(
     marks: &mut [bool; 1024],
     sets: &mut [bool],
 )
-    requires { (Traces n types.now objects.now links.now events.now trace.now) × (question < 6) × (v < 64) × (Room (sets_of marks.old sets.old)) }
+    requires { (TracesIn n sheet.now trace.now) × (question < 6) × (v < 64) × (Room (sets_of marks.old sets.old)) }
     ensures { (Grown (sets_of marks.old sets.old) (sets_of marks.new sets.new))
-        × ((c : Change) → Traced c n types.now objects.now links.now events.now trace.now
-        → (row : ℕ) → row < n.objects → asked c (question_of question x) (id_in objects.now row) ≡ true
+        × ((c : Change) → TracedIn c n sheet.now trace.now
+        → (row : ℕ) → row < n.objects → asked c (question_of question x) (id_in sheet.now.objects.now row) ≡ true
         → in_set (sets_of marks.new sets.new) v row ≡ true) }
 {
-    put_named(
-        n,
-        types,
-        objects,
-        links,
-        events,
-        trace,
-        question,
-        x,
-        v,
-        &mut *marks,
-        &mut *sets,
-    );
+    put_named(n, sheet, trace, question, x, v, &mut *marks, &mut *sets);
     if question == questions::PARTED {
-        put_lost(
-            n,
-            types,
-            objects,
-            links,
-            events,
-            trace,
-            x,
-            v,
-            &mut *marks,
-            &mut *sets,
-        );
+        put_lost(n, sheet, trace, x, v, &mut *marks, &mut *sets);
     }
 }
 
@@ -291,10 +266,8 @@ pub fn put_back(
         → id_in objects.now y ∈ far_ends (register_of n.objects objects.now n.links links.now) role (id_in objects.now x)
         → in_set (sets_of marks.new sets.new) v y ≡ true) }
 {
-    let mut row: u32 = 0;
-    while row < n.objects {
+    for row in 0..n.objects {
         put_row(n, objects, links, index, role, from, row, v, marks, sets);
-        row += 1;
     }
 }
 
@@ -302,10 +275,7 @@ pub fn put_back(
 pub fn put_if(
     wanted: bool,
     n: Counts,
-    types: &[u32],
-    objects: &[u32],
-    links: &[u32],
-    events: &[u32],
+    sheet: &Sheet,
     trace: &[u16; 16675],
     question: u32,
     x: u32,
@@ -313,27 +283,22 @@ pub fn put_if(
     marks: &mut [bool; 1024],
     sets: &mut [bool],
 )
-    requires { (Traces n types.now objects.now links.now events.now trace.now) × (question < 6) × (v < 64) × (Room (sets_of marks.old sets.old)) }
+    requires { (TracesIn n sheet.now trace.now) × (question < 6) × (v < 64) × (Room (sets_of marks.old sets.old)) }
     ensures { (Grown (sets_of marks.old sets.old) (sets_of marks.new sets.new))
-        × ((c : Change) → Traced c n types.now objects.now links.now events.now trace.now
-        → (row : ℕ) → row < n.objects → (wanted && asked c (question_of question x) (id_in objects.now row)) ≡ true
+        × ((c : Change) → TracedIn c n sheet.now trace.now
+        → (row : ℕ) → row < n.objects → (wanted && asked c (question_of question x) (id_in sheet.now.objects.now row)) ≡ true
         → in_set (sets_of marks.new sets.new) v row ≡ true) }
 {
     if !wanted {
         return;
     }
-    put_answers(
-        n, types, objects, links, events, trace, question, x, v, marks, sets,
-    );
+    put_answers(n, sheet, trace, question, x, v, marks, sets);
 }
 
 // Puts the rows of the objects for which some event answers the question of a direction of the set into a variable's set.
 pub fn put_moved(
     n: Counts,
-    types: &[u32],
-    objects: &[u32],
-    links: &[u32],
-    events: &[u32],
+    sheet: &Sheet,
     trace: &[u16; 16675],
     gain: u32,
     loss: u32,
@@ -343,21 +308,17 @@ pub fn put_moved(
     marks: &mut [bool; 1024],
     sets: &mut [bool],
 )
-    requires { (Traces n types.now objects.now links.now events.now trace.now) × (gain < 6) × (loss < 6) × (v < 64) × (Room (sets_of marks.old sets.old)) }
+    requires { (TracesIn n sheet.now trace.now) × (gain < 6) × (loss < 6) × (v < 64) × (Room (sets_of marks.old sets.old)) }
     ensures { (Grown (sets_of marks.old sets.old) (sets_of marks.new sets.new))
-        × ((c : Change) → Traced c n types.now objects.now links.now events.now trace.now
+        × ((c : Change) → TracedIn c n sheet.now trace.now
         → (row : ℕ) → row < n.objects
-        → ((has set up && asked c (question_of gain x) (id_in objects.now row)) || (has set down && asked c (question_of loss x) (id_in objects.now row))) ≡ true
+        → ((has set up && asked c (question_of gain x) (id_in sheet.now.objects.now row)) || (has set down && asked c (question_of loss x) (id_in sheet.now.objects.now row))) ≡ true
         → in_set (sets_of marks.new sets.new) v row ≡ true) }
 {
     let up = directions::contains(set, UP);
-    put_if(
-        up, n, types, objects, links, events, trace, gain, x, v, marks, sets,
-    );
+    put_if(up, n, sheet, trace, gain, x, v, marks, sets);
     let down = directions::contains(set, DOWN);
-    put_if(
-        down, n, types, objects, links, events, trace, loss, x, v, marks, sets,
-    );
+    put_if(down, n, sheet, trace, loss, x, v, marks, sets);
 }
 
 // Empties the set of a variable within.
@@ -365,11 +326,9 @@ pub fn clear(n: Counts, v: u32, sets: &mut [bool])
     requires { (0 < v) × (v < 64) × (n.objects ≤ 1024) × (length sets.old ≡ 65536) }
     ensures { (marks : List Bool) → Cleared v n.objects (sets_of marks sets.old) (sets_of marks sets.new) }
 {
-    let mut row: u32 = 0;
-    while row < n.objects {
+    for row in 0..n.objects {
         let at = (v * 1024 + row) as usize;
         sets[at] = false;
-        row += 1;
     }
 }
 
@@ -378,12 +337,10 @@ pub fn has_some(n: Counts, v: u32, marks: &[bool; 1024], sets: &[bool]) -> bool
     requires { (v < 64) × (n.objects ≤ 1024) × (Room (sets_of marks.now sets.now)) }
     ensures { (row : ℕ) → row < n.objects → in_set (sets_of marks.now sets.now) v row ≡ true → result ≡ true }
 {
-    let mut row: u32 = 0;
-    while row < n.objects {
+    for row in 0..n.objects {
         if in_set(v, row, marks, sets) {
             return true;
         }
-        row += 1;
     }
     false
 }

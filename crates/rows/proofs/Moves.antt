@@ -7,14 +7,17 @@ use Prim.Native.Nat.{ℕ, suc, ◌+◌, ◌-◌, ◌*◌, ◌≤◌, ◌<◌}
 use native.Mathlib.Nat.{suc-mul, eq-or-lt_of_le}
 use native.Mathlib.Omega.{arith}
 use lib.ListN.{length, get_or, take, drop, replicate, length-append, length-drop, length-replicate, length-set, get_or-replicate, get_or-append}
-use lib.Seq.{length-take-le, get_or-take, get_or-drop, take_at, drop_at, get_or-set_same, get_or-set_other}
+use lib.Seq.{length-take-le, get_or-take, get_or-drop, take_at, drop_at, get_or-append_right, get_or-set_same, get_or-set_other}
 use lib.Dec.{T, ltb}
 use mir.Facts.{ltb_yes, ltb_no}
 use borrow.Author.Tests.{eq-eqb, le-leb, lt-ltb}
 use Rattle.meaning.proofs.Lists.{decide}
 use Rattle.rows.specs.Rows.{word_at, with_row, with_word, without_columns, with_gap, without_row}
-use Rattle.rows.proofs.Meet.{get_d_past}
 use Rattle.rows.proofs.Offsets.{next_place_lem, row_before}
+
+-- past the seam of two lists stands the second
+pub get_d_past : (xs ys : List ℕ) (n k : ℕ) → length xs ≡ n → n ≤ k → get_or (xs ++ ys) k 0 ≡ get_or ys (k - n) 0
+get_d_past xs ys n k e h = get_or-append_right xs ys k 0 (omega arith) ∙ ap (λ m. get_or ys (k - m) 0) e
 
 -- ---- two pieces in the place of a part of a list, as many words as they replace
 

@@ -1,32 +1,14 @@
 -- A part of a slice that was lent, written or shifted, and put back.
 use mathlib.Core.Path.{◌≡◌, sym, ap, ◌∙◌}
-use mathlib.Core.List.{List, [], ◌∷◌, ◌++◌, append_assoc, append-nil}
-use Prim.Native.Nat.{ℕ, zero, suc, ◌+◌, ◌-◌, ◌≤◌}
-use native.Mathlib.Nat.{zero-add, suc-add, le_refl}
+use mathlib.Core.List.{List, ◌++◌, append_assoc, append-nil}
+use Prim.Native.Nat.{ℕ, ◌+◌, ◌-◌, ◌≤◌}
+use native.Mathlib.Nat.{le_refl}
 use native.Mathlib.Omega.{arith}
-use lib.ListN.{length, take, drop, replicate, length-replicate, length-drop}
-use lib.Seq.{length-take-le, take-nil, take_all, take-take, take-append-add, drop-append-le, drop-drop, drop-length}
+use lib.ListN.{length, take, drop, replicate, length-drop}
+use lib.Seq.{paste, length-take-le, take_all, take-take, take-append-le, drop_at, drop-drop, drop-length, length-paste, take-paste, drop-paste}
 use borrow.Author.Tests.{le-leb}
 use borrow.Rule.Slice.PartMut.{mid_of, put_mid, Post-is}
-use Rattle.rows.specs.Rows.{copied, shifted_up, shifted_down}
-
--- the first n + m words of s, shifted by n
-up : (s : List ℕ) (n m : ℕ) → n + m ≤ length s → shifted_up (take (n + m) s) n ≡ replicate n 0 ++ take m s
-unfolding shifted_up
-up s n m h =
-    rw (length-take-le (n + m) s h)
-    (ap (λ (k : ℕ). take (k + m) (replicate n 0 ++ take (n + m) s)) (sym (length-replicate n 0))
-    ∙ take-append-add (replicate n 0) (take (n + m) s) m ∙ rw (take-take m (n + m) s (omega arith)))
-
-drop_take : (s : List ℕ) (n m : ℕ) → drop n (take (n + m) s) ≡ take m (drop n s)
-drop_take s zero m = rw zero-add
-drop_take [] (suc n) m = rw (take-nil (suc n + m), take-nil m)
-drop_take (x ∷ s) (suc n) m = rw suc-add (drop_take s n m)
-
-down : (s : List ℕ) (n m : ℕ) → n + m ≤ length s → shifted_down (take (n + m) s) n ≡ take m (drop n s) ++ replicate n 0
-unfolding shifted_down
-down s n m h =
-    drop-append-le n (take (n + m) s) (replicate n 0) (rw (length-take-le (n + m) s h) (omega arith)) ∙ rw (drop_take s n m)
+use Rattle.rows.specs.Rows.{copied}
 
 module _ (t : List ℕ) (a e : ℕ) (h : a ≤ e) where
   -- the words from a up to e
@@ -42,25 +24,50 @@ module _ (t : List ℕ) (a e : ℕ) (h : a ≤ e) where
       let n : length part ≡ e - a = length-take-le (e - a) (drop a t) (rw length-drop (omega arith)) in
       put_back (replicate (length part) 0) ∙ rw n
 
-  -- shifted by n: what follows the first n words, or what precedes the last n, is as many as m
-  pub put_up : (n m : ℕ) → e ≤ length t → e ≡ a + n + m
-      → put_mid a (e - a) t (shifted_up part n) ≡ take a t ++ replicate n 0 ++ take m (drop a t) ++ drop e t
-  put_up n m k l =
-      let w : n + m ≤ length (drop a t) = rw length-drop (omega arith) in
-      let p : e - a ≡ n + m = omega arith in
-      put_back (shifted_up part n) ∙ rw (p, up (drop a t) n m w) (simp append_assoc)
-
-  pub put_down : (n m : ℕ) → e ≤ length t → e ≡ a + n + m
-      → put_mid a (e - a) t (shifted_down part n) ≡ take a t ++ take m (drop (a + n) t) ++ replicate n 0 ++ drop e t
-  put_down n m k l =
-      let w : n + m ≤ length (drop a t) = rw length-drop (omega arith) in
-      let p : e - a ≡ n + m = omega arith in
-      put_back (shifted_down part n) ∙ rw (p, down (drop a t) n m w, drop-drop n a t) (simp append_assoc)
-
 -- zeros in the place of those from a on
 pub put_zeros_last : (t : List ℕ) (a : ℕ) → a ≤ length t
     → put_mid a (length t - a) t (replicate (length (mid_of a (length t - a) t)) 0) ≡ take a t ++ replicate (length t - a) 0
 put_zeros_last t a h = put_zeros t a (length t) h (le_refl _) ∙ simp (drop-length, append-nil)
+
+-- words moved on or back over others, m of them, and zeros in the n places that they leave
+module _ (t : List ℕ) (a n m : ℕ) (h : a + n + m ≤ length t) where
+  -- what stands before the words that were moved to place i, and what follows that place
+  module _ (i : ℕ) (s : List ℕ) (l : i + m ≤ length t) (k : m ≤ length s) where
+    abbrev moved : List ℕ
+    moved = paste t i s m
+
+    before : (b : ℕ) → b ≤ i → take b moved ≡ take b t
+    before b c =
+        ap (take b) (append_assoc (take i t) (take m s) (drop (i + m) t))
+        ∙ take-append-le b (take i t) (take m s ++ drop (i + m) t) (rw (length-take-le i t (omega arith)) c)
+        ∙ take-take b i t c
+
+    from_there : drop i moved ≡ take m s ++ drop (i + m) t
+    from_there =
+        ap (drop i) (append_assoc (take i t) (take m s) (drop (i + m) t))
+        ∙ drop_at (take i t) (take m s ++ drop (i + m) t) i (length-take-le i t (omega arith))
+
+  pub put_up : put_mid a (a + n - a) (paste t (a + n) (drop a t) m) (replicate (length (mid_of a (a + n - a) (paste t (a + n) (drop a t) m))) 0)
+      ≡ take a t ++ replicate n 0 ++ take m (drop a t) ++ drop (a + n + m) t
+  put_up =
+      let long : m ≤ length (drop a t) = rw length-drop (omega arith) in
+      let there = length-paste t (a + n) (drop a t) m h long in
+      let zeros : a + n - a ≡ n = omega arith in
+      put_zeros (paste t (a + n) (drop a t) m) a (a + n) (omega arith) (rw there (omega arith))
+      ∙ rw (before (a + n) (drop a t) h long a (omega arith), from_there (a + n) (drop a t) h long, zeros)
+      (sym (append_assoc (take a t ++ replicate n 0) (take m (drop a t)) (drop (a + n + m) t)))
+
+  pub put_down : put_mid (a + m) (a + m + n - (a + m)) (paste t a (drop (a + n) t) m) (replicate (length (mid_of (a + m) (a + m + n - (a + m)) (paste t a (drop (a + n) t) m))) 0)
+      ≡ take a t ++ take m (drop (a + n) t) ++ replicate n 0 ++ drop (a + m + n) t
+  put_down =
+      let long : m ≤ length (drop (a + n) t) = rw length-drop (omega arith) in
+      let there = length-paste t a (drop (a + n) t) m (omega arith) long in
+      let zeros : a + m + n - (a + m) ≡ n = omega arith in
+      let rest : drop (a + m + n) (paste t a (drop (a + n) t) m) ≡ drop (a + m + n) t =
+      sym (drop-drop n (a + m) (paste t a (drop (a + n) t) m))
+      ∙ ap (drop n) (drop-paste t a (drop (a + n) t) m (omega arith) long) ∙ drop-drop n (a + m) t in
+      put_zeros (paste t a (drop (a + n) t) m) (a + m) (a + m + n) (omega arith) (rw there (omega arith))
+      ∙ rw (take-paste t a (drop (a + n) t) m (omega arith) long, rest, zeros)
 
 -- words in the place of those from a on
 pub put_words : (t words : List ℕ) (a n : ℕ) → length words ≡ n → a + n ≤ length t

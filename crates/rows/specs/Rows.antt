@@ -68,13 +68,6 @@ without_columns t width row column =
     let e = row * width + width in
     cond (leb column width && leb e (length t)) (take a t ++ replicate (width - column) 0 ++ drop e t) t
 
--- all words `by` places on, after zeros, as many as there were; and as many places back, before zeros
-unfoldable pub shifted_up : List ℕ → ℕ → List ℕ
-shifted_up t by = take (length t) (replicate by 0 ++ t)
-
-unfoldable pub shifted_down : List ℕ → ℕ → List ℕ
-shifted_down t by = drop by (t ++ replicate by 0)
-
 -- the used rows from row `at` on stand one row on, and row `at` is zeros; for this there is a row past the used ones
 unfoldable pub with_gap : List ℕ → ℕ → ℕ → ℕ → List ℕ
 with_gap t width at used =

@@ -1,8 +1,8 @@
 // Rows of 32-bit words: the only place that does row arithmetic.
 #![tactic(auto)]
 
-ghost use Rattle.std.specs.Prelude.{◌≡◌, length, replicate};
-ghost use Rattle.rows.specs.Rows.{word_at, whole_rows, rows_lent, copied, with_row, with_word, without_columns, shifted_up, shifted_down, with_gap, without_row, cleared_past};
+ghost use Rattle.std.specs.Prelude.{◌≡◌};
+ghost use Rattle.rows.specs.Rows.{word_at, whole_rows, rows_lent, copied, with_row, with_word, without_columns, with_gap, without_row, cleared_past};
 
 // The word in a column of a row; 0 past the end.
 pub fn word(t: &[u32], width: u32, row: u32, column: u32) -> u32
@@ -49,11 +49,7 @@ pub fn copy_words(dst: &mut [u32], src: &[u32], n: usize)
     if src.len() < n {
         return;
     }
-    let mut i = 0;
-    while i < n {
-        dst[i] = src[i];
-        i += 1;
-    }
+    dst[..n].copy_from_slice(&src[..n]);
 }
 
 // Puts a row's words in their place, where they are as many as the width and the slice has the row.
@@ -81,43 +77,6 @@ pub fn put_word(t: &mut [u32], width: u32, row: u32, column: u32, word: u32)
     }
 }
 
-// Makes every word 0.
-fn zero(t: &mut [u32])
-    ensures { t.new ≡ replicate (length t.old) 0 }
-{
-    let n = t.len();
-    let mut i = 0;
-    while i < n {
-        t[i] = 0;
-        i += 1;
-    }
-}
-
-// Moves all words up, the last ones out, and puts zeros first. A loop that does nothing but move is compiled to moves of many words at once.
-fn shift_up(t: &mut [u32], by: usize)
-    ensures { t.new ≡ shifted_up t.old by }
-{
-    let mut i = t.len();
-    while by < i {
-        i -= 1;
-        t[i] = t[i - by];
-    }
-    zero(&mut t[0..i]);
-}
-
-// Moves all words down, the first ones out, and puts zeros last.
-fn shift_down(t: &mut [u32], by: usize)
-    ensures { t.new ≡ shifted_down t.old by }
-{
-    let n = t.len();
-    let mut i = 0;
-    while by < n - i {
-        t[i] = t[i + by];
-        i += 1;
-    }
-    zero(&mut t[i..]);
-}
-
 // Moves the used rows from `at` on one row up and makes row `at` zeros, where the slice has a row past the used ones.
 pub fn open_gap(t: &mut [u32], width: u32, at: u32, used: u32)
     ensures { t.new ≡ with_gap t.old width at used }
@@ -131,7 +90,8 @@ pub fn open_gap(t: &mut [u32], width: u32, at: u32, used: u32)
         return;
     }
     let gap = (at as usize) * n;
-    shift_up(&mut t[gap..end], n);
+    t.copy_within(gap..end - n, gap + n);
+    t[gap..gap + n].fill(0);
 }
 
 // Takes row `at` out of the used rows: those after it move one row down, and the last used row becomes zeros.
@@ -147,7 +107,8 @@ pub fn close_gap(t: &mut [u32], width: u32, at: u32, used: u32)
         return;
     }
     let start = (at as usize) * n;
-    shift_down(&mut t[start..end], n);
+    t.copy_within(start + n..end, start);
+    t[end - n..end].fill(0);
 }
 
 // Makes the words of a row 0 from a column on, where the slice has the row.
@@ -162,7 +123,7 @@ pub fn clear_columns(t: &mut [u32], width: u32, row: u32, column: u32)
         return;
     }
     let start = end - (width - column) as usize;
-    zero(&mut t[start..end]);
+    t[start..end].fill(0);
 }
 
 // Makes every word past the used rows 0.
@@ -173,5 +134,5 @@ pub fn clear_past(t: &mut [u32], width: u32, used: u32)
     if t.len() < start {
         return;
     }
-    zero(&mut t[start..]);
+    t[start..].fill(0);
 }

@@ -9,7 +9,7 @@ use borrow.Author.Tests.{eq-eqb, ne_eqb}
 use Rattle.meaning.specs.Lists.{holds}
 use Rattle.meaning.specs.Schema.{ObjectType, parent_of, climbs}
 use Rattle.tables.specs.Refusals.{found_of}
-use Rattle.tables.specs.declared.Found.TheVariants.{At, Nothing}
+use Rattle.std.specs.Prelude.{Some, None}
 use Rattle.schema.proofs.Founds.{found_none, found_some}
 
 module _ (types : List ObjectType) where
@@ -29,8 +29,8 @@ module _ (types : List ObjectType) where
   climb_on zero h d = absurd (omega arith)
   climb_on (suc n) {t} {u} h d = let e : suc n - 1 ≡ n = omega arith in rw (ne_eqb t u d, e)
 
-  pub climb_top : (n : ℕ) {t u : ℕ} → 0 < n → (t ≡ u → ⊥) → Nothing ≡ found_of (parent_of types t) → climbs types n t u ≡ false
+  pub climb_top : (n : ℕ) {t u : ℕ} → 0 < n → (t ≡ u → ⊥) → None ≡ found_of (parent_of types t) → climbs types n t u ≡ false
   climb_top n {t} {u} h d e = climb_on n h d ∙ ap (holds (λ p. climbs types (n - 1) p u)) (found_none (parent_of types t) e)
 
-  pub climb_up : (n : ℕ) {t u p : ℕ} → 0 < n → (t ≡ u → ⊥) → At p ≡ found_of (parent_of types t) → climbs types n t u ≡ climbs types (n - 1) p u
+  pub climb_up : (n : ℕ) {t u p : ℕ} → 0 < n → (t ≡ u → ⊥) → Some p ≡ found_of (parent_of types t) → climbs types n t u ≡ climbs types (n - 1) p u
   climb_up n {t} {u} {p} h d e = climb_on n h d ∙ ap (holds (λ p. climbs types (n - 1) p u)) (found_some (parent_of types t) e)

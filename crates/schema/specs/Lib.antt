@@ -1,5 +1,3 @@
 -- What the schema's functions are said to compute, where specs of other crates do not say it already.
---   Founds     the first of two places
 --   Previous   the row before a row of a table
-pub mod Founds
 pub mod Previous

@@ -6,8 +6,6 @@ ghost use Rattle.tables.specs.Columns.{floor_row, types_of, floors_of};
 ghost use Rattle.tables.specs.Refusals.{found_of};
 ghost use Rattle.schema.specs.Previous.{previous_row};
 
-use tables::Found;
-
 // The type in a floor's row.
 pub fn type_of(floors: &[u32], row: u32) -> u32
     ensures { result ≡ (floor_row floors.now row).type }
@@ -45,12 +43,10 @@ pub fn floored(
 ) -> bool
     ensures { result ≡ floored (types_of type_count types.now) (floors_of floor_count floors.now) t cell }
 {
-    let mut row: u32 = 0;
-    while row < floor_count {
+    for row in 0..floor_count {
         if floors_cell(type_count, types, floors, row, t, cell) {
             return true;
         }
-        row += 1;
     }
     false
 }
@@ -80,16 +76,14 @@ fn faulty_floor(type_count: u32, types: &[u32], floors: &[u32], row: u32) -> boo
 }
 
 // The first faulty floor, if there is one.
-pub fn floor_fault(type_count: u32, types: &[u32], floor_count: u32, floors: &[u32]) -> Found
+pub fn floor_fault(type_count: u32, types: &[u32], floor_count: u32, floors: &[u32]) -> Option<u32>
     ensures { (rs : List Relationship) → result ≡ found_of (floor_fault
         (record { types = types_of type_count types.now; floors = floors_of floor_count floors.now; relationships = rs })) }
 {
-    let mut row: u32 = 0;
-    while row < floor_count {
+    for row in 0..floor_count {
         if faulty_floor(type_count, types, floors, row) {
-            return Found::At(row);
+            return Some(row);
         }
-        row += 1;
     }
-    Found::Nothing
+    None
 }

@@ -10,9 +10,6 @@ ghost use Rattle.meaning.specs.Schema.{ObjectType, Floor, Relationship, parent_o
 ghost use Rattle.rows.specs.Rows.{word_at};
 ghost use Rattle.tables.specs.Columns.{type_row, relationship_row, types_of, floors_of, relationships_of, schema_of};
 ghost use Rattle.tables.specs.Refusals.{found_of};
-ghost use Rattle.schema.specs.Founds.{first_found};
-
-use tables::Found;
 
 // The word that stands for no parent.
 const NO_PARENT: u32 = 0xFFFF_FFFF;
@@ -29,18 +26,14 @@ fn used_word(count: u32, table: &[u32], row: u32, column: u32) -> u32
 }
 
 // The type's parent, if it has one.
-fn parent_of(type_count: u32, types: &[u32], t: u32) -> Found
+fn parent_of(type_count: u32, types: &[u32], t: u32) -> Option<u32>
     ensures { result ≡ found_of (parent_of (types_of type_count types.now) t) }
 {
     if t < type_count {
         let p = rows::word(types, tables::TYPE_WIDTH, t, 0);
-        if p == NO_PARENT {
-            Found::Nothing
-        } else {
-            Found::At(p)
-        }
+        if p == NO_PARENT { None } else { Some(p) }
     } else {
-        Found::Nothing
+        None
     }
 }
 
@@ -48,10 +41,7 @@ fn parent_of(type_count: u32, types: &[u32], t: u32) -> Found
 pub fn has_parent(type_count: u32, types: &[u32], t: u32) -> bool
     ensures { result ≡ has_parent (types_of type_count types.now) t }
 {
-    match parent_of(type_count, types, t) {
-        Found::At(_) => true,
-        Found::Nothing => false,
-    }
+    parent_of(type_count, types, t).is_some()
 }
 
 // The number of cells of a type.
@@ -66,16 +56,14 @@ pub fn under(type_count: u32, types: &[u32], t: u32, u: u32) -> bool
     ensures { result ≡ under (types_of type_count types.now) t u }
 {
     let mut at = t;
-    let mut left = t;
-    while left > 0 {
+    for _ in 0..t {
         if at == u {
             return true;
         }
         match parent_of(type_count, types, at) {
-            Found::At(p) => at = p,
-            Found::Nothing => return false,
+            Some(parent) => at = parent,
+            None => return false,
         }
-        left -= 1;
     }
     at == u
 }
@@ -137,17 +125,15 @@ fn faulty_type(type_count: u32, types: &[u32], t: u32) -> bool
 }
 
 // The first faulty type, if there is one.
-fn type_fault(type_count: u32, types: &[u32]) -> Found
+fn type_fault(type_count: u32, types: &[u32]) -> Option<u32>
     ensures { result ≡ found_of (type_fault (types_of type_count types.now)) }
 {
-    let mut t: u32 = 0;
-    while t < type_count {
+    for t in 0..type_count {
         if faulty_type(type_count, types, t) {
-            return Found::At(t);
+            return Some(t);
         }
-        t += 1;
     }
-    Found::Nothing
+    None
 }
 
 // Whether the row of a relationship breaks refusal 3: an end of no known type.
@@ -163,28 +149,20 @@ fn faulty_relationship(type_count: u32, relationships: &[u32], relationship: u32
 }
 
 // The first faulty relationship, if there is one.
-fn relationship_fault(type_count: u32, relationship_count: u32, relationships: &[u32]) -> Found
+fn relationship_fault(
+    type_count: u32,
+    relationship_count: u32,
+    relationships: &[u32],
+) -> Option<u32>
     ensures { (types : List ℕ) (floors : List Floor) →
         result ≡ found_of (relationship_fault (schema_of type_count types floors relationship_count relationships.now)) }
 {
-    let mut relationship: u32 = 0;
-    while relationship < relationship_count {
+    for relationship in 0..relationship_count {
         if faulty_relationship(type_count, relationships, relationship) {
-            return Found::At(relationship);
+            return Some(relationship);
         }
-        relationship += 1;
     }
-    Found::Nothing
-}
-
-// The first of the two places that is there.
-pub fn first_of(a: Found, b: Found) -> Found
-    ensures { result ≡ first_found a b }
-{
-    match a {
-        Found::At(i) => Found::At(i),
-        Found::Nothing => b,
-    }
+    None
 }
 
 // Refusal 3: the first faulty type, else the first faulty floor, else the first faulty relationship.
@@ -195,7 +173,7 @@ pub fn check(
     floors: &[u32],
     relationship_count: u32,
     relationships: &[u32],
-) -> Found
+) -> Option<u32>
     ensures { let S = schema_of type_count types.now (floors_of floor_count floors.now)
         relationship_count relationships.now in
         result ≡ found_of (first_of (type_fault S.types) (first_of (floor_fault S) (relationship_fault S))) }
@@ -203,5 +181,5 @@ pub fn check(
     let t = type_fault(type_count, types);
     let f = floors::floor_fault(type_count, types, floor_count, floors);
     let r = relationship_fault(type_count, relationship_count, relationships);
-    first_of(t, first_of(f, r))
+    t.or(f.or(r))
 }

@@ -23,13 +23,11 @@ fn mark_context(
 {
     let context = rows::word(rules, tables::RULE_WIDTH, rule, 0);
     let mut count: u32 = 0;
-    let mut row: u32 = 0;
-    while row < n.objects {
+    for row in 0..n.objects {
         if schema::under(n.types, types, register::type_of(objects, row), context) {
             mark(marks, rule, row);
             count += 1;
         }
-        row += 1;
     }
     count
 }
@@ -47,11 +45,9 @@ pub fn every_pair(
         × (Added objects.now (in_context (types_of n.types types.now) rules.now objects.now) n.objects (read_rows (λ i. i) n.rules) marks.old marks.new result) }
 {
     let mut count: u32 = 0;
-    let mut rule: u32 = 0;
-    while rule < n.rules {
+    for rule in 0..n.rules {
         let found = mark_context(n, types, rules, objects, rule, marks);
         count += found;
-        rule += 1;
     }
     count
 }

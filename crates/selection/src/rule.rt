@@ -2,9 +2,9 @@
 ghost use Rattle.std.specs.Prelude.{◌≡◌, [], ◌∷◌, ◌≤◌, ◌<◌, length};
 ghost use Rattle.meaning.specs.Limits.{max_objects, max_rules};
 ghost use Rattle.meaning.specs.Reach.{Change};
-ghost use Rattle.tables.specs.Columns.{floors_of, schema_of};
-ghost use Rattle.tables.specs.Layouts.{sheet_of};
-ghost use Rattle.trace_places.specs.Traces.{Traced, Traces};
+ghost use Rattle.tables.specs.Columns.{schema_in};
+ghost use Rattle.tables.specs.Layouts.{register_sheet};
+ghost use Rattle.trace_places.specs.Traces.{TracesIn, TracedIn};
 ghost use Rattle.full_search.specs.Search.{Clear};
 ghost use Rattle.selection.specs.Selected.{by_events, Added};
 ghost use Rattle.selected.specs.Ready.{RuleReady, KnownBy, Marked};
@@ -14,47 +14,39 @@ use candidates::candidates;
 use pair_marks::mark;
 use quietness::quiet::{Still, stillness};
 use selected::chosen_at;
-use tables::Counts;
+use tables::{Counts, Sheet};
 use typing::{Place, floored_rows};
 
 // Marks the rows at which a rule is selected; the answer is how many they are.
 fn choose(
     n: Counts,
-    types: &[u32],
-    objects: &[u32],
-    links: &[u32],
+    sheet: &Sheet,
     index: &[u16; 81920],
-    rules: &[u32],
-    bodies: &[u32],
     spans: &[u32; 65],
     floored: &[bool; 64],
-    events: &[u32],
     trace: &[u16; 16675],
     rule: u32,
     still: Still,
     candidate: &[bool; 1024],
     marks: &mut [u32; 1024],
 ) -> u32
-    requires { (RuleReady n types.now objects.now links.now index.now rules.now bodies.now spans.now rule)
-        × (Traces n types.now objects.now links.now events.now trace.now)
-        × (Marked n types.now objects.now links.now events.now trace.now rules.now bodies.now rule floored.now still candidate.now)
+    requires { (RuleReady n sheet.now.types.now sheet.now.objects.now sheet.now.links.now index.now sheet.now.rules.now sheet.now.bodies.now spans.now rule)
+        × (TracesIn n sheet.now trace.now)
+        × (Marked n sheet.now.types.now sheet.now.objects.now sheet.now.links.now sheet.now.events.now trace.now sheet.now.rules.now sheet.now.bodies.now rule floored.now still candidate.now)
         × (rule < max_rules) × (length marks.old ≡ 1024) }
     ensures { (length marks.new ≡ 1024) × (result ≤ n.objects)
-        × ((c : Change) → Traced c n types.now objects.now links.now events.now trace.now
-        → KnownBy c rules.now bodies.now rule floored.now still
-        → Added objects.now (by_events c rules.now bodies.now objects.now) n.objects («rule» ∷ []) marks.old marks.new result) }
+        × ((c : Change) → TracedIn c n sheet.now trace.now
+        → KnownBy c sheet.now.rules.now sheet.now.bodies.now rule floored.now still
+        → Added sheet.now.objects.now (by_events c sheet.now.rules.now sheet.now.bodies.now sheet.now.objects.now) n.objects («rule» ∷ []) marks.old marks.new result) }
 {
     let mut count: u32 = 0;
-    let mut row: u32 = 0;
-    while row < n.objects {
+    for row in 0..n.objects {
         if chosen_at(
-            n, types, objects, links, index, rules, bodies, spans, floored, events, trace, rule,
-            still, candidate, row,
+            n, sheet, index, spans, floored, trace, rule, still, candidate, row,
         ) {
             mark(marks, rule, row);
             count += 1;
         }
-        row += 1;
     }
     count
 }
@@ -62,31 +54,24 @@ fn choose(
 // Marks a rule's selected pairs; the answer is how many they are. The sets are room for going back, whatever they hold.
 pub fn select_rule(
     n: Counts,
-    types: &[u32],
-    floors: &[u32],
-    relationships: &[u32],
-    rules: &[u32],
-    bodies: &[u32],
-    objects: &[u32],
-    links: &[u32],
+    sheet: &Sheet,
     index: &[u16; 81920],
-    events: &[u32],
     trace: &[u16; 16675],
     rule: u32,
     sets: &mut [bool],
     marks: &mut [u32; 1024],
 ) -> u32
-    requires { (Clear n (sheet_of types.now floors.now relationships.now rules.now bodies.now objects.now links.now []) index.now)
-        × (Traces n types.now objects.now links.now events.now trace.now)
+    requires { (Clear n (register_sheet sheet.now) index.now)
+        × (TracesIn n sheet.now trace.now)
         × (rule < n.rules) × (length marks.old ≡ 1024) × (length sets.old ≡ 65536) }
     ensures { (length marks.new ≡ 1024) × (length sets.new ≡ length sets.old) × (result ≤ max_objects)
-        × ((c : Change) → Traced c n types.now objects.now links.now events.now trace.now
-        → c.schema ≡ schema_of n.types types.now (floors_of n.floors floors.now) n.relationships relationships.now
-        → Added objects.now (by_events c rules.now bodies.now objects.now) n.objects («rule» ∷ []) marks.old marks.new result) }
+        × ((c : Change) → TracedIn c n sheet.now trace.now
+        → c.schema ≡ schema_in n sheet.now
+        → Added sheet.now.objects.now (by_events c sheet.now.rules.now sheet.now.bodies.now sheet.now.objects.now) n.objects («rule» ∷ []) marks.old marks.new result) }
 {
-    let context = rows::word(rules, tables::RULE_WIDTH, rule, 0);
-    let size = rows::word(rules, tables::RULE_WIDTH, rule, 1);
-    let spans = scan(bodies, rule, size);
+    let context = rows::word(sheet.rules, tables::RULE_WIDTH, rule, 0);
+    let size = rows::word(sheet.rules, tables::RULE_WIDTH, rule, 1);
+    let spans = scan(sheet.bodies, rule, size);
     let starts = spans.starts;
     let body = Place {
         types: n.types,
@@ -96,14 +81,17 @@ pub fn select_rule(
         end: size,
         depth: 1,
     };
-    let floored = floored_rows(types, floors, relationships, bodies, &starts, body);
-    let still = stillness(relationships, bodies, &starts, body, context);
-    let candidate = candidates(
-        n, types, objects, links, index, rules, bodies, &starts, &floored, events, trace, rule,
-        still, sets,
+    let floored = floored_rows(
+        sheet.types,
+        sheet.floors,
+        sheet.relationships,
+        sheet.bodies,
+        &starts,
+        body,
     );
+    let still = stillness(sheet.relationships, sheet.bodies, &starts, body, context);
+    let candidate = candidates(n, sheet, index, &starts, &floored, trace, rule, still, sets);
     choose(
-        n, types, objects, links, index, rules, bodies, &starts, &floored, events, trace, rule,
-        still, &candidate, marks,
+        n, sheet, index, &starts, &floored, trace, rule, still, &candidate, marks,
     )
 }

@@ -10,6 +10,7 @@ use Rattle.rows.specs.Rows.{word_at, read_rows, signed}
 use Rattle.tables.specs.Layouts.{Sheet, type_table, floor_table, relationship_table, rule_table, object_table, link_table, event_table}
 use Rattle.tables.specs.Bodies.{body_row, read_body}
 use Rattle.tables.specs.declared.Counts.{Counts}
+use Rattle.tables.specs.declared.Sheet as Code
 
 -- the word that stands for no parent
 abbrev pub no_parent : ℕ
@@ -90,6 +91,10 @@ relationships_of relationship_count relationships = read_rows (relationship_row 
 abbrev pub schema_of : ℕ → List ℕ → List Floor → ℕ → List ℕ → Schema
 schema_of type_count types floors relationship_count relationships =
     record { types = types_of type_count types; floors = floors; relationships = relationships_of relationship_count relationships }
+
+-- that of lent tables
+abbrev pub schema_in : Counts → Code.Sheet → Schema
+schema_in n s = schema_of n.types s.types.now (floors_of n.floors s.floors.now) n.relationships s.relationships.now
 
 abbrev pub rules_of : ℕ → List ℕ → List ℕ → List Rule
 rules_of rule_count rules bodies = read_rows (rule_row rules bodies) rule_count

@@ -4,6 +4,7 @@ use Rattle.meaning.specs.Lists.{keep}
 use Rattle.meaning.specs.Limits.{max_types, max_floors, max_relationships, max_rules, max_forms, max_objects, max_links, max_events}
 use Rattle.rows.specs.Rows.{read_rows, rows_lent}
 use Rattle.tables.specs.declared.Counts.{Counts}
+use Rattle.tables.specs.declared.Sheet as Code
 
 -- the words of each lent table
 pub record Sheet : Type 0 where
@@ -28,6 +29,16 @@ sheet_of types floors relationships rules bodies objects links events =
       links = links;
       events = events;
     }
+
+-- the words of the tables that a call is lent; the same without a batch, and a book's alone
+abbrev pub sheet_in : Code.Sheet → Sheet
+sheet_in s = sheet_of s.types.now s.floors.now s.relationships.now s.rules.now s.bodies.now s.objects.now s.links.now s.events.now
+
+abbrev pub register_sheet : Code.Sheet → Sheet
+register_sheet s = sheet_of s.types.now s.floors.now s.relationships.now s.rules.now s.bodies.now s.objects.now s.links.now []
+
+abbrev pub book_sheet : Code.Sheet → Sheet
+book_sheet s = sheet_of s.types.now s.floors.now s.relationships.now s.rules.now s.bodies.now [] [] []
 
 -- One table: the section of the text whose lines fill it, the words of a row, the rows that such a line takes, the limit on the used
 -- rows, and its words and its used rows in a call.

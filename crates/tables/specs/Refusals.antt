@@ -9,20 +9,28 @@ use Rattle.rows.specs.Rows.{word_at, read_rows, whole_rows, rows_lent}
 use Rattle.tables.specs.Layouts.{Sheet, Layout, rule_table, book_tables, layouts}
 use Rattle.tables.specs.Columns.{book_of, register_in, batch_in}
 use Rattle.tables.specs.declared.Counts.{Counts}
-use Rattle.tables.specs.declared.Found.{Found}
-use Rattle.tables.specs.declared.Found.TheVariants.{At, Nothing}
-use Rattle.tables.specs.declared.Verdict.{Verdict}
-use Rattle.tables.specs.declared.Verdict.TheVariants.{Clear, Refused}
+use Rattle.std.specs.Prelude as Std
+use Rattle.std.specs.Prelude.{Some, None, Ok, Err}
+use Rattle.tables.specs.declared.Refusal as Code
 
 -- a place or an id, if there is one
-abbrev pub found_of : Option ℕ → Found
-found_of none = Nothing
-found_of (some n) = At n
+abbrev pub found_of : Option ℕ → Std.Option ℕ
+found_of none = None
+found_of (some n) = Some n
 
--- "a refusal gives number and place"
-abbrev pub verdict_of : Option Refusal → Verdict
-verdict_of none = Clear
-verdict_of (some r) = Refused r.number r.place
+-- what a call answers that can be refused: "a refusal gives number and place"
+abbrev pub OrRefused : Type 0 → Type 0
+OrRefused A = Std.Result A Code.Refusal
+
+abbrev pub refused_by : {A : Type 0} → ℕ → ℕ → OrRefused A
+refused_by number place = Err (record { number = number; place = place })
+
+abbrev pub unless_met : {A : Type 0} → Option Refusal → A → OrRefused A
+unless_met none x = Ok x
+unless_met (some r) x = refused_by r.number r.place
+
+abbrev pub verdict_of : Option Refusal → OrRefused (Unit {0})
+verdict_of r = unless_met r tt
 
 -- 2: "a count above its limit or the lent rows"
 abbrev pub overfull : List ℕ → ℕ → ℕ → ℕ → Bool

@@ -36,18 +36,24 @@ pub struct Counts {
     pub events: u32,
 }
 
-// A place or an id, if there is one.
+// The words of each lent table.
 #[derive(Clone, Copy)]
-pub enum Found {
-    At(u32),
-    Nothing,
+pub struct Sheet<'a> {
+    pub types: &'a [u32],
+    pub floors: &'a [u32],
+    pub relationships: &'a [u32],
+    pub rules: &'a [u32],
+    pub bodies: &'a [u32],
+    pub objects: &'a [u32],
+    pub links: &'a [u32],
+    pub events: &'a [u32],
 }
 
-// A refusal's number and place, if one is met.
-#[derive(Clone, Copy)]
-pub enum Verdict {
-    Clear,
-    Refused(u32, u32),
+// A refusal: its number and its place.
+#[derive(Clone, Copy, PartialEq, Eq)]
+pub struct Refusal {
+    pub number: u32,
+    pub place: u32,
 }
 
 // What a check says: accepted, the first broken rule and object, or a refusal's number and place.

@@ -2,160 +2,108 @@
 // limits allow. The cases are lines of standard input; `stdin` says how they are written.
 #![tactic(auto)]
 
-use cases::line::byte;
-use cases::{line, say, sheet};
-use tables::{Counts, Verdict};
+use cases::line::numbers;
+use cases::sheet::Sheet;
+use std::io;
+use tables::Refusal;
 
-// The words of the tables. After them: how many words of each of the seven tables are lent; how many rows of each of the six sections are
-// used; whether the scratch is too short; and how many cases there were.
-type Words = [u32; 32463];
+// The words of the tables: of the first four a row more than the limits allow.
+const WORDS: [u32; 8] = [66, 514, 66, 66, 8192, 10240, 12288, 1024];
 
-const LENT: u32 = 32448;
-
-const USED: u32 = 32455;
-
-const SCRATCH: u32 = 32461;
-
-const CASES: u32 = 32462;
-
-fn of(all: &Words, at: u32) -> u32 {
-    sheet::get(all, sheet::size(at))
+#[derive(Drop)]
+struct Trial {
+    sheet: Sheet,
+    scratch_short: bool,
+    cases: u32,
 }
 
-fn set(all: &mut Words, at: u32, value: u32) {
-    sheet::put(all, sheet::size(at), value);
-}
-
-fn counts(all: &Words) -> Counts {
-    Counts {
-        types: of(all, 32455),
-        floors: of(all, 32456),
-        relationships: of(all, 32457),
-        rules: of(all, 32458),
-        objects: of(all, 32459),
-        links: of(all, 32460),
-        events: 0,
-    }
-}
-
-// A table as far as it is lent.
-fn part(all: &Words, table: u32) -> &[u32] {
-    sheet::part(all, table, of(all, std::num::wrapping_add_u32(LENT, table)))
-}
-
-// What the checks say.
-fn ask(all: &Words) -> Verdict {
-    checks::check(
-        counts(all),
-        part(all, 0),
-        part(all, 1),
-        part(all, 2),
-        part(all, 3),
-        part(all, 4),
-        part(all, 5),
-        part(all, 6),
-        of(all, SCRATCH) == 1,
-    )
-}
-
-fn show(v: Verdict) {
+fn show(rt: &impl Print, v: Result<(), Refusal>) -> io::Result<()> {
     match v {
-        Verdict::Clear => say::words(b"clear\n"),
-        Verdict::Refused(number, place) => {
-            say::words(b"refused ");
-            say::number(number);
-            say::words(b" ");
-            say::number(place);
-            say::words(b"\n");
+        Ok(()) => println!(rt; "clear"),
+        Err(Refusal { number, place }) => println!(rt; "refused {number} {place}"),
+    }
+}
+
+impl Trial {
+    // What the checks say.
+    fn ask(&self) -> Result<(), Refusal> {
+        checks::check(
+            self.sheet.used,
+            &self.sheet.lent_sheet(),
+            self.scratch_short,
+        )
+    }
+
+    fn case(&mut self, rt: &impl Print, name: &str) -> io::Result<()> {
+        self.cases = self.cases.saturating_add(1);
+        print!(rt; "{name}: ")?;
+        show(rt, self.ask())
+    }
+
+    // Puts a word of a table; answers the one that stood there.
+    fn put(&mut self, table: &str, place: u32, value: u32) -> u32 {
+        match self
+            .sheet
+            .table(table)
+            .and_then(|t| t.get_mut(place as usize))
+        {
+            Some(word) => std::mem::replace(word, value),
+            None => 0,
+        }
+    }
+
+    // `TABLE PLACE VALUE: NAME`, where the word is another for this case.
+    fn case_of_a_word(&mut self, rt: &impl Print, order: &str, name: &str) -> io::Result<()> {
+        let table = order.split_whitespace().next().unwrap_or("");
+        let [place, value] = numbers::<2>(order);
+        let old = self.put(table, place, value);
+        self.case(rt, name)?;
+        self.put(table, place, old);
+        Ok(())
+    }
+
+    // An order about what is lent, used or too short, if it is one.
+    fn settle(&mut self, order: &str) -> bool {
+        match order.split_whitespace().next() {
+            Some("lent") => self.sheet.lend(order),
+            Some("used") => self.sheet.use_rows(order),
+            Some("scratch") => self.scratch_short = numbers(order) == [1],
+            _ => return false,
+        }
+        true
+    }
+
+    // A heading, a comment, an order, or an order and the name of a case.
+    fn line(&mut self, rt: &impl Print, line: &str) -> io::Result<()> {
+        if let Some(heading) = line.strip_prefix(": ") {
+            return println!(rt; "{heading}");
+        }
+        if line.starts_with('#') {
+            return Ok(());
+        }
+        let Some((order, name)) = line.split_once(": ") else {
+            if !self.settle(line) {
+                self.sheet.change(line);
+            }
+            return Ok(());
+        };
+        if self.settle(order) {
+            self.case(rt, name)
+        } else {
+            self.case_of_a_word(rt, order, name)
         }
     }
 }
 
-// A case, if the line has a name after a colon.
-fn case(line: &[u8], colon: usize, all: &mut Words) {
-    if line.len() <= colon {
-        return;
+fn main(rt: HostRuntime) -> io::Result<()> {
+    let input = io::read_to_string(rt.alloc(), rt.stdin())?;
+    let mut trial = Trial {
+        sheet: Sheet::new(rt.alloc(), WORDS)?,
+        scratch_short: false,
+        cases: 0,
+    };
+    for line in input.lines() {
+        trial.line(&rt, line)?;
     }
-    let n = std::num::wrapping_add_u32(of(all, CASES), 1);
-    set(&mut *all, CASES, n);
-    say::words(line::from(line::from(line, colon), 2));
-    say::words(b": ");
-    show(ask(all));
-}
-
-// A line about a table: with a name, the word is another for this case; without one, words are made of others.
-fn about_table(line: &[u8], colon: usize, table: u32, all: &mut Words) {
-    if line.len() <= colon {
-        sheet::change(line, table, all);
-        return;
-    }
-    let at = std::num::wrapping_add_u32(sheet::base(table), line::number(line, 1));
-    let old = of(all, at);
-    set(&mut *all, at, line::number(line, 2));
-    case(line, colon, &mut *all);
-    set(all, at, old);
-}
-
-fn lend(line: &[u8], all: &mut Words) {
-    let mut n = [0u32; 7];
-    line::numbers(line, &mut n);
-    put7(all, &n);
-}
-
-fn put7(all: &mut Words, n: &[u32; 7]) {
-    sheet::give(all, LENT, n);
-}
-
-fn use_rows(line: &[u8], all: &mut Words) {
-    let mut n = [0u32; 6];
-    line::numbers(line, &mut n);
-    put6(all, &n);
-}
-
-fn put6(all: &mut Words, n: &[u32; 6]) {
-    sheet::give(all, USED, n);
-}
-
-// A line about what is lent, used or too short; a heading; or a comment.
-fn settle(line: &[u8], colon: usize, all: &mut Words) {
-    match byte(line, 0) {
-        58 => {
-            say::words(line::from(line, 2));
-            say::words(b"\n");
-            return;
-        }
-        108 => lend(line, &mut *all),
-        115 => set(&mut *all, SCRATCH, line::number(line, 1)),
-        117 => use_rows(line, &mut *all),
-        _ => {
-            return;
-        }
-    }
-    case(line, colon, all);
-}
-
-fn one_line(line: &[u8], all: &mut Words) {
-    let colon = line::find(line, 0, 58);
-    let table = sheet::named(line);
-    if table < 8 {
-        about_table(line, colon, table, all);
-        return;
-    }
-    settle(line, colon, all);
-}
-
-fn all_lines(input: &[u8]) {
-    let mut all = [0u32; 32463];
-    let mut at: usize = 0;
-    while at < input.len() {
-        one_line(line::at(input, at), &mut all);
-        at = line::next(input, at);
-    }
-    say::named(b"cases", of(&all, CASES));
-}
-
-fn main() {
-    let mut input = io::large_buffer();
-    let length = io::read_full(0, &mut input);
-    all_lines(&input[..length]);
+    println!(rt; "cases {}", trial.cases)
 }

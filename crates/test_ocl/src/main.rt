@@ -4,42 +4,53 @@
 
 mod compare;
 mod fill;
-mod floors;
 mod plain;
+mod table_rows;
 mod tally;
-mod words;
 mod world;
 
-use cases::line::byte;
-use cases::{line, sheet};
-use tally::Words;
+use cases::line::numbers;
+use cases::sheet::Sheet;
+use std::io;
+use tally::Tally;
+
+// The words of the tables: as many as the largest book and register here have.
+const WORDS: [u32; 8] = [10, 26, 8, 10, 1280, 140, 72, 0];
+
+// `print SLOT NAME`: a number that was counted, after its name.
+fn print(rt: &impl Print, line: &str, tally: &Tally) -> io::Result<()> {
+    let [slot] = numbers::<1>(line);
+    let name = line.splitn(3, ' ').nth(2).unwrap_or("");
+    println!(rt; "{name} {}", tally.of(slot))
+}
 
 // A line: a word of the schema, a part of a book or of its register, or an order.
-fn one_line(line: &[u8], all: &mut Words) {
-    match byte(line, 0) {
-        116 => sheet::change(line, 0, all),
-        114 => fill::rule_or_relationship(line, all),
-        98 => fill::begin(all),
-        102 => fill::floor(line, all),
-        111 => fill::object(line, all),
-        108 => fill::link(line, all),
-        97 => compare::compare(all),
-        112 => tally::print(line, all),
+fn one_line(
+    rt: &(impl Print + AllocGlobal),
+    line: &str,
+    sheet: &mut Sheet,
+    tally: &mut Tally,
+) -> io::Result<()> {
+    match line.split_whitespace().next().unwrap_or("") {
+        "types" | "relationships" => sheet.change(line),
+        "book" => fill::begin(sheet),
+        "rule" => fill::rule(line, sheet),
+        "floor" => fill::floor(line, sheet),
+        "object" => fill::object(line, sheet),
+        "link" => fill::link(line, sheet),
+        "ask" => compare::compare(rt.alloc(), sheet, tally)?,
+        "print" => print(rt, line, tally)?,
         _ => {}
     }
+    Ok(())
 }
 
-fn all_lines(input: &[u8]) {
-    let mut all = [0u32; 32492];
-    let mut at: usize = 0;
-    while at < input.len() {
-        one_line(line::at(input, at), &mut all);
-        at = line::next(input, at);
+fn main(rt: HostRuntime) -> io::Result<()> {
+    let input = io::read_to_string(rt.alloc(), rt.stdin())?;
+    let mut sheet = Sheet::new(rt.alloc(), WORDS)?;
+    let mut tally = Tally::new();
+    for line in input.lines() {
+        one_line(&rt, line, &mut sheet, &mut tally)?;
     }
-}
-
-fn main() {
-    let mut input = [0u8; 262144];
-    let length = io::read_full(0, &mut input);
-    all_lines(&input[..length]);
+    Ok(())
 }

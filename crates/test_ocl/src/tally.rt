@@ -1,86 +1,65 @@
-// The words of a book's tables, as a sheet has them; after them, how many rules, objects, links and floors there are, and what is
-// counted: how often each operator occurs, by its code, and then the rest.
-use crate::words::greater;
-use cases::{line, say, sheet};
-
-pub type Words = [u32; 32492];
-
-pub const RULES: u32 = 32448;
-
-pub const OBJECTS: u32 = 32449;
-
-pub const LINKS: u32 = 32450;
-
-pub const FLOORS: u32 = 32451;
-
-// What is counted after the operators, by its slot.
-pub const BOOKS: u32 = 23;
-
-pub const ACCEPTED: u32 = 24;
-
-pub const LATER: u32 = 25;
-
-pub const RULES_SEEN: u32 = 26;
-
-pub const OBJECTS_SEEN: u32 = 27;
-
-pub const LINKS_SEEN: u32 = 28;
-
-pub const PAIRS: u32 = 29;
-
-pub const UNDER: u32 = 30;
-
-pub const BROKEN: u32 = 31;
-
-pub const ABSENT: u32 = 32;
-
-pub const DEPTH: u32 = 33;
-
-pub const SCOPE: u32 = 34;
-
-pub const NAMED: u32 = 35;
-
-pub const WRONG: u32 = 36;
-
-pub const CASES: u32 = 37;
-
-pub const FLOORED: u32 = 38;
-
-pub const BELOW: u32 = 39;
-
-pub fn of(all: &Words, at: u32) -> u32 {
-    sheet::get(all, sheet::size(at))
+// What is counted, by its slot: how often each operator occurs, by its code, and then the rest.
+#[derive(Drop)]
+pub struct Tally {
+    slots: [u32; 40],
 }
 
-pub fn set(all: &mut Words, at: u32, value: u32) {
-    sheet::put(all, sheet::size(at), value);
+// The slots after the operators.
+#[derive(Clone, Copy)]
+pub enum Slot {
+    Books = 23,
+    Accepted = 24,
+    Later = 25,
+    Rules = 26,
+    Objects = 27,
+    Links = 28,
+    Pairs = 29,
+    Under = 30,
+    Broken = 31,
+    Absent = 32,
+    Depth = 33,
+    Scope = 34,
+    Named = 35,
+    Wrong = 36,
+    Cases = 37,
+    Floored = 38,
+    Below = 39,
 }
 
-// Where a slot stands.
-fn place(slot: u32) -> u32 {
-    32452 + slot % 40
-}
-
-// So many more in a slot.
-pub fn add(all: &mut Words, slot: u32, more: u32) {
-    let n = std::num::wrapping_add_u32(of(all, place(slot)), more);
-    set(all, place(slot), n);
-}
-
-// The greatest so far in a slot.
-pub fn raise(all: &mut Words, slot: u32, seen: u32) {
-    let n = greater(of(all, place(slot)), seen);
-    set(all, place(slot), n);
-}
-
-// One more in a slot if something is so.
-pub fn count_if(all: &mut Words, slot: u32, so: bool) {
-    if so {
-        add(all, slot, 1);
+impl Tally {
+    pub fn new() -> Tally {
+        Tally { slots: [0; 40] }
     }
-}
 
-// A slot's number after its name.
-pub fn print(line: &[u8], all: &Words) {
-    say::named(line::rest(line, 2), of(all, place(line::number(line, 1))));
+    pub fn of(&self, slot: u32) -> u32 {
+        self.slots.get(slot as usize).copied().unwrap_or(0)
+    }
+
+    // So many more in a slot.
+    pub fn add(&mut self, slot: Slot, more: u32) {
+        self.add_at(slot as u32, more);
+    }
+
+    fn add_at(&mut self, slot: u32, more: u32) {
+        if let Some(n) = self.slots.get_mut(slot as usize) {
+            *n = n.saturating_add(more);
+        }
+    }
+
+    // One more in a slot if something is so.
+    pub fn count_if(&mut self, slot: Slot, so: bool) {
+        self.add(slot, u32::from(so));
+    }
+
+    // An operator, by its code.
+    pub fn count_operator(&mut self, code: u32) {
+        self.add_at(code, 1);
+    }
+
+    // The greatest so far in a slot.
+    pub fn raise(&mut self, slot: Slot, seen: u32) {
+        if let Some(n) = self.slots.get_mut(slot as usize) {
+            *n = seen.max(*n);
+        }
+    }
 }

@@ -20,3 +20,9 @@ pub const SECTION_COUNT: u32 = 7;
 pub const FIRST_OPERATOR: u32 = 13;
 
 pub const NAME_COUNT: u32 = 36;
+
+// The item `-`, which is no number's word (specs/Tokens).
+pub const DASH: u64 = 4294967296;
+
+// The bytes of a text at most (specs/Texts).
+pub const MAX_TEXT: usize = 65536;

@@ -7,7 +7,7 @@ use mathlib.Core.Option.{Option, none, some}
 use native.Mathlib.Nat.{pow-succ'}
 use native.Mathlib.Numerals.{add-one}
 use native.Mathlib.Omega.{arith}
-use borrow.Author.Tests.{le-leb, lt-leb, leb-true, eq-eqb, ne_eqb, eqb-true, eqb-false}
+use borrow.Author.Tests.{leb-true, eq-eqb, ne_eqb, eqb-true, eqb-false}
 use lib.Dec.{eqb, leb}
 use lib.ListN.{length, get_or, take, drop}
 use lib.Seq.{drop-cons}
@@ -18,15 +18,6 @@ use Rattle.text.proofs.Names.{name_letters, name_found}
 use Rattle.tokens.specs.Tokens.{packed}
 
 -- ---- letters
-
-pub is_letter_lem : (b : ℕ) → 97 ≤ b → b ≤ 122 → is_letter b ≡ true
-is_letter_lem b h k = rw (le-leb 97 b h, le-leb b 122 k)
-
-pub below_letters : (b : ℕ) → b < 97 → is_letter b ≡ false
-below_letters b h = rw (lt-leb 97 b h)
-
-pub above_letters : (b : ℕ) → 122 < b → is_letter b ≡ false
-above_letters b h = rw (le-leb 97 b (omega arith), lt-leb b 122 h)
 
 letter_is : (b : ℕ) → is_letter b ≡ true → (97 ≤ b) × (b ≤ 122)
 letter_is b e = let h = both (leb 97 b) (leb b 122) e in (leb-true 97 b h.0, leb-true b 122 h.1)

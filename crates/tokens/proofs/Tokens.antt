@@ -4,7 +4,9 @@ use mathlib.Core.Path.{◌≡◌, refl, sym, ap, ap₂, subst, ◌∙◌}
 use mathlib.Core.Logic.{◌⊎◌, inl, inr}
 use mathlib.Core.Bool.{Bool, true, false, cond}
 use mathlib.Core.List.{List, [], ◌∷◌}
-use mathlib.Core.Option.{Option, none, some, bind, map, none-ne-some, some-injective, map-eq-some_iff}
+use Rattle.std.specs.Prelude.{Some, None}
+use Rattle.std.proofs.lemmas.Option.{same_Some, none-some}
+use mathlib.Core.Option.{Option as Maybe, none, some, bind, map, none-ne-some, some-injective, map-eq-some_iff}
 use native.Mathlib.Numerals.{add-one}
 use native.Mathlib.Omega.{arith}
 use lib.Dec.{eqb}
@@ -12,15 +14,14 @@ use lib.ListN.{length, get_or, drop, drop_of_length-le, length-drop}
 use lib.Seq.{drop-cons, drop-drop}
 use Rattle.rows.specs.Rows.{word_of}
 use Rattle.lexical.specs.Decimals.{Numeral, number_in, number_at}
-use Rattle.lexical.specs.declared.Number.TheVariants.{Value as Read, Bad as Unread}
+use Rattle.lexical.specs.declared.Number.{Number}
 use Rattle.lexical.proofs.Runs.{run_within}
-use Rattle.text.specs.Names.{name_count, is_letter, letters_in, place_of}
+use Rattle.text.specs.Names.{is_letter, letters_in, place_of}
 use Rattle.text.specs.Tokens.{Token, begin, item, end, dash, Lexed, lexed, dash_in, item_or, after_space, token_in, tokens_in}
-use Rattle.text.proofs.Names.{name_found}
 use Rattle.text.proofs.Tokens.{tokens_none, tokens_step}
 use Rattle.tokens.specs.declared.Found.{Found}
-use Rattle.tokens.specs.declared.Found.TheVariants.{Begin, Item, End, Bad}
-use Rattle.tokens.specs.Tokens.{place_or, token_at, found_at}
+use Rattle.tokens.specs.declared.Found.TheVariants.{Begin, Item, End}
+use Rattle.tokens.specs.Tokens.{place_found, token_at, found_at}
 use Rattle.tokens.proofs.Names.{name_size}
 
 -- ---- by the first byte
@@ -51,37 +52,39 @@ after_past t i h = rw (drop_of_length-le t h)
 
 -- ---- a bracket's name
 
-abbrev opening : List ℕ → Option ℕ → Option Lexed
+abbrev opening : List ℕ → Maybe ℕ → Maybe Lexed
 opening l o = map (λ k. lexed (begin k) (2 + length l)) o
 
-pub named : (l : List ℕ) (at place next : ℕ) → place ≡ place_or (place_of l) → next ≡ at + (2 + length l) → place < name_count → Begin place next ≡ found_at at (opening l (place_of l))
-named l at place next p n h = go (place_of l) p
+pub named : (l : List ℕ) (at place next : ℕ) → Some place ≡ place_found (place_of l) → next ≡ at + (2 + length l)
+    → Some (Begin place next) ≡ found_at at (opening l (place_of l))
+named l at place next p n = go (place_of l) p
   where
-    go : (o : Option ℕ) → place ≡ place_or o → Begin place next ≡ found_at at (opening l o)
-    go none q = absurd (omega arith)
-    go (some k) q = ap₂ Begin q n
+    go : (o : Maybe ℕ) → Some place ≡ place_found o → Some (Begin place next) ≡ found_at at (opening l o)
+    go none q = absurd (none-some place (sym q))
+    go (some k) q = ap₂ (λ (k next : ℕ). Some (Begin k next)) (same_Some place k q) n
 
-pub unnamed : (l : List ℕ) (at place : ℕ) → place ≡ place_or (place_of l) → name_count ≤ place → found_at at (opening l (place_of l)) ≡ Bad
-unnamed l at place p h = go (place_of l) refl p
+pub unnamed : (l : List ℕ) (at : ℕ) → None ≡ place_found (place_of l) → found_at at (opening l (place_of l)) ≡ None
+unnamed l at p = go (place_of l) p
   where
-    go : (o : Option ℕ) → place_of l ≡ o → place ≡ place_or o → found_at at (opening l o) ≡ Bad
-    go none e q = refl
-    go (some k) e q = let f = name_found l k e in absurd (omega arith)
+    go : (o : Maybe ℕ) → None ≡ place_found o → found_at at (opening l o) ≡ None
+    go none q = refl
+    go (some k) q = absurd (none-some k q)
 
 -- ---- an item
 
-pub number_read : (at word next : ℕ) (o : Option Numeral) (d : Option Lexed) → number_at (at + 1) o ≡ Read word next → Item word next ≡ found_at at (item_or o d)
+pub number_read : (at : ℕ) (n : Number) (o : Maybe Numeral) (d : Maybe Lexed) → number_at (at + 1) o ≡ Some n → Some (Item n.word n.next) ≡ found_at at (item_or o d)
 unfolding item_or
-number_read at word next none d e = let z : ◌≡◌ {A = ℕ} 0 1 = cc in absurd (omega arith)
-number_read at word next (some n) d e =
-    let w : word ≡ word_of n.value = cc in
-    let m : next ≡ at + 1 + n.size = cc in
-    ap₂ Item w (omega arith)
+number_read at n none d e = absurd (none-some n e)
+number_read at n (some m) d e =
+    let same = same_Some _ n e in
+    let word : n.word ≡ word_of m.value = ap (λ (x : Number). x.word) (sym same) in
+    let next : n.next ≡ at + 1 + m.size = ap (λ (x : Number). x.next) (sym same) in
+    ap₂ (λ (word next : ℕ). Some (Item word next)) word (omega arith)
 
-pub number_unread : (at : ℕ) (o : Option Numeral) (d : Option Lexed) → number_at (at + 1) o ≡ Unread → item_or o d ≡ d
+pub number_unread : (at : ℕ) (o : Maybe Numeral) (d : Maybe Lexed) → number_at (at + 1) o ≡ None → item_or o d ≡ d
 unfolding item_or
 number_unread at none d e = refl
-number_unread at (some n) d e = let z : ◌≡◌ {A = ℕ} 0 1 = cc in absurd (omega arith)
+number_unread at (some n) d e = absurd (none-some _ (sym e))
 
 -- ---- how many bytes a token takes
 
@@ -112,7 +115,7 @@ dash_takes (b ∷ l) left x e = go (eqb b 45) e
     go true q = held (Fits left) (lexed (item dash) 2) x q (omega arith)
     go false q = absurd (none-ne-some x q)
 
-item_takes : (o : Option Numeral) (l : List ℕ) (left : ℕ) (x : Lexed) → item_or o (dash_in l) ≡ some x → Fits left x
+item_takes : (o : Maybe Numeral) (l : List ℕ) (left : ℕ) (x : Lexed) → item_or o (dash_in l) ≡ some x → Fits left x
 unfolding item_or
 item_takes none l left x e = dash_takes l left x e
 item_takes (some n) l left x e = held (Fits left) (lexed (item (word_of n.value)) (suc n.size)) x e (omega arith)
@@ -167,46 +170,45 @@ stands t i x e =
       tokens = tokens_step (drop i t) long ∙ rw (e, drop-drop);
     }
 
-abbrev token_of : Found → Option Token
-token_of (Begin k next) = some (begin k)
-token_of (Item v next) = some (item v)
-token_of (End next) = some end
-token_of Bad = none
+abbrev token_of : Found → Token
+token_of (Begin k next) = begin k
+token_of (Item v next) = item v
+token_of (End next) = end
 
 abbrev next_of : Found → ℕ
 next_of (Begin k next) = next
 next_of (Item v next) = next
 next_of (End next) = next
-next_of Bad = 0
 
-at_token : (i n : ℕ) (tok : Token) → (token_of (token_at i tok n) ≡ some tok) × (next_of (token_at i tok n) ≡ i + n)
+at_token : (i n : ℕ) (tok : Token) → (token_of (token_at i tok n) ≡ tok) × (next_of (token_at i tok n) ≡ i + n)
 at_token i n (begin k) = (refl, refl)
 at_token i n (item v) = (refl, refl)
 at_token i n end = (refl, refl)
 
-pub found_stands : (t : List ℕ) (i : ℕ) (f : Found) (tok : Token) → f ≡ found_at i (token_in (drop i t)) → token_of f ≡ some tok → Stands t i tok (next_of f)
-found_stands t i f tok e q = go (token_in (drop i t)) refl e
+pub found_stands : (t : List ℕ) (i : ℕ) (f : Found) → Some f ≡ found_at i (token_in (drop i t)) → Stands t i (token_of f) (next_of f)
+found_stands t i f e = go (token_in (drop i t)) refl e
   where
-    go : (o : Option Lexed) → token_in (drop i t) ≡ o → f ≡ found_at i o → Stands t i tok (next_of f)
-    go none h g = absurd (none-ne-some tok (sym (ap token_of g) ∙ q))
+    go : (o : Maybe Lexed) → token_in (drop i t) ≡ o → Some f ≡ found_at i o → Stands t i (token_of f) (next_of f)
+    go none h g = absurd (none-some f (sym g))
     go (some x) h g =
         let a = at_token i x.size x.token in
-        let same : x.token ≡ tok = some-injective x.token tok (sym a.0 ∙ sym (ap token_of g) ∙ q) in
-        let next : i + x.size ≡ next_of f = sym (ap next_of g ∙ a.1) in
-        subst (λ (k : Token). Stands t i k (next_of f)) same (subst (Stands t i x.token) next (stands t i x h))
+        let same = same_Some f (token_at i x.token x.size) g in
+        let token : x.token ≡ token_of f = sym (ap token_of same ∙ a.0) in
+        let next : i + x.size ≡ next_of f = sym (ap next_of same ∙ a.1) in
+        subst (λ (k : Token). Stands t i k (next_of f)) token (subst (Stands t i x.token) next (stands t i x h))
 
 -- no token stands there
-pub found_bad : (t : List ℕ) (i : ℕ) → Bad ≡ found_at i (token_in (drop i t)) → (tokens_in (drop i t) ≡ none) ⊎ (tokens_in (drop i t) ≡ some [])
+pub found_bad : (t : List ℕ) (i : ℕ) → None ≡ found_at i (token_in (drop i t)) → (tokens_in (drop i t) ≡ none) ⊎ (tokens_in (drop i t) ≡ some [])
 unfolding bind
 found_bad t i e = go (token_in (drop i t)) refl e
   where
-    go : (o : Option Lexed) → token_in (drop i t) ≡ o → Bad ≡ found_at i o → (tokens_in (drop i t) ≡ none) ⊎ (tokens_in (drop i t) ≡ some [])
+    go : (o : Maybe Lexed) → token_in (drop i t) ≡ o → None ≡ found_at i o → (tokens_in (drop i t) ≡ none) ⊎ (tokens_in (drop i t) ≡ some [])
     go none h q = no_token (drop i t) h
       where
         no_token : (l : List ℕ) → token_in l ≡ none → (tokens_in l ≡ none) ⊎ (tokens_in l ≡ some [])
         no_token [] r = inr tokens_none
         no_token (b ∷ l) r = inl (tokens_step (b ∷ l) (omega arith) ∙ rw r)
-    go (some x) h q = absurd (none-ne-some x.token (ap token_of q ∙ (at_token i x.size x.token).0))
+    go (some x) h q = absurd (none-some _ q)
 
 pub tokens_past : (t : List ℕ) (i : ℕ) → length t ≤ i → tokens_in (drop i t) ≡ some []
 tokens_past t i h = rw (drop_of_length-le t h) tokens_none
@@ -215,10 +217,10 @@ pub tokens_more : (l : List ℕ) → 0 < length l → tokens_in l ≡ some [] �
 unfolding bind
 tokens_more l h e = go (token_in l) (sym (tokens_step l h) ∙ e)
   where
-    more : (tok : Token) (o : Option (List Token)) → map (λ ts. tok ∷ ts) o ≡ some [] → ⊥
+    more : (tok : Token) (o : Maybe (List Token)) → map (λ ts. tok ∷ ts) o ≡ some [] → ⊥
     more tok none q = none-ne-some [] q
     more tok (some ts) q = let z : ◌≡◌ {A = ℕ} 0 1 = cc in omega arith
 
-    go : (o : Option Lexed) → bind o (λ x. map (λ ts. x.token ∷ ts) (tokens_in (drop x.size l))) ≡ some [] → ⊥
+    go : (o : Maybe Lexed) → bind o (λ x. map (λ ts. x.token ∷ ts) (tokens_in (drop x.size l))) ≡ some [] → ⊥
     go none q = none-ne-some [] q
     go (some x) q = more x.token (tokens_in (drop x.size l)) q

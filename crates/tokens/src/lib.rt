@@ -6,32 +6,29 @@ ghost use Rattle.meaning.specs.Lists.{every};
 ghost use Rattle.text.specs.Names.{is_letter, letters_in, place_of};
 ghost use Rattle.lexical.specs.Decimals.{number_in};
 ghost use Rattle.text.specs.Tokens.{dash_in, item_or, after_space, token_in};
-ghost use Rattle.tokens.specs.Tokens.{place_or, found_at, no_items, items_at};
-ghost use Rattle.tokens.specs.Tokens.{packed};
+ghost use Rattle.tokens.specs.Tokens.{place_found, found_at, items_at, packed};
 
-use text::NAME_COUNT;
+use text::{DASH, NAME_COUNT};
 
-// A token, and the place after it. An item is a number's word, or 2^32 for `-` alone.
+// A token, and the place after it. An item is a number's word, or DASH.
 #[derive(Clone, Copy)]
 pub enum Found {
     Begin { name: u32, next: usize },
     Item { value: u64, next: usize },
     End { next: usize },
-    Bad,
 }
 
-// The items of a line.
+// The items of a line: how many, and their values, zeros after them.
 #[derive(Clone, Copy)]
 pub struct ItemsFound {
-    pub good: bool,
     pub count: u32,
     pub values: [u64; 10],
 }
 
-// A name: its place among the names, NAME_COUNT where it is none of them, and the place after its letters.
+// A name: its place among the names, if it is one of them, and the place after its letters.
 #[derive(Clone, Copy)]
 pub struct NameFound {
-    pub place: u32,
+    pub place: Option<u32>,
     pub end: usize,
 }
 
@@ -79,18 +76,13 @@ const NAMES: [u64; 36] = [
 fn letters_end(line: &[u8], at: usize) -> usize
     ensures { result ≡ at + length (letters_in (drop at line.now)) }
 {
-    let mut i = at;
-    while i < line.len() {
+    for i in at..line.len() {
         let b = line[i];
-        if b < 97 {
+        if !b.is_ascii_lowercase() {
             return i;
         }
-        if 122 < b {
-            return i;
-        }
-        i += 1;
     }
-    i
+    line.len().max(at)
 }
 
 // At most seven bytes as one number.
@@ -99,128 +91,104 @@ fn pack(line: &[u8], at: usize, end: usize) -> u64
     ensures { result ≡ packed (take (end - at) (drop at line.now)) }
 {
     let mut value: u64 = 0;
-    let mut i = end;
-    while at < i {
-        i -= 1;
+    for i in (at..end).rev() {
         value = value * 256 + (line[i] as u64);
     }
     value
 }
 
 // The place of the name that is this number.
-fn place(value: u64) -> u32
-    ensures { (l : List ℕ) → every is_letter l ≡ true → packed l ≡ value → result ≡ place_or (place_of l) }
+fn place(value: u64) -> Option<u32>
+    ensures { (l : List ℕ) → every is_letter l ≡ true → packed l ≡ value → result ≡ place_found (place_of l) }
 {
-    let mut k: u32 = 0;
-    while k < NAME_COUNT {
+    for k in 0..NAME_COUNT {
         let row = k as usize;
         if NAMES[row] == value {
-            return k;
+            return Some(k);
         }
-        k += 1;
     }
-    k
+    None
 }
 
 // The name that the letters at a place are, all of them.
 pub fn name(line: &[u8], at: usize) -> NameFound
-    ensures { (result.place ≡ place_or (place_of (letters_in (drop at line.now)))) × (result.end ≡ at + length (letters_in (drop at line.now))) }
+    ensures { (result.place ≡ place_found (place_of (letters_in (drop at line.now)))) × (result.end ≡ at + length (letters_in (drop at line.now))) }
 {
     let end = letters_end(line, at);
     if 7 < end - at {
-        return NameFound {
-            place: NAME_COUNT,
-            end,
-        };
+        return NameFound { place: None, end };
     }
     let place = place(pack(line, at, end));
     NameFound { place, end }
 }
 
 // The item after a space.
-fn item(line: &[u8], at: usize) -> Found
+fn item(line: &[u8], at: usize) -> Option<Found>
     requires { at + 1 < length line.now }
     ensures { result ≡ found_at at (item_or (number_in (drop (at + 1) line.now)) (dash_in (drop (at + 1) line.now))) }
 {
     let start = at + 1;
-    match lexical::read_number(line, start) {
-        lexical::Number::Value { word, next } => Found::Item {
-            value: word as u64,
-            next,
-        },
-        lexical::Number::Bad => {
-            if line[start] == 45 {
-                return Found::Item {
-                    value: 4294967296,
-                    next: start + 1,
-                };
-            }
-            Found::Bad
-        }
+    if let Some(n) = lexical::read_number(line, start) {
+        return Some(Found::Item {
+            value: n.word as u64,
+            next: n.next,
+        });
     }
+    if line[start] != b'-' {
+        return None;
+    }
+    Some(Found::Item {
+        value: DASH,
+        next: start + 1,
+    })
 }
 
 // What stands after the space at a place.
-fn after_space(line: &[u8], at: usize) -> Found
+fn after_space(line: &[u8], at: usize) -> Option<Found>
     requires { at < length line.now }
     ensures { result ≡ found_at at (after_space (drop (at + 1) line.now)) }
 {
     let from = at + 1;
     if line.len() <= from {
-        return Found::Bad;
+        return None;
     }
-    if line[from] != 40 {
+    if line[from] != b'(' {
         return item(line, at);
     }
     let n = name(line, from + 1);
-    let place = n.place;
-    if NAME_COUNT <= place {
-        return Found::Bad;
-    }
-    Found::Begin {
+    let place = n.place?;
+    Some(Found::Begin {
         name: place,
         next: n.end,
-    }
+    })
 }
 
 // The token at a place; past the end there is none.
-pub fn token(line: &[u8], at: usize) -> Found
+pub fn token(line: &[u8], at: usize) -> Option<Found>
     ensures { result ≡ found_at at (token_in (drop at line.now)) }
 {
     if line.len() <= at {
-        return Found::Bad;
+        return None;
     }
-    if line[at] == 41 {
-        return Found::End { next: at + 1 };
-    }
-    if line[at] != 32 {
-        return Found::Bad;
-    }
-    after_space(line, at)
-}
-
-fn no_items() -> ItemsFound
-    ensures { result ≡ no_items }
-{
-    ItemsFound {
-        good: false,
-        count: 0,
-        values: [0u64; 10],
+    match line[at] {
+        b')' => Some(Found::End { next: at + 1 }),
+        b' ' => after_space(line, at),
+        _ => None,
     }
 }
 
 // The items from a place to the end of the line, which has no inner bracket.
-pub fn items(line: &[u8], at: usize) -> ItemsFound
+pub fn items(line: &[u8], at: usize) -> Option<ItemsFound>
     ensures { result ≡ items_at (drop at line.now) }
 {
     let mut values = [0u64; 10];
     let mut count: u32 = 0;
     let mut i = at;
     loop {
-        match token(line, i) {
+        match token(line, i)? {
             Found::Item { value, next } => {
                 if 9 < count {
-                    return no_items();
+                    return None;
                 }
                 let k = count as usize;
                 values[k] = value;
@@ -229,16 +197,11 @@ pub fn items(line: &[u8], at: usize) -> ItemsFound
             }
             Found::End { next } => {
                 if next < line.len() {
-                    return no_items();
+                    return None;
                 }
-                return ItemsFound {
-                    good: true,
-                    count,
-                    values,
-                };
+                return Some(ItemsFound { count, values });
             }
-            Found::Begin { name: _, next: _ } => return no_items(),
-            Found::Bad => return no_items(),
+            Found::Begin { .. } => return None,
         }
     }
 }

@@ -2,21 +2,18 @@
 #![tactic(auto)]
 
 ghost use Rattle.std.specs.Prelude.{◌≡◌, [], ◌∷◌, ◌++◌};
-ghost use Rattle.told.specs.Coded.{verdict_code, said_words, done_words, listed_words, written_words, ran_words};
+ghost use Rattle.told.specs.Coded.{verdict_code, said_words, done_words, counted_words, ran_words};
 
 use batch::Checked;
-use event_list::Listed;
-use reader::Outcome;
-use tables::{Answer, Verdict};
-use writer::Written;
+use tables::{Answer, Counts, Refusal};
 
 // A refusal's number times 2^32 plus its place, or 0.
-pub fn verdict(v: Verdict) -> u64
+pub fn verdict(v: Result<(), Refusal>) -> u64
     ensures { result ≡ verdict_code v }
 {
     match v {
-        Verdict::Clear => 0,
-        Verdict::Refused(number, place) => (number as u64) * 4294967296 + (place as u64),
+        Ok(()) => 0,
+        Err(r) => (r.number as u64) * 4294967296 + (r.place as u64),
     }
 }
 
@@ -48,41 +45,31 @@ pub fn checked(done: Checked) -> [u32; 6]
 }
 
 // 0 and the used rows of the copy after the batch; or 1, a refusal's number and place.
-pub fn ran(verdict: Verdict, objects: u32, links: u32) -> [u32; 3]
+pub fn ran(verdict: Result<(), Refusal>, objects: u32, links: u32) -> [u32; 3]
     ensures { result ≡ ran_words verdict objects links }
 {
     match verdict {
-        Verdict::Clear => [0, objects, links],
-        Verdict::Refused(number, place) => [1, number, place],
+        Ok(()) => [0, objects, links],
+        Err(r) => [1, r.number, r.place],
     }
 }
 
-// 0, how many event types, and 0; or 1, a refusal's number and place.
-pub fn listed(l: Listed) -> [u32; 3]
-    ensures { result ≡ listed_words l }
+// 0, how many event types were listed or bytes written, and 0; or 1, a refusal's number and place.
+pub fn counted(done: Result<u32, Refusal>) -> [u32; 3]
+    ensures { result ≡ counted_words done }
 {
-    match l {
-        Listed::Types(count) => [0, count, 0],
-        Listed::Refused(number, place) => [1, number, place],
-    }
-}
-
-// 0, how many bytes were written, and 0; or 1, a refusal's number and place.
-pub fn written(w: Written) -> [u32; 3]
-    ensures { result ≡ written_words w }
-{
-    match w {
-        Written::Done(size) => [0, size, 0],
-        Written::Refused(number, place) => [1, number, place],
+    match done {
+        Ok(count) => [0, count, 0],
+        Err(Refusal { number, place }) => [1, number, place],
     }
 }
 
 // 0 and the rows of the seven sections; or 1, a refusal's number, its line, and zeros.
-pub fn reading(o: Outcome) -> [u32; 8]
+pub fn reading(o: Result<Counts, Refusal>) -> [u32; 8]
     ensures { result ≡ done_words o }
 {
     match o {
-        Outcome::Done(n) => [
+        Ok(n) => [
             0,
             n.types,
             n.floors,
@@ -92,6 +79,6 @@ pub fn reading(o: Outcome) -> [u32; 8]
             n.links,
             n.events,
         ],
-        Outcome::Refused(number, line) => [1, number, line, 0, 0, 0, 0, 0],
+        Err(r) => [1, r.number, r.place, 0, 0, 0, 0, 0],
     }
 }

@@ -6,14 +6,14 @@ ghost use Rattle.meaning.specs.Lists.{keep};
 ghost use Rattle.meaning.specs.Reach.{Change};
 ghost use Rattle.meaning.specs.EventList.{touched};
 ghost use Rattle.rows.specs.Rows.{read_rows};
-ghost use Rattle.tables.specs.Columns.{rule_row, floors_of, schema_of};
+ghost use Rattle.tables.specs.Columns.{rule_row, schema_in};
 ghost use Rattle.type_marks.specs.Marks.{places};
 ghost use Rattle.bits.specs.Bits.{bits_in};
 ghost use Rattle.touched.specs.Shared.{shared_below, Occurring};
 ghost use Rattle.touched.specs.Books.{BookGiven};
 
 use event_marks::rule_marks;
-use tables::Counts;
+use tables::{Counts, Sheet};
 
 const PLACES: usize = 1792;
 
@@ -21,45 +21,33 @@ const PLACES: usize = 1792;
 fn shared(a: &[bool; 1792], b: &[bool; 1792]) -> bool
     ensures { result ≡ shared_below a.now b.now places }
 {
-    let mut place: usize = 0;
-    while place < PLACES {
+    for place in 0..PLACES {
         if a[place] {
             if b[place] {
                 return true;
             }
         }
-        place += 1;
     }
     false
 }
 
 // Whether the batch touches a rule: an event type that the rule lists occurs in it.
-fn rule_touched(
-    n: Counts,
-    types: &[u32],
-    floors: &[u32],
-    relationships: &[u32],
-    rules: &[u32],
-    bodies: &[u32],
-    rule: u32,
-    occurring: &[bool; 1792],
-) -> bool
-    requires { BookGiven n types.now floors.now relationships.now rules.now bodies.now × (rule < n.rules) }
-    ensures { (c : Change) → c.schema ≡ schema_of n.types types.now (floors_of n.floors floors.now)
-        n.relationships relationships.now
+fn rule_touched(n: Counts, sheet: &Sheet, rule: u32, occurring: &[bool; 1792]) -> bool
+    requires { BookGiven n sheet.now.types.now sheet.now.floors.now sheet.now.relationships.now sheet.now.rules.now sheet.now.bodies.now × (rule < n.rules) }
+    ensures { (c : Change) → c.schema ≡ schema_in n sheet.now
         → Occurring c occurring.now
-        → result ≡ touched c (rule_row rules.now bodies.now rule) }
+        → result ≡ touched c (rule_row sheet.now.rules.now sheet.now.bodies.now rule) }
 {
     let mut marks = [false; 1792];
     rule_marks(
         n.types,
-        types,
+        sheet.types,
         n.floors,
-        floors,
+        sheet.floors,
         n.relationships,
-        relationships,
-        rules,
-        bodies,
+        sheet.relationships,
+        sheet.rules,
+        sheet.bodies,
         rule,
         &mut marks,
     );
@@ -67,37 +55,17 @@ fn rule_touched(
 }
 
 // The rules of a lent book that a batch touches, by the marks of the event types that occur in it.
-pub fn touched(
-    n: Counts,
-    types: &[u32],
-    floors: &[u32],
-    relationships: &[u32],
-    rules: &[u32],
-    bodies: &[u32],
-    occurring: &[bool; 1792],
-) -> u32
-    requires { BookGiven n types.now floors.now relationships.now rules.now bodies.now }
-    ensures { (c : Change) → c.schema ≡ schema_of n.types types.now (floors_of n.floors floors.now)
-        n.relationships relationships.now
+pub fn touched(n: Counts, sheet: &Sheet, occurring: &[bool; 1792]) -> u32
+    requires { BookGiven n sheet.now.types.now sheet.now.floors.now sheet.now.relationships.now sheet.now.rules.now sheet.now.bodies.now }
+    ensures { (c : Change) → c.schema ≡ schema_in n sheet.now
         → Occurring c occurring.now
-        → bits_in result ≡ keep (λ i. touched c (rule_row rules.now bodies.now i)) (read_rows (λ i. i) n.rules) }
+        → bits_in result ≡ keep (λ i. touched c (rule_row sheet.now.rules.now sheet.now.bodies.now i)) (read_rows (λ i. i) n.rules) }
 {
     let mut word: u32 = 0;
-    let mut rule: u32 = 0;
-    while rule < n.rules {
-        if rule_touched(
-            n,
-            types,
-            floors,
-            relationships,
-            rules,
-            bodies,
-            rule,
-            occurring,
-        ) {
+    for rule in 0..n.rules {
+        if rule_touched(n, sheet, rule, occurring) {
             word = bits::with(word, rule);
         }
-        rule += 1;
     }
     word
 }

@@ -18,7 +18,7 @@ use Rattle.meaning.proofs.Steps.{unrefused}
 use Rattle.tables.specs.Columns.{types_of, event_row, events_of}
 use Rattle.tables.specs.Refusals.{verdict_of}
 use Rattle.tables.specs.declared.Counts.{Counts}
-use Rattle.tables.specs.declared.Verdict.TheVariants.{Clear}
+use Rattle.std.specs.Prelude.{Ok, Err}
 use Rattle.schema.proofs.Rows.{length_rows}
 use Rattle.tables.specs.Met.{object_of, met_by}
 use Rattle.tables.specs.Losses.{lost_in, LossesLow}
@@ -32,7 +32,7 @@ use Rattle.trace_places.specs.Making.{CanTrace}
 use Rattle.trace_places.proofs.Steps.{some_within, step_at_lem}
 
 -- a verdict that refuses nothing
-pub nothing_refused : (r : Option Refusal) → verdict_of r ≡ Clear → r ≡ none
+pub nothing_refused : (r : Option Refusal) → verdict_of r ≡ Ok tt → r ≡ none
 nothing_refused none e = refl
 nothing_refused (some r) e = cc
 

@@ -20,6 +20,7 @@ use Rattle.meaning.specs.Events.{Event, insert, delete, set, join, part, special
 use Rattle.meaning.specs.Reach.{Step, Change, some_step, taken, Direction, all_moves}
 use Rattle.tables.specs.Columns.{types_of, register_of, event_row, events_of}
 use Rattle.tables.specs.declared.Counts.{Counts}
+use Rattle.tables.specs.declared.Sheet as Code
 use Rattle.register.specs.Tables.{ObjectsAscend, object_place}
 use Rattle.chains.specs.Chains.{Chained}
 use Rattle.rows.specs.Rows.{word_at}
@@ -139,3 +140,10 @@ pub record Traced (c : Change) (n : Counts) (types objects links events trace : 
 -- it is that of some batch
 abbrev pub Traces : Counts → List ℕ → List ℕ → List ℕ → List ℕ → List ℕ → Type 0
 Traces n types objects links events trace = (c : Change) × Traced c n types objects links events trace
+
+-- the same of lent tables
+abbrev pub TracedIn : Change → Counts → Code.Sheet → List ℕ → Type 0
+TracedIn c n s trace = Traced c n s.types.now s.objects.now s.links.now s.events.now trace
+
+abbrev pub TracesIn : Counts → Code.Sheet → List ℕ → Type 0
+TracesIn n s trace = (c : Change) × TracedIn c n s trace

@@ -7,8 +7,6 @@ ghost use Rattle.tables.specs.Columns.{event_row};
 ghost use Rattle.register.specs.Tables.{LinksAscend, links_with};
 ghost use Rattle.trace_places.specs.Making.{kept_event, Kept};
 
-use tables::Found;
-
 // The kind of an event that joins, by its place in document 01's order.
 const JOIN: u32 = 3;
 
@@ -26,8 +24,8 @@ fn is_there(link_count: u32, links: &[u32], events: &[u32], i: u32) -> bool
         return false;
     }
     match register::link_row(link_count, links, x, y, z) {
-        Found::At(_) => true,
-        Found::Nothing => false,
+        Some(_) => true,
+        None => false,
     }
 }
 
@@ -64,12 +62,10 @@ pub fn keep(
     requires { (LinksAscend link_count links.now) × (event_count ≤ max_events) × ((i : ℕ) → i < event_count → get_or met.now i 0 ≤ max_types) }
     ensures { Kept link_count links.now events.now met.now trace.old trace.new event_count }
 {
-    let mut i: u32 = 0;
-    while i < event_count {
+    for i in 0..event_count {
         let there = bit(is_there(link_count, links, events, i));
         let at = i as usize;
         let t = met[at];
         write(i, there, t, trace);
-        i += 1;
     }
 }

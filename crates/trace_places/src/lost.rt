@@ -43,9 +43,7 @@ pub fn fill(
     ensures { (LossesPut object_count objects.now losses.now count trace.old trace.new 0)
         × (loss_count trace.new ≡ count) }
 {
-    let mut j = count;
-    while 0 < j {
-        j -= 1;
+    for j in (0..count).rev() {
         let role = rows::word(losses, tables::LOSS_WIDTH, j, 0);
         let id = rows::word(losses, tables::LOSS_WIDTH, j, 1);
         put(j, end_row(object_count, objects, id), role, trace);

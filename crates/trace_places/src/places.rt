@@ -8,7 +8,6 @@ ghost use Rattle.trace_places.specs.Traces.{named_at, or_past, row_named};
 ghost use Rattle.trace_places.specs.Making.{placed, placed_event, Placed};
 
 use chains::push;
-use tables::Found;
 
 // The kinds of events, by their places in document 01's order.
 const DELETE: u32 = 1;
@@ -27,8 +26,8 @@ pub fn end_row(object_count: u32, objects: &[u32], id: u32) -> u32
     ensures { result ≡ or_past (object_place object_count objects.now id) }
 {
     match register::object_row(object_count, objects, id) {
-        Found::At(row) => row,
-        Found::Nothing => meaning::MAX_OBJECTS,
+        Some(row) => row,
+        None => meaning::MAX_OBJECTS,
     }
 }
 
@@ -123,9 +122,7 @@ pub fn place(
         × ((k : ℕ) → get_or trace.old k 0 ≡ 0) }
     ensures { Placed object_count objects.now events.now (2 * event_count) trace.old trace.new 0 }
 {
-    let mut i = event_count;
-    while 0 < i {
-        i -= 1;
+    for i in (0..event_count).rev() {
         put_event(object_count, objects, events, i, trace);
     }
 }

@@ -80,26 +80,12 @@ fn goes(kind: u32, z: u32, into: bool, had: bool) -> bool
     !into
 }
 
-// Whether both hold.
-fn both(a: bool, b: bool) -> bool
-    ensures { result ≡ (a && b) }
-{
-    if a { b } else { false }
-}
-
-// Whether one of them holds.
-fn either(a: bool, b: bool) -> bool
-    ensures { result ≡ (a || b) }
-{
-    if a { true } else { b }
-}
-
 // A set of directions with a gain and a loss besides.
 fn with(set: u32, gain: bool, loss: bool) -> u32
     ensures { (result < 4) × ((d : Direction) → has result d ≡ (has set d || either_way gain loss d)) }
 {
-    let up = bit(either(directions::contains(set, UP), gain));
-    let down = bit(either(directions::contains(set, DOWN), loss));
+    let up = bit(directions::contains(set, UP) | gain);
+    let down = bit(directions::contains(set, DOWN) | loss);
     up + down * 2
 }
 
@@ -127,13 +113,11 @@ fn put_all(
         (comes_by kind z (get_or into.now t false) (get_or had.now t false) && get_or there.now t false)
         (goes_by kind z (get_or into.now t false) (get_or had.now t false))) max_types }
 {
-    let mut t: u32 = 0;
-    while t < meaning::MAX_TYPES {
+    for t in 0..meaning::MAX_TYPES {
         let at = t as usize;
-        let gain = both(comes(kind, z, into[at], had[at]), there[at]);
+        let gain = comes(kind, z, into[at], had[at]) & there[at];
         let loss = goes(kind, z, into[at], had[at]);
         put(t, gain, loss, trace);
-        t += 1;
     }
 }
 
@@ -183,8 +167,7 @@ pub fn fill(
         (λ t d. some_below (λ i. event_moves (types_of type_count types.now) (objects_with object_count objects.now ls)
         (event_row events.now i) (get_or met.now i 0) t d) event_count) max_types }
 {
-    let mut i: u32 = 0;
-    while i < event_count {
+    for i in 0..event_count {
         let at = i as usize;
         let m = met[at];
         put_event(
@@ -197,6 +180,5 @@ pub fn fill(
             m,
             trace,
         );
-        i += 1;
     }
 }

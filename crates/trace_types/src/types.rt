@@ -8,8 +8,6 @@ ghost use Rattle.register.specs.Tables.{ObjectsAscend, objects_with};
 ghost use Rattle.trace_places.specs.Questions.{met_under};
 ghost use Rattle.trace_places.specs.Making.{ForTypes};
 
-use tables::Found;
-
 // Whether an object whose type was `met` was under t; 32 is no type.
 pub fn was_under(type_count: u32, types: &[u32], met: u32, t: u32) -> bool
     ensures { result ≡ met_under (types_of type_count types.now) met t }
@@ -38,14 +36,12 @@ pub fn above(type_count: u32, types: &[u32], t: u32) -> [bool; 32]
 {
     let mut truths = [false; 32];
     let mut at = t;
-    let mut left = t;
-    while left > 0 {
+    for _ in 0..t {
         put(at, &mut truths);
         if !schema::has_parent(type_count, types, at) {
             return truths;
         }
         at = rows::word(types, tables::TYPE_WIDTH, at, 0);
-        left -= 1;
     }
     put(at, &mut truths);
     truths
@@ -75,7 +71,7 @@ pub fn end_above(
         ForTypes result (is_under (types_of type_count types.now) (objects_with object_count objects.now ls) id) }
 {
     match register::object_row(object_count, objects, id) {
-        Found::At(row) => above(type_count, types, register::type_of(objects, row)),
-        Found::Nothing => [false; 32],
+        Some(row) => above(type_count, types, register::type_of(objects, row)),
+        None => [false; 32],
     }
 }

@@ -11,7 +11,7 @@ ghost use Rattle.type_marks.specs.Marks.{places, words_at, marked, Added};
 ghost use Rattle.type_marks.specs.Lists.{marked_by, type_lists, entry_lists, leaf_lists};
 
 use directions::{DOWN, UP};
-use quietness::quiet::{Still, both};
+use quietness::quiet::Still;
 use typing::Place;
 
 // The kinds of events, by their places in document 01's order.
@@ -76,8 +76,8 @@ fn put_type(
     ensures { Added marks.old marks.new (λ place.
         listed && ((whole && same_list (coming ∷ t ∷ 0 ∷ []) (words_at place)) || (parent && same_list (changing ∷ t ∷ 0 ∷ []) (words_at place)))) }
 {
-    put(both(listed, whole), coming, t, 0, marks);
-    put(both(listed, parent), changing, t, 0, marks);
+    put(listed & whole, coming, t, 0, marks);
+    put(listed & parent, changing, t, 0, marks);
 }
 
 // Marks what moves all objects of a type or, of one object, only its kind.
@@ -122,7 +122,7 @@ pub fn put_context(type_count: u32, types: &[u32], still: Still, t: u32, marks: 
 {
     let parent = schema::has_parent(type_count, types, t);
     put(!still.insert, INSERT, t, 0, marks);
-    put(both(!still.special, parent), SPECIAL, t, 0, marks);
+    put(!still.special & parent, SPECIAL, t, 0, marks);
 }
 
 // Marks what moves a role. A link is lost by a part, or with the object to which it leads.

@@ -149,8 +149,7 @@ pub fn floored_rows(
         (body_of bodies.now at.rule) at.end result }
 {
     let mut floored = [false; 64];
-    let mut row: u32 = 0;
-    while row < at.end {
+    for row in 0..at.end {
         let mut sum = false;
         if field(bodies, at.rule, row, 0) == SUM {
             let mut part = at;
@@ -160,7 +159,6 @@ pub fn floored_rows(
         }
         let index = row as usize;
         floored[index] = sum;
-        row += 1;
     }
     floored
 }

@@ -16,7 +16,8 @@ use Rattle.link_index.specs.Slots.{far_id, Place, Indexed}
 use Rattle.link_index.proofs.Walk.{first_placed, first_far_lem, place_slot, far_there, far_member, next_placed, next_far}
 use Rattle.walks.specs.Site.{Site, types_at, register_at, id_in, ids_of}
 use Rattle.walks.specs.Walks.{id_from, is_from, left_in, instances_from, StandsIn, Anywhere, BegunIn, Went, Stepped, WalkedIn, far_step}
-use Rattle.walks.specs.declared.Step.{Step}
+use Rattle.std.specs.Prelude as Std
+use Rattle.walks.specs.declared.Member.{Member}
 use Rattle.walks.proofs.Members.{keep_all, keep_none, keep_swap, from_first, from_member}
 use Rattle.walks.proofs.Objects.{left_from, from_start}
 use Rattle.walks.proofs.Steps.{stepped_done, stepped_at}
@@ -90,14 +91,14 @@ module _ (w : Site) (x : Indexed w.counts.objects w.objects w.counts.links w.lin
   unfolding StandsIn meaning
   all_begun = record { all_left = all_left_is 0 ∙ from_start (types_at w) w.objects w.counts.objects t w.counts.links w.links; stands = tt }
 
-  pub all_walked : {word : ℕ} {s : Step} → Stepped w.objects w.counts.objects from Anywhere word s → WalkedIn w (all t) vars depth word s
+  pub all_walked : {word : ℕ} {s : Std.Option Member} → Stepped w.objects w.counts.objects from Anywhere word s → WalkedIn w (all t) vars depth word s
   unfolding StandsIn
   all_walked {word} stepped =
       record {
         done = λ e. all_left_is word ∙ stepped.done e;
-        went = λ row on e.
-            let g = stepped.went row on e in
-            record { member = all_left_is word ∙ g.member ∙ ap {B = List ℕ} (λ l. id_in w.objects row ∷ l) (sym (all_left_is on)); there = g.there; stands = tt };
+        went = λ m e.
+            let g = stepped.went m e in
+            record { member = all_left_is word ∙ g.member ∙ ap {B = List ℕ} (λ l. id_in w.objects m.row ∷ l) (sym (all_left_is m.next)); there = g.there; stands = tt };
       }
 
 -- ---- over a select

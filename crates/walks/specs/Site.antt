@@ -5,6 +5,7 @@ use Rattle.meaning.specs.Register.{Register}
 use Rattle.tables.specs.Bodies.{BodyRow, Part, ending}
 use Rattle.tables.specs.Columns.{object_row, types_of, register_of}
 use Rattle.tables.specs.declared.Counts.{Counts}
+use Rattle.tables.specs.declared.Sheet as Code
 use Rattle.body_rows.specs.Marks.{body_of}
 
 pub record Site : Type 0 where
@@ -19,6 +20,10 @@ pub record Site : Type 0 where
 abbrev pub site_of : Counts → List ℕ → List ℕ → List ℕ → List ℕ → List ℕ → ℕ → Site
 site_of n types objects links index bodies rule =
     record { counts = n; types = types; objects = objects; links = links; index = index; bodies = bodies; rule = rule }
+
+-- that of lent tables
+abbrev pub site_in : Counts → Code.Sheet → List ℕ → ℕ → Site
+site_in n s index rule = site_of n s.types.now s.objects.now s.links.now index s.bodies.now rule
 
 abbrev pub types_at : Site → List ObjectType
 types_at w = types_of w.counts.types w.types

@@ -12,8 +12,9 @@ use Rattle.tables.specs.Bodies.{as_collection}
 use Rattle.tables.specs.Columns.{object_row}
 use Rattle.link_index.specs.Slots.{far_id, Place}
 use Rattle.walks.specs.Site.{Site, types_at, register_at, form_at, id_in, ids_of}
-use Rattle.walks.specs.declared.Step.{Step}
-use Rattle.walks.specs.declared.Step.TheVariants.{At, Done}
+use Rattle.std.specs.Prelude as Std
+use Rattle.std.specs.Prelude.{Some, None}
+use Rattle.walks.specs.declared.Member.{Member}
 
 -- ---- what a walk has left
 
@@ -62,17 +63,17 @@ pub record Went (objects : List ℕ) (count : ℕ) (left : ℕ → List ℕ) (Ma
   pub stands : May on
 
 -- a step of a walk, by what each word leaves and which words it may hold
-pub record Stepped (objects : List ℕ) (count : ℕ) (left : ℕ → List ℕ) (May : ℕ → Type 0) (word : ℕ) (s : Step) : Type 0 where
-  pub done : s ≡ Done → left word ≡ []
-  pub went : (row on : ℕ) → s ≡ At row on → Went objects count left May word row on
+pub record Stepped (objects : List ℕ) (count : ℕ) (left : ℕ → List ℕ) (May : ℕ → Type 0) (word : ℕ) (s : Std.Option Member) : Type 0 where
+  pub done : s ≡ None → left word ≡ []
+  pub went : (m : Member) → s ≡ Some m → Went objects count left May word m.row m.next
 
-abbrev pub WalkedIn : Site → Form collection → List ℕ → ℕ → ℕ → Step → Type 0
+abbrev pub WalkedIn : Site → Form collection → List ℕ → ℕ → ℕ → Std.Option Member → Type 0
 WalkedIn w f vars depth word s = Stepped w.objects w.counts.objects (left_in w f (ids_of w depth vars)) (StandsIn w f vars) word s
 
 -- the step along a role: the far row of the slot, and the slot after it
-abbrev pub far_step : List ℕ → ℕ → Step
-far_step index zero = Done
-far_step index (suc s) = At (get_or index s 0) (get_or index (8192 + s) 0)
+abbrev pub far_step : List ℕ → ℕ → Std.Option Member
+far_step index zero = None
+far_step index (suc s) = Some (record { row = get_or index s 0; next = get_or index (8192 + s) 0 })
 
 -- ---- the same of the collection that ends before row e
 
@@ -88,5 +89,5 @@ Stands w e vars word = StandsIn w (collection_at w e) vars word
 abbrev pub Begun : Site → ℕ → List ℕ → ℕ → ℕ → Type 0
 Begun w e vars depth word = BegunIn w (collection_at w e) vars depth word
 
-abbrev pub Walked : Site → ℕ → List ℕ → ℕ → ℕ → Step → Type 0
+abbrev pub Walked : Site → ℕ → List ℕ → ℕ → ℕ → Std.Option Member → Type 0
 Walked w e vars depth word s = WalkedIn w (collection_at w e) vars depth word s

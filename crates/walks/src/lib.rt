@@ -6,11 +6,11 @@ ghost use Rattle.tables.specs.Columns.{types_of};
 ghost use Rattle.walks.specs.Values.{cell_in, weight_of};
 ghost use Rattle.walks.specs.Walks.{far_step, instances_from, Stepped, Anywhere};
 
-// A step of a walk over a collection: the row of the next member and the word at which the walk goes on; or there is none left.
+// A member of a collection that is walked over: its object's row, and the word at which the walk goes on.
 #[derive(Clone, Copy)]
-pub enum Step {
-    At(u32, u32),
-    Done,
+pub struct Member {
+    pub row: u32,
+    pub next: u32,
 }
 
 // The row of the object that a variable stands for.
@@ -49,22 +49,22 @@ pub fn weight(objects: &[u32], code: u32, cell: u32, row: u32) -> i64
     }
 }
 
-// The member at the slot to which a walk along a role leads.
-pub fn next_far(index: &[u16; 81920], word: u32) -> Step
+// The member at the slot to which a walk along a role leads, if there is one.
+pub fn next_far(index: &[u16; 81920], word: u32) -> Option<Member>
     requires { word ≤ 8192 }
     ensures { result ≡ far_step index.now word }
 {
     if word == 0 {
-        return Step::Done;
+        return None;
     }
     let slot = word - 1;
-    Step::At(
-        link_index::far_row(index, slot),
-        link_index::next_slot(index, slot),
-    )
+    Some(Member {
+        row: link_index::far_row(index, slot),
+        next: link_index::next_slot(index, slot),
+    })
 }
 
-// The first object under t from a row on.
+// The first object under t from a row on, if there is one.
 pub fn next_instance(
     type_count: u32,
     types: &[u32],
@@ -72,16 +72,13 @@ pub fn next_instance(
     objects: &[u32],
     t: u32,
     from: u32,
-) -> Step
+) -> Option<Member>
     ensures { Stepped objects.now object_count (instances_from (types_of type_count types.now) objects.now object_count t) Anywhere from result }
 {
-    let mut row = from;
-    while row < object_count {
-        let on = row + 1;
+    for row in from..object_count {
         if schema::under(type_count, types, register::type_of(objects, row), t) {
-            return Step::At(row, on);
+            return Some(Member { row, next: row + 1 });
         }
-        row = on;
     }
-    Step::Done
+    None
 }

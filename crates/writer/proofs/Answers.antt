@@ -1,5 +1,6 @@
 -- The writer's answer by what was put into its buffer.
 use Prim.Native.Nat.{ℕ, ◌+◌, ◌≤◌, ◌<◌}
+use Rattle.tables.specs.Refusals.{refused_by}
 use mathlib.Core.Path.{◌≡◌, sym, ap, ◌∙◌}
 use mathlib.Core.List.{List, ◌++◌}
 use native.Mathlib.Nat.{zero-add}
@@ -12,7 +13,7 @@ use Rattle.lexical.specs.Writing.{written}
 use Rattle.lexical.proofs.Writing.{fits_place, over_place, text_is}
 use Rattle.line_writer.specs.Put.{Put}
 use Rattle.writer.specs.Answers.{Answered, text_refusal, bytes_after}
-use Rattle.writer.specs.declared.Written.TheVariants.{Done, Refused}
+use Rattle.std.specs.Prelude.{Ok, Err}
 
 -- text put from the start of a buffer of 65,536 bytes
 module _ {d s e : List ℕ} {p : ℕ} (put : Put d 0 s e p) (size : length d ≡ 65536) where
@@ -33,11 +34,11 @@ module _ {d s e : List ℕ} {p : ℕ} (put : Put d 0 s e p) (size : length d ≡
   long : p ≤ 65536 → p ≡ length s
   long h = let k = small h in put.place ∙ fits_place d 0 s (omega arith) ∙ zero-add (length s)
 
-  pub put_large : (out : List ℕ) → 65536 < p → Answered (Refused 2 0) out (text_refusal s (length out)) s out
+  pub put_large : (out : List ℕ) → 65536 < p → Answered (refused_by 2 0) out (text_refusal s (length out)) s out
   unfolding text_refusal bytes_after
   put_large out h = let k = lt-ltb 65536 (length s) (large h) in record { answer_is = rw k; bytes = rw k }
 
-  pub put_unlent : (out : List ℕ) → p ≤ 65536 → length out < p → Answered (Refused 14 0) out (text_refusal s (length out)) s out
+  pub put_unlent : (out : List ℕ) → p ≤ 65536 → length out < p → Answered (refused_by 14 0) out (text_refusal s (length out)) s out
   unfolding text_refusal bytes_after
   put_unlent out h k =
       let l = long h in
@@ -52,13 +53,13 @@ module _ {d s e : List ℕ} {p : ℕ} (put : Put d 0 s e p) (size : length d ≡
       let k = small h in
       ap (take p) (put.text (omega arith) ∙ text_is d 0 s (omega arith)) ∙ take_at s (drop (0 + length s) d) p (sym l)
 
-  pub put_done : (out : List ℕ) → p ≤ 65536 → p ≤ length out → {f : List ℕ} → f ≡ written out 0 (take p e) → Answered (Done p) f (text_refusal s (length out)) s out
+  pub put_done : (out : List ℕ) → p ≤ 65536 → p ≤ length out → {f : List ℕ} → f ≡ written out 0 (take p e) → Answered (Ok p) f (text_refusal s (length out)) s out
   unfolding text_refusal bytes_after
   put_done out h k {f} w =
       let l = long h in
       let a = le-ltb 65536 (length s) (small h) in
       let b = le-ltb (length out) (length s) (omega arith) in
       record {
-        answer_is = rw (a, b) (ap Done l);
+        answer_is = rw (a, b) (ap Ok l);
         bytes = w ∙ rw (a, b) (ap (written out 0) (front h) ∙ text_is out 0 s (omega arith) ∙ ap (λ j. s ++ drop j out) (zero-add (length s)));
       }

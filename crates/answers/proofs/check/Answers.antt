@@ -12,14 +12,14 @@ returns-then-text-gt8192 c =
     let e = long_text check_room (batch_printed 2048) c.args.text.now c.if-text-gt8192.true in
     (c.refuse.ensures.0 ∙ ap (λ b. in_front b c.args.out.now) e, c.refuse.ensures.1 ∙ ap length e)
 
-pub returns-in-Refused : goal.returns-in-Refused
+pub returns-in-Err : goal.returns-in-Err
 unfolding lent_sheet check_prints
-returns-in-Refused c =
-    let e = read_refused check_room (batch_printed 2048) c.args.text.now c.if-text-gt8192.false (sym c.in-Refused.is ∙ c.read.ensures.0) in
-    (c.refuse-in-Refused.ensures.0 ∙ ap (λ b. in_front b c.args.out.now) e, c.refuse-in-Refused.ensures.1 ∙ ap length e)
+returns-in-Err c =
+    let e = read_refused check_room (batch_printed 2048) c.args.text.now c.if-text-gt8192.false (sym c.in-Err.is ∙ c.read.ensures.0) in
+    (c.refuse-in-Err.ensures.0 ∙ ap (λ b. in_front b c.args.out.now) e, c.refuse-in-Err.ensures.1 ∙ ap length e)
 
-pub returns-in-Done : goal.returns-in-Done
+pub returns-in-Ok : goal.returns-in-Ok
 unfolding lent_sheet check_prints
-returns-in-Done c =
-    let e = read_done check_room (batch_printed 2048) c.args.text.now c.if-text-gt8192.false (sym c.in-Done.is ∙ c.read.ensures.0) c.read.ensures.1 in
+returns-in-Ok c =
+    let e = read_done check_room (batch_printed 2048) c.args.text.now c.if-text-gt8192.false (sym c.in-Ok.is ∙ c.read.ensures.0) c.read.ensures.1 in
     (c.check_read.ensures.0 ∙ ap (λ b. in_front b c.args.out.now) e, c.check_read.ensures.1 ∙ ap length e)

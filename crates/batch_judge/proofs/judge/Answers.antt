@@ -4,24 +4,16 @@ use mathlib.Core.Path.{refl}
 use mathlib.Core.List.{List, []}
 use native.Mathlib.Omega.{arith}
 use lib.ListN.{length-replicate}
-use Rattle.tables.specs.Layouts.{Sheet, sheet_of}
+use Rattle.tables.specs.Layouts.{register_sheet}
 use Rattle.full_search.proofs.Given.{register_fits, can_index, zeros}
 use Rattle.batch_judge.proofs.Judging.{marks_number, no_room_lem, listed}
 use borrow.Author.Rules.{rules}
 use Rattle.batch_judge.proofs.judge.Goals as goal
-use Rattle.batch_judge.proofs.judge.Lts as lts
-use Rattle.batch_judge.proofs.judge.Reads as reads
-use Rattle.batch_judge.proofs.judge.Tie as tie
-
-abbrev sheet : lts.Start tie.the-claims reads.Pre reads.Post → List ℕ → Sheet
-sheet s events =
-    let a = s.args in
-    sheet_of a.types.now a.floors.now a.relationships.now a.rules.now a.bodies.now a.objects.now a.links.now events
 
 pub index-requires : goal.index-requires
 index-requires c =
-    let fits = register_fits c.args.n (sheet c.before.before.before.before.before.before.before.before.before.before.before []) c.requires.0 in
-    (fits.objects_ascend, fits.links_ascend, can_index c.args.n (sheet c.before.before.before.before.before.before.before.before.before.before.before []) c.requires.0, zeros 81920)
+    let fits = register_fits c.args.n (register_sheet c.args.sheet.now) c.requires.0 in
+    (fits.objects_ascend, fits.links_ascend, can_index c.args.n (register_sheet c.args.sheet.now) c.requires.0, zeros 81920)
 
 pub selected_pairs-count-requires : goal.selected_pairs-count-requires
 selected_pairs-count-requires c =

@@ -2,26 +2,18 @@
 use Prim.Native.Nat.{ℕ}
 use mathlib.Core.Path.{refl}
 use mathlib.Core.List.{List, []}
-use Rattle.tables.specs.Layouts.{Sheet, sheet_of}
+use Rattle.tables.specs.Layouts.{register_sheet}
 use Rattle.full_search.proofs.Given.{register_fits, zeros}
 use Rattle.touched.proofs.Books.{book_given}
 use Rattle.selection.proofs.Adding.{added_to}
 use Rattle.batch_selection.proofs.by_events.Goals as goal
-use Rattle.batch_selection.proofs.by_events.Lts as lts
-use Rattle.batch_selection.proofs.by_events.Reads as reads
-use Rattle.batch_selection.proofs.by_events.Tie as tie
-
-abbrev sheet : lts.Start tie.the-claims reads.Pre reads.Post → List ℕ → Sheet
-sheet s events =
-    let a = s.args in
-    sheet_of a.types.now a.floors.now a.relationships.now a.rules.now a.bodies.now a.objects.now a.links.now events
 
 pub make-requires : goal.make-requires
 make-requires c =
     let ended = c.requires.1.1 in
     record {
       objects_ascend = c.requires.0.indexed.objects_ascend;
-      links_ascend = (register_fits c.args.n (sheet c.before.before.before.before.before.before.before.before.before.before []) c.requires.0.given).links_ascend;
+      links_ascend = (register_fits c.args.n (register_sheet c.args.sheet.now) c.requires.0.given).links_ascend;
       objects_few = c.requires.0.given.few_objects;
       events_few = ended.seen.few;
       met_low = ended.met_low;
@@ -32,7 +24,7 @@ make-requires c =
 
 pub touched_rules-rules_touched-requires : goal.touched_rules-rules_touched-requires
 touched_rules-rules_touched-requires c =
-    (book_given c.args.n (sheet c.before.before.before.before.before.before.before.before.before.before.before []) c.requires.0.given, c.requires.0.indexed.objects_ascend, c.requires.1.1.seen.few)
+    (book_given c.args.n (register_sheet c.args.sheet.now) c.requires.0.given, c.requires.0.indexed.objects_ascend, c.requires.1.1.seen.few)
 
 pub select-requires : goal.select-requires
 select-requires c =

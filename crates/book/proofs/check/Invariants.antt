@@ -10,6 +10,3 @@ use Rattle.book.proofs.check.Given as goal
 abbrev pub invariant-loop-rule : goal.invariant-loop-rule
 invariant-loop-rule l =
     (fs : List Floor) → Passed (faulty_rule (schema_of l.type_count l.types fs l.relationship_count l.relationships)) (rule_row l.rules l.bodies) l.rule_count l.rule
-
-abbrev pub decreases-loop-rule : goal.decreases-loop-rule
-decreases-loop-rule l = l.rule_count - l.rule

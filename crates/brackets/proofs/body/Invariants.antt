@@ -5,8 +5,8 @@ use Rattle.brackets.specs.Steps.{body_at}
 use Rattle.brackets.proofs.Stack.{Running}
 use Rattle.brackets.proofs.body.Given as goal
 
-abbrev pub invariant-loop-outer : goal.invariant-loop-outer
-invariant-loop-outer l = Running l.line l.i l.outer l.depth l.lacks l.forms (body_at (drop l.at l.line))
+abbrev pub invariant-loop-found : goal.invariant-loop-found
+invariant-loop-found l = Running l.line l.i l.outer l.depth l.lacks l.forms (body_at (drop l.at l.line))
 
-abbrev pub decreases-loop-outer : goal.decreases-loop-outer
-decreases-loop-outer l = length l.line - l.i
+abbrev pub decreases-loop-found : goal.decreases-loop-found
+decreases-loop-found l = length l.line - l.i

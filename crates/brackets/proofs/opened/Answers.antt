@@ -3,16 +3,16 @@ use mathlib.Core.Path.{sym}
 use native.Mathlib.Omega.{arith}
 use Rattle.tables.specs.Codes.{operators, shape_of}
 use Rattle.brackets.proofs.Machine.{lack_words, open_not, open_below, open_above, open_word}
+use Rattle.brackets.proofs.opened.Goals.{then-lacks-lt4-via-then-lacks-lt4, then-lacks-lt4-via-else-lacks-lt4+then-name-lt-FIRST_OPERATOR, then-lacks-lt4-via-else-lacks-lt4+else-name-lt-FIRST_OPERATOR+then-name-ge-NAME_COUNT}
 use Rattle.brackets.proofs.opened.Goals as goal
 
 pub returns-then-lacks-lt4 : goal.returns-then-lacks-lt4
-returns-then-lacks-lt4 c = sym (open_not _ _ (omega arith))
-
-pub returns-then-name-lt-FIRST_OPERATOR : goal.returns-then-name-lt-FIRST_OPERATOR
-returns-then-name-lt-FIRST_OPERATOR c = sym (open_below _ _ (omega arith))
-
-pub returns-then-name-ge-NAME_COUNT : goal.returns-then-name-ge-NAME_COUNT
-returns-then-name-ge-NAME_COUNT c = sym (open_above _ _ (omega arith))
+returns-then-lacks-lt4 c =
+    elim c.then-lacks-lt4.branch [
+      | then-lacks-lt4-via-then-lacks-lt4 w ↦ sym (open_not _ _ (omega arith))
+      | then-lacks-lt4-via-else-lacks-lt4+then-name-lt-FIRST_OPERATOR w ↦ sym (open_below _ _ (omega arith))
+      | then-lacks-lt4-via-else-lacks-lt4+else-name-lt-FIRST_OPERATOR+then-name-ge-NAME_COUNT w ↦ sym (open_above _ _ (omega arith))
+    ]
 
 pub returns : goal.returns
 unfolding lack_words operators shape_of

@@ -1,4 +1,4 @@
--- `candidates::mark_all` meets its contract. The loop's invariant: the rows that were passed are marked. The measure is what is left of the rows.
+-- `candidates::mark_all` meets its contract. The loop's invariant: the rows that were passed are marked.
 use Prim.Native.Nat.{ℕ, ◌-◌, ◌≤◌, ◌<◌}
 use mathlib.Core.Path.{◌≡◌}
 use mathlib.Core.Bool.{true, false}
@@ -7,7 +7,4 @@ use Rattle.candidates.proofs.mark_all.Given as goal
 
 abbrev pub invariant-loop-row : goal.invariant-loop-row
 invariant-loop-row l =
-    (l.row ≤ l.n.objects) × (length l.marks ≡ 1024) × ((k : ℕ) → k < l.row → get_or l.marks k false ≡ true)
-
-abbrev pub decreases-loop-row : goal.decreases-loop-row
-decreases-loop-row l = l.n.objects - l.row
+    (l.row ≤ l.fn.n.objects) × (length l.marks ≡ 1024) × ((k : ℕ) → k < l.row → get_or l.marks k false ≡ true)

@@ -20,7 +20,7 @@ returns c =
     let still = c.args.still in (
       grown_then c.put_if.ensures.0 c.put_if-2.ensures.0,
       λ k traced row h e.
-          let u = id_in c.args.objects.now row in
+          let u = id_in c.args.sheet.now.objects.now row in
           ⊎_elim
           (λ i.
           let (came, asks) = both_true (inserted k u t) (not still.insert) i in

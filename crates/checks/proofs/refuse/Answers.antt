@@ -1,5 +1,5 @@
 -- `checks::refuse` meets its contract.
 use Rattle.checks.proofs.refuse.Goals as goal
 
-pub returns-in-At : goal.returns-in-At
-returns-in-At c = rw c.in-At.is
+pub returns-in-Some : goal.returns-in-Some
+returns-in-Some c = rw c.in-Some.is

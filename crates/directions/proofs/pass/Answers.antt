@@ -1,29 +1,17 @@
 -- `directions::pass` meets its contract: the entries at the form's number for the directions in the set, put together.
-use Prim.Native.Nat.{ℕ, ◌+◌, ◌*◌, ◌<◌}
-use mathlib.Core.Path.{◌≡◌, sym, ap₂, subst, ◌∙◌}
+use Prim.Native.Nat.{ℕ, ◌+◌, ◌*◌}
+use mathlib.Core.Path.{◌≡◌, ap₂, ◌∙◌}
 use mathlib.Core.Bool.{cond}
 use mathlib.Core.List.{[]}
-use borrow.Author.Rules.{rules}
 use lib.Bits.{bit_or}
 use lib.ListN.{get_or}
 use Rattle.direction_table.specs.Entries.{rule_table}
-use Rattle.direction_table.proofs.Rules.{number_low}
 use Rattle.directions.specs.Sets.{holds_one}
 use Rattle.directions.proofs.Passes.{asked_passed}
 use Rattle.directions.proofs.pass.Goals as goal
 use Rattle.directions.proofs.pass.Lts as lts
 use Rattle.directions.proofs.pass.Reads as reads
 use Rattle.directions.proofs.pass.Tie as tie
-
--- the form has a row
-low : (c : lts.After-form_of tie.the-claims reads.Pre reads.Post) → c.form_of-form.result < 24
-low c = subst (λ form. form < 24) (sym c.form_of-form.ensures) (number_low c.args.code c.args.floored c.requires.0)
-
-pub asked-requires : goal.asked-requires
-asked-requires c = search (rules, low c)
-
-pub asked-requires-2 : goal.asked-requires-2
-asked-requires-2 c = search (rules, low c.before)
 
 -- what is asked of the table: an entry of the part, where the set has its direction
 abbrev entry_in_lem : (c : lts.After-form_of tie.the-claims reads.Pre reads.Post) (direction way : ℕ) → ℕ

@@ -6,6 +6,3 @@ use Rattle.event_lines.proofs.events.Given as goal
 
 abbrev pub invariant-loop-i : goal.invariant-loop-i
 invariant-loop-i l = (l.i ≤ l.count) × Put l.initial.out l.at (events_shown (event_types_in l.list l.i)) l.out l.next
-
-abbrev pub decreases-loop-i : goal.decreases-loop-i
-decreases-loop-i l = l.count - l.i

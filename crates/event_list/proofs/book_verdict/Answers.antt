@@ -8,4 +8,4 @@ use Rattle.event_list.proofs.book_verdict.Goals as goal
 pub returns : goal.returns
 returns c =
     let a = c.args in
-    c.check.ensures ∙ ap verdict_of (book_alone_lem a.n a.types.now a.floors.now a.relationships.now a.rules.now a.bodies.now)
+    c.check.ensures ∙ ap verdict_of (book_alone_lem a.n a.sheet.now.types.now a.sheet.now.floors.now a.sheet.now.relationships.now a.sheet.now.rules.now a.sheet.now.bodies.now)

@@ -22,18 +22,6 @@ use Rattle.event_marks.proofs.rule_marks.Tie as tie
 abbrev size-start : lts.After-word2 tie.the-claims reads.Pre reads.Post → lts.Start tie.the-claims reads.Pre reads.Post
 size-start c = c.before.before.before.before.before.before.before.before
 
-abbrev sums-scan : lts.After-floored_rows tie.the-claims reads.Pre reads.Post → lts.After-scan tie.the-claims reads.Pre reads.Post
-sums-scan c = c.before.before.before
-
-abbrev form-sums : lts.After-mark_form tie.the-claims reads.Pre reads.Post → lts.After-floored_rows tie.the-claims reads.Pre reads.Post
-form-sums c = c.before.before.before.before.before
-
-abbrev form-scan : lts.After-mark_form tie.the-claims reads.Pre reads.Post → lts.After-scan tie.the-claims reads.Pre reads.Post
-form-scan c = sums-scan (form-sums c)
-
-abbrev still-form : lts.After-stillness tie.the-claims reads.Pre reads.Post → lts.After-mark_form tie.the-claims reads.Pre reads.Post
-still-form c = c.before.before.before.before
-
 -- ---- the rule
 abbrev rows : lts.Start tie.the-claims reads.Pre reads.Post → ℕ → BodyRow
 rows s = body_of s.args.bodies.now s.args.rule
@@ -56,9 +44,6 @@ rule_is c = λ j. record { context = sym c.word-context.ensures j; body = read_b
 pub scan-spans-requires : goal.scan-spans-requires
 scan-spans-requires c = (body_is c.before).few
 
-pub floored_rows-floored-requires : goal.floored_rows-floored-requires
-floored_rows-floored-requires c = (c.scan-spans.ensures.0, whole c.before.before.before.before)
-
 pub mark_form-requires : goal.mark_form-requires
 mark_form-requires c =
     let w = body_is c.before.before.before.before.before.before.before.before.before in
@@ -67,9 +52,6 @@ mark_form-requires c =
 
 pub stillness-still-requires : goal.stillness-still-requires
 stillness-still-requires c = (c.scan-spans.ensures.0, (body_is c.before.before.before.before.before.before.before.before.before.before.before.before.before).sound)
-
-pub put_context-requires : goal.put_context-requires
-put_context-requires c = c.mark_form.ensures.0
 
 pub returns : goal.returns
 returns c =

@@ -6,7 +6,6 @@ use Rattle.meaning.specs.Register.{Link, Register}
 use Rattle.meaning.specs.Events.{Lent}
 use Rattle.rows.specs.Rows.{read_rows}
 use Rattle.tables.specs.Columns.{link_row, floors_of, relationships_of, schema_of, register_of}
-use native.Mathlib.Omega.{arith}
 use Rattle.event_refusals.proofs.Fields.{as_event, kind_set}
 use Rattle.event_refusals.proofs.of_event.Goals as goal
 use Rattle.event_refusals.proofs.of_event.Lts as lts
@@ -30,27 +29,9 @@ module _ (c : lts.Start tie.the-claims reads.Pre reads.Post) where
   abbrev lent : ℕ → Lent
   lent w = record { objects = c.args.objects_lent; links = c.args.links_lent; words = w }
 
-pub of_link_event-requires : goal.of_link_event-requires
-of_link_event-requires c =
-    (c.requires.0, c.requires.1, omega arith, omega arith)
-
-pub of_short_event-requires : goal.of_short_event-requires
-of_short_event-requires c = (
-  c.requires.0,
-  λ e. elim c.in_default.branch [ goal.in_default-via-then-kind-lt2 w ↦ omega arith | goal.in_default-via-else-kind-lt2+else-kind-lt5 w ↦ omega arith ],
-  λ e. elim c.in_default.branch [ goal.in_default-via-then-kind-lt2 w ↦ omega arith | goal.in_default-via-else-kind-lt2+else-kind-lt5 w ↦ omega arith ],
-  λ e. elim c.in_default.branch [ goal.in_default-via-then-kind-lt2 w ↦ omega arith | goal.in_default-via-else-kind-lt2+else-kind-lt5 w ↦ omega arith ],
-)
-
 pub returns-in-2 : goal.returns-in-2
 returns-in-2 c =
     let a = c.args in
     λ w.
     as_event (S c.before.before.before.before.before.before.before.before) (lent c.before.before.before.before.before.before.before.before w) (g c.before.before.before.before.before.before.before.before) (kind_set a.x a.y a.z c.in-2.is)
     (c.of_set.ensures (rs c.before.before.before.before.before.before.before.before) (lent c.before.before.before.before.before.before.before.before w) (ls c.before.before.before.before.before.before.before.before))
-
-pub returns-in-3 : goal.returns-in-3
-returns-in-3 c = λ w. c.of_link_event.ensures _ _ w
-
-pub returns-in_default : goal.returns-in_default
-returns-in_default c = λ w. c.of_short_event.ensures _ w

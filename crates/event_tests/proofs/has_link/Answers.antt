@@ -5,12 +5,12 @@ use Rattle.schema.proofs.Founds.{found_none, found_some}
 use Rattle.event_tests.proofs.Tests.{link_present, link_absent}
 use Rattle.event_tests.proofs.has_link.Goals as goal
 
-pub returns-in-At : goal.returns-in-At
-returns-in-At c =
+pub returns-in-Some : goal.returns-in-Some
+returns-in-Some c =
     let x = c.args in
-    λ os. sym (link_present os x.count x.links.now (link_of x.relationship x.source x.target) (found_some _ (sym c.in-At.is ∙ c.link_row.ensures)))
+    λ os. sym (link_present os x.count x.links.now (link_of x.relationship x.source x.target) (found_some _ (sym c.in-Some.is ∙ c.link_row.ensures)))
 
-pub returns-in-Nothing : goal.returns-in-Nothing
-returns-in-Nothing c =
+pub returns-in-None : goal.returns-in-None
+returns-in-None c =
     let x = c.args in
-    λ os. sym (link_absent os x.count x.links.now (link_of x.relationship x.source x.target) (found_none _ (sym c.in-Nothing.is ∙ c.link_row.ensures)))
+    λ os. sym (link_absent os x.count x.links.now (link_of x.relationship x.source x.target) (found_none _ (sym c.in-None.is ∙ c.link_row.ensures)))

@@ -1,19 +1,17 @@
 -- `event_tests::is_present` meets its contract.
-use mathlib.Core.Path.{sym, ◌∙◌}
 use mathlib.Core.Bool.{true}
 use Rattle.meaning.specs.Register.{present}
-use Rattle.schema.proofs.Founds.{found_none, found_some}
-use Rattle.event_tests.proofs.Tests.{test_found, test_missing}
+use Rattle.event_tests.proofs.Tests.{found_answer, missing_answer}
 use Rattle.event_tests.proofs.is_present.Goals as goal
 
-pub returns-in-At : goal.returns-in-At
+pub returns-in-Some : goal.returns-in-Some
 unfolding present
-returns-in-At c =
+returns-in-Some c =
     let x = c.args in
-    λ ls. sym (test_found x.count x.objects.now ls x.id (λ o. true) (found_some _ (sym c.in-At.is ∙ c.object_row.ensures)))
+    λ ls. found_answer x.count x.objects.now ls x.id (λ o. true) c.in-Some.is c.object_row.ensures
 
-pub returns-in-Nothing : goal.returns-in-Nothing
+pub returns-in-None : goal.returns-in-None
 unfolding present
-returns-in-Nothing c =
+returns-in-None c =
     let x = c.args in
-    λ ls. sym (test_missing x.count x.objects.now ls x.id (λ o. true) (found_none _ (sym c.in-Nothing.is ∙ c.object_row.ensures)))
+    λ ls. missing_answer x.count x.objects.now ls x.id (λ o. true) c.in-None.is c.object_row.ensures

@@ -5,8 +5,7 @@ use lib.Dec.{eqb}
 use Rattle.meaning.specs.Schema.{under}
 use Rattle.meaning.specs.Events.{strictly_under}
 use Rattle.tables.specs.Columns.{types_of}
-use Rattle.schema.proofs.Founds.{found_none, found_some}
-use Rattle.event_tests.proofs.Tests.{test_found, test_missing}
+use Rattle.event_tests.proofs.Tests.{found_answer, missing_answer}
 use Rattle.event_tests.proofs.strictly_under.Goals as goal
 
 pub returns-then-under : goal.returns-then-under
@@ -17,7 +16,7 @@ returns-then-under c =
     λ ls.
     ap (λ b. b && not (eqb x.t c.type_of-own.result)) (sym c.if-under.true ∙ c.under.ensures)
     ∙ ap (λ own. under types own x.t && not (eqb x.t own)) c.type_of-own.ensures
-    ∙ sym (test_found x.count x.objects.now ls x.id _ (found_some _ (sym c.in-At.is ∙ c.object_row.ensures)))
+    ∙ found_answer x.count x.objects.now ls x.id _ c.in-Some.is c.object_row.ensures
 
 pub returns-else-under : goal.returns-else-under
 unfolding strictly_under
@@ -27,10 +26,10 @@ returns-else-under c =
     λ ls.
     ap (λ b. b && not (eqb x.t c.type_of-own.result)) (sym c.if-under.false ∙ c.under.ensures)
     ∙ ap (λ own. under types own x.t && not (eqb x.t own)) c.type_of-own.ensures
-    ∙ sym (test_found x.count x.objects.now ls x.id _ (found_some _ (sym c.in-At.is ∙ c.object_row.ensures)))
+    ∙ found_answer x.count x.objects.now ls x.id _ c.in-Some.is c.object_row.ensures
 
-pub returns-in-Nothing : goal.returns-in-Nothing
+pub returns-in-None : goal.returns-in-None
 unfolding strictly_under
-returns-in-Nothing c =
+returns-in-None c =
     let x = c.args in
-    λ ls. sym (test_missing x.count x.objects.now ls x.id _ (found_none _ (sym c.in-Nothing.is ∙ c.object_row.ensures)))
+    λ ls. missing_answer x.count x.objects.now ls x.id _ c.in-None.is c.object_row.ensures

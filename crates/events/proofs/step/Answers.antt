@@ -7,17 +7,12 @@ use Rattle.meaning.specs.Register.{Register}
 use Rattle.meaning.specs.Events.{Event, Lent, event_refusal}
 use Rattle.tables.specs.Columns.{floors_of, schema_of, register_of, event_row}
 use Rattle.tables.specs.Refusals.{found_of}
-use Rattle.tables.specs.declared.Found.TheVariants.{At, Nothing}
 use Rattle.schema.proofs.Founds.{found_none}
 use Rattle.events.proofs.Allowed.{can, some_event}
-use native.Mathlib.Omega.{arith}
 use Rattle.events.proofs.step.Goals as goal
 use Rattle.events.proofs.step.Lts as lts
 use Rattle.events.proofs.step.Reads as reads
 use Rattle.events.proofs.step.Tie as tie
-
-number_found : {n : ℕ} → At n ≡ Nothing → ⊥
-number_found e = let z : ◌≡◌ {A = ℕ} 0 1 = cc in omega arith
 
 -- ---- where no refusal is met
 module _ (c : lts.Past-After-enum_told tie.the-claims reads.Pre reads.Post) where
@@ -40,7 +35,7 @@ module _ (c : lts.Past-After-enum_told tie.the-claims reads.Pre reads.Post) wher
   event = event_row start.args.events.now start.args.row
 
   unrefused : (w : ℕ) → event_refusal S (lent w) g event ≡ none
-  unrefused w = found_none _ (sym c.in-Nothing.is ∙ asked.refusal.ensures w)
+  unrefused w = found_none _ (sym c.in-None.is ∙ asked.refusal.ensures w)
 
 pub row_effect-after-requires : goal.row_effect-after-requires
 row_effect-after-requires c = (
@@ -49,19 +44,8 @@ row_effect-after-requires c = (
   c.requires.1,
 )
 
-pub returns-in-At : goal.returns-in-At
-returns-in-At c =
-    λ w.
-    record {
-      refused_is = sym c.in-At.is ∙ c.refusal.ensures w;
-      taken = λ e. absurd (number_found e);
-      lost = λ e. absurd (number_found e);
-      kept = λ d. refl;
-      losses_kept = λ d. (refl, refl);
-    }
-
-pub returns-in-Nothing : goal.returns-in-Nothing
-returns-in-Nothing c =
+pub returns-in-None : goal.returns-in-None
+returns-in-None c =
     λ w.
     record {
       refused_is = sym (ap found_of (unrefused c.before.before.before.before.before.before.before.before.before w));

@@ -1,30 +1,36 @@
 -- `fill::put_lines` meets its contract: the rows of the lines before are in the tables.
-use mathlib.Core.Path.{◌≡◌}
+use mathlib.Core.Path.{◌≡◌, sym, ◌∙◌}
+use Rattle.std.specs.Prelude.{Some}
 use native.Mathlib.Omega.{arith}
 use Rattle.text.specs.Entries.{entry_in}
 use Rattle.line_reader.specs.Rows.{row_held}
 use Rattle.reading.proofs.Looking.{look_follows, line_short, end_within}
-use Rattle.filling.proofs.Filling.{fill_starts, fill_ends, fill_section, fill_count, fill_body, fill_body_room, fill_goes_on}
+use Rattle.filling.proofs.Filling.{fill_starts, fill_ends, fill_row, fill_section, fill_count, fill_body, fill_body_room, fill_goes_on}
 use Rattle.filling.proofs.put_lines.Goals as goal
 
 pub loop-at-init : goal.loop-at-init
 loop-at-init c = fill_starts c.args.text.now c.requires.1
 
-pub read_line-row-requires : goal.read_line-row-requires
-read_line-row-requires c =
+pub read_line-requires : goal.read_line-requires
+read_line-requires c =
     let k = c.loop-at.invariant.looking in
     (line_short k c.loop-at-test.true c.requires.0 c.line-line.ensures, (look_follows k).types_few)
+
+pub unwrap-row-requires : goal.unwrap-row-requires
+unwrap-row-requires c =
+    let k = c.loop-at.invariant in
+    fill_row k c.requires.0 c.loop-at-test.true c.requires.2.1 c.line-line.ensures _ (c.read_line.ensures k.looking.before (look_follows k.looking))
 
 pub put_line-requires : goal.put_line-requires
 put_line-requires c =
     let k = c.loop-at.invariant in
-    let row_is : c.read_line-row.result ≡ row_held (entry_in k.looking.before c.line-line.result.now) = c.read_line-row.ensures k.looking.before (look_follows k.looking) in
+    let row_is : Some c.unwrap-row.result ≡ row_held (entry_in k.looking.before c.line-line.result.now) = sym c.unwrap-row.ensures ∙ c.read_line.ensures k.looking.before (look_follows k.looking) in
     (fill_body k c.requires.0 c.loop-at-test.true c.requires.2.1 c.line-line.ensures row_is, fill_body_room k c.requires.0 c.loop-at-test.true c.requires.2.1 c.line-line.ensures row_is)
 
 pub more_rows-counts-requires : goal.more_rows-counts-requires
 more_rows-counts-requires c =
     let k = c.loop-at.invariant in
-    let row_is : c.read_line-row.result ≡ row_held (entry_in k.looking.before c.line-line.result.now) = c.read_line-row.ensures k.looking.before (look_follows k.looking) in
+    let row_is : Some c.unwrap-row.result ≡ row_held (entry_in k.looking.before c.line-line.result.now) = sym c.unwrap-row.ensures ∙ c.read_line.ensures k.looking.before (look_follows k.looking) in
     (fill_section k c.requires.0 c.loop-at-test.true c.requires.2.1 c.line-line.ensures row_is, fill_count k c.requires.0 c.loop-at-test.true c.requires.2.1 c.line-line.ensures row_is)
 
 pub overflow_add-at : goal.overflow_add-at
@@ -39,7 +45,7 @@ loop-at-smaller c = omega (arith, c.line_end-at.ensures, c.loop-at-test.true)
 pub loop-at-preserved : goal.loop-at-preserved
 loop-at-preserved c =
     let k = c.loop-at.invariant in
-    let row_is : c.read_line-row.result ≡ row_held (entry_in k.looking.before c.line-line.result.now) = c.read_line-row.ensures k.looking.before (look_follows k.looking) in
+    let row_is : Some c.unwrap-row.result ≡ row_held (entry_in k.looking.before c.line-line.result.now) = sym c.unwrap-row.ensures ∙ c.read_line.ensures k.looking.before (look_follows k.looking) in
     fill_goes_on k c.requires.0 c.loop-at-test.true c.requires.2.1 c.line-line.ensures row_is c.put_line.ensures
     c.line_end-at.ensures c.more_rows-counts.ensures c.more_cells-cells.ensures
 

@@ -13,11 +13,11 @@ holds_at-requires c =
 pub returns-then-under : goal.returns-then-under
 unfolding broken_row
 returns-then-under c =
-    let asked = ap (λ k. under_type (types_of c.args.n.types c.args.types.now) k c.args.context) (sym c.type_of.ensures) ∙ sym c.under.ensures ∙ c.if-under.true in
+    let asked = ap (λ k. under_type (types_of c.args.n.types c.args.sheet.now.types.now) k c.args.context) (sym c.type_of.ensures) ∙ sym c.under.ensures ∙ c.if-under.true in
     rw asked (ap not c.holds_at.ensures)
 
 pub returns-else-under : goal.returns-else-under
 unfolding broken_row
 returns-else-under c =
-    let asked = ap (λ k. under_type (types_of c.args.n.types c.args.types.now) k c.args.context) (sym c.type_of.ensures) ∙ sym c.under.ensures ∙ c.if-under.false in
+    let asked = ap (λ k. under_type (types_of c.args.n.types c.args.sheet.now.types.now) k c.args.context) (sym c.type_of.ensures) ∙ sym c.under.ensures ∙ c.if-under.false in
     rw asked

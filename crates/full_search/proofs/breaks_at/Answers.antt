@@ -16,13 +16,13 @@ scan-spans-requires c =
 
 pub breaks-requires : goal.breaks-requires
 breaks-requires c =
-    let place = Founds.found_some _ (sym c.in-At.is ∙ c.object_row.ensures) in
-    rule_ready c.requires.0 c.requires.1 c.word-size.ensures (λ j. (c.type_inv.bodies j).fits) c.scan-spans.ensures.0 (place_row_lem _ _ c.args.id place).0
+    let place = Founds.found_some _ (sym c.in-Some.is ∙ c.object_row.ensures) in
+    rule_ready c.requires.0 c.requires.1 c.word-size.ensures c.scan-spans.ensures.2 c.scan-spans.ensures.0 (place_row_lem _ _ c.args.id place).0
 
-pub returns-in-At : goal.returns-in-At
-returns-in-At c =
-    found_row c.requires.0 c.requires.1 c.word-size.ensures c.args.id (Founds.found_some _ (sym c.in-At.is ∙ c.object_row.ensures)) c.word-context.ensures c.breaks.ensures
+pub returns-in-Some : goal.returns-in-Some
+returns-in-Some c =
+    found_row c.requires.0 c.requires.1 c.word-size.ensures c.args.id (Founds.found_some _ (sym c.in-Some.is ∙ c.object_row.ensures)) c.word-context.ensures c.breaks.ensures
 
-pub returns-in-Nothing : goal.returns-in-Nothing
-returns-in-Nothing c =
-    found_none c.requires.0 c.requires.1 refl c.args.id (Founds.found_none _ (sym c.in-Nothing.is ∙ c.object_row.ensures))
+pub returns-in-None : goal.returns-in-None
+returns-in-None c =
+    found_none c.requires.0 c.requires.1 refl c.args.id (Founds.found_none _ (sym c.in-None.is ∙ c.object_row.ensures))

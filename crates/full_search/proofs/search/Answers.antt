@@ -20,10 +20,7 @@ loop-row-init c =
 
 pub breaks-requires : goal.breaks-requires
 breaks-requires c =
-    let word2 = c.word-size in
-    let if1 = c.search-test in
-    let shared_slice_known5 = c.shared_slice_known-5-1 in
-    rule_ready c.requires if1.true word2.ensures (λ j. (shared_slice_known5.given j).fits) c.scan-spans.ensures.0 c.loop-row-test.true
+    rule_ready c.requires c.search-test.true c.word-size.ensures c.scan-spans.ensures.2 c.scan-spans.ensures.0 c.loop-row-test.true
 
 pub loop-row-preserved : goal.loop-row-preserved
 loop-row-preserved c =

@@ -85,7 +85,7 @@ walk l k part = record { schema = l.schema; vars = l.vars; able = part; self = l
 pub back-returns-then-set-eq0 : goal.back-returns-then-set-eq0
 back-returns-then-set-eq0 t c =
     let a = c.args in
-    let w = site_of a.n a.types.now a.objects.now a.links.now a.index.now a.bodies.now a.at.0 in
+    let w = site_of a.n a.sheet.now.types.now a.sheet.now.objects.now a.sheet.now.links.now a.index.now a.sheet.now.bodies.now a.at.0 in
     (grown_below _ (grown_none _), λ k traced marks. none_covers k w a.at.1 a.at.2 c.if-set-eq0.true)
 
 pub back-overflow_sub-row : goal.back-overflow_sub-row
@@ -107,7 +107,7 @@ back-returns-then-shape-eq-NONE t c =
     let second = c.shape.ensures (op r) (coded_at r c.field-code.ensures) in (
       grown_below _ c.leaf.ensures.0,
       λ k traced marks.
-          leaf_covers r k a.set (omega (arith, c.if-set-eq0.false)) c.requires.2 a.objects.now a.n.objects c.field-code.ensures c.field-x.ensures c.field-y.ensures
+          leaf_covers r k a.set (omega (arith, c.if-set-eq0.false)) c.requires.2 a.sheet.now.objects.now a.n.objects c.field-code.ensures c.field-x.ensures c.field-y.ensures
           (sym second ∙ c.if-shape-eq-NONE.true) (c.leaf.ensures.1 k traced),
     )
 
@@ -144,14 +144,14 @@ back-returns-then-code-ne-SUM t c =
     let first = c.shape-2.ensures (op r) is in (
       c.back.ensures.0,
       λ k traced marks.
-          one_covers r k a.set (omega (arith, c.if-set-eq0.false)) c.requires.2 a.objects.now a.n.objects some (to_second_lem r k a.set a.floored.now (c.pass-to.ensures (op r) is) marks) (sym first ∙ c.if-shape-eq-NONE-2.true)
+          one_covers r k a.set (omega (arith, c.if-set-eq0.false)) c.requires.2 a.sheet.now.objects.now a.n.objects some (to_second_lem r k a.set a.floored.now (c.pass-to.ensures (op r) is) marks) (sym first ∙ c.if-shape-eq-NONE-2.true)
           c.if-back.false (c.back.ensures.1 k traced (part_marks r k a.floored.now marks)) c.field-code.ensures c.if-code-ne-SUM.true,
     )
 
 pub back-members-requires : goal.back-members-requires
 back-members-requires t c =
     let a = c.args in
-    let w = site_of a.n a.types.now a.objects.now a.links.now a.index.now a.bodies.now a.at.0 in
+    let w = site_of a.n a.sheet.now.types.now a.sheet.now.objects.now a.sheet.now.links.now a.index.now a.sheet.now.bodies.now a.at.0 in
     let r = c.requires.0.able in
     let is = coded_at r c.field-code.ensures in
     let some = not_as c.if-shape-eq-NONE.false (c.shape.ensures (op r) is) in
@@ -169,7 +169,7 @@ back-returns-then-shape-eq-NONE-2 t c =
     let first = c.shape-2.ensures (op r) is in (
       below_then c.back.ensures.0 c.members.ensures.0,
       λ k traced marks.
-          sum_covers r k a.set (omega (arith, c.if-set-eq0.false)) c.requires.2 a.objects.now a.n.objects some (to_second_lem r k a.set a.floored.now (c.pass-to.ensures (op r) is) marks) (sym first ∙ c.if-shape-eq-NONE-2.true)
+          sum_covers r k a.set (omega (arith, c.if-set-eq0.false)) c.requires.2 a.sheet.now.objects.now a.n.objects some (to_second_lem r k a.set a.floored.now (c.pass-to.ensures (op r) is) marks) (sym first ∙ c.if-shape-eq-NONE-2.true)
           c.if-back.false (c.back.ensures.1 k traced (part_marks r k a.floored.now marks)) (few r) c.field-code.ensures c.if-code-ne-SUM.false c.field-x.ensures c.members.ensures.0 (c.members.ensures.1 k traced),
     )
 
@@ -217,14 +217,14 @@ back-returns-then-shape-ne-COLLECTION t c =
     let plain = not_as c.if-shape-ne-COLLECTION.true (c.shape-3.ensures (op r) is) in (
       below_then c.back-2.ensures.0 c.back-then-shape-ne-COLLECTION.ensures.0,
       λ k traced marks.
-          plain_covers r k a.set (omega (arith, c.if-set-eq0.false)) c.requires.2 a.objects.now a.n.objects some (to_second_lem r k a.set a.floored.now (c.pass-to.ensures (op r) is) marks)
+          plain_covers r k a.set (omega (arith, c.if-set-eq0.false)) c.requires.2 a.sheet.now.objects.now a.n.objects some (to_second_lem r k a.set a.floored.now (c.pass-to.ensures (op r) is) marks)
           some_first refl (c.pass-to_first.ensures (op r) is) (few r) c.if-back-2.false (c.back-2.ensures.1 k traced (first_marks r k a.floored.now some some_first marks)) c.back-then-shape-ne-COLLECTION.ensures.0 plain (c.back-then-shape-ne-COLLECTION.ensures.1 k traced (part_marks r k a.floored.now marks)),
     )
 
 pub back-over-requires : goal.back-over-requires
 back-over-requires t c =
     let a = c.args in
-    let w = site_of a.n a.types.now a.objects.now a.links.now a.index.now a.bodies.now a.at.0 in
+    let w = site_of a.n a.sheet.now.types.now a.sheet.now.objects.now a.sheet.now.links.now a.index.now a.sheet.now.bodies.now a.at.0 in
     let r = c.requires.0.able in
     let is = coded_at r c.field-code.ensures in
     let some = not_as c.if-shape-eq-NONE.false (c.shape.ensures (op r) is) in
@@ -244,7 +244,7 @@ back-returns t c =
     let binds = c.shape-3.ensures (op r) is in (
       below_then c.back-2.ensures.0 c.over.ensures.0,
       λ k traced marks.
-          over_covers r k a.set (omega (arith, c.if-set-eq0.false)) c.requires.2 a.objects.now a.n.objects some (to_second_lem r k a.set a.floored.now (c.pass-to.ensures (op r) is) marks)
+          over_covers r k a.set (omega (arith, c.if-set-eq0.false)) c.requires.2 a.sheet.now.objects.now a.n.objects some (to_second_lem r k a.set a.floored.now (c.pass-to.ensures (op r) is) marks)
           some_first refl (c.pass-to_first.ensures (op r) is) (few r) c.if-back-2.false (c.back-2.ensures.1 k traced (first_marks r k a.floored.now some some_first marks)) c.over.ensures.0 (sym binds ∙ c.if-shape-ne-COLLECTION.false) (c.over.ensures.1 k traced marks),
     )
 
@@ -271,7 +271,7 @@ over-overflow_add-inner t c = let h = c.requires.0.able.deep in omega arith
 pub over-back-requires : goal.over-back-requires
 over-back-requires t c =
     let a = c.args in
-    let w = site_of a.n a.types.now a.objects.now a.links.now a.index.now a.bodies.now a.at.0 in
+    let w = site_of a.n a.sheet.now.types.now a.sheet.now.objects.now a.sheet.now.links.now a.index.now a.sheet.now.bodies.now a.at.0 in
     let o = c.requires.0.able in
     let vars = c.requires.0.vars in
     let row = get_or vars 0 0 in
@@ -297,12 +297,12 @@ over-image-requires t c =
     let a = c.args in
     let o = c.requires.0.able in
     let emptied = cleared_below (c.clear.ensures a.marks.now) in
-    ((a.types.now, c.requires.0.vars, o.first), o.deep, room_kept c.back.ensures.0.long (room_kept emptied.long c.requires.3))
+    ((a.sheet.now.types.now, c.requires.0.vars, o.first), o.deep, room_kept c.back.ensures.0.long (room_kept emptied.long c.requires.3))
 
 pub over-returns : goal.over-returns
 over-returns t c =
     let a = c.args in
-    let w = site_of a.n a.types.now a.objects.now a.links.now a.index.now a.bodies.now a.at.0 in
+    let w = site_of a.n a.sheet.now.types.now a.sheet.now.objects.now a.sheet.now.links.now a.index.now a.sheet.now.bodies.now a.at.0 in
     let o = c.requires.0.able in
     let depth = a.at.2 in
     let emptied = cleared_below (c.clear.ensures a.marks.now) in

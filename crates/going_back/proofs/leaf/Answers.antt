@@ -4,16 +4,6 @@ use native.Mathlib.Omega.{arith}
 use Rattle.row_sets.proofs.Growth.{grown_none}
 use Rattle.going_back.proofs.Leaves.{leaf_all, leaf_num, leaf_cell, leaf_role, leaf_kind}
 use Rattle.going_back.proofs.leaf.Goals as goal
-use Rattle.going_back.proofs.leaf.Lts as lts
-use Rattle.going_back.proofs.leaf.Reads as reads
-use Rattle.going_back.proofs.leaf.Tie as tie
-
-abbrev other : lts.Else2 tie.the-claims reads.Pre reads.Post → lts.Start tie.the-claims reads.Pre reads.Post
-other c = c.before.before.before.before.before.before.before
-
--- the variable is bound
-bound : (c : lts.Else2 tie.the-claims reads.Pre reads.Post) → (other c).args.x < 64
-bound c = let able = (other c).requires.0.1 in let low = able.bound c.if-code-eq-NUM.false c.if-code-eq-ALL.false in omega (arith, able.shallow)
 
 pub all_moved-requires : goal.all_moved-requires
 all_moved-requires c = (c.requires.1, c.requires.0.1.known c.if-code-eq-ALL.true)
@@ -29,7 +19,9 @@ returns-then-code-eq-NUM c =
     (grown_none _, λ k traced. leaf_num k a.x a.y a.set c.requires.2 c.requires.3 _ _ _ _ c.if-code-eq-NUM.true)
 
 pub put_answers-requires : goal.put_answers-requires
-put_answers-requires c = (c.requires.1, omega arith, bound c.before.before.before.before, c.requires.4)
+put_answers-requires c =
+    let bound : c.args.x < 64 = let able = c.requires.0.1 in let low = able.bound c.if-code-eq-NUM.false c.if-code-eq-ALL.false in omega (arith, able.shallow) in
+    (c.requires.1, omega arith, bound, c.requires.4)
 
 pub returns-then-code-eq-CELL : goal.returns-then-code-eq-CELL
 returns-then-code-eq-CELL c =
@@ -37,7 +29,9 @@ returns-then-code-eq-CELL c =
     (c.put_answers.ensures.0, λ k traced. leaf_cell k a.x a.y a.set c.requires.2 c.requires.3 _ _ _ _ c.if-code-eq-CELL.true (c.put_answers.ensures.1 k traced))
 
 pub put_moved-requires : goal.put_moved-requires
-put_moved-requires c = (c.requires.1, omega arith, omega arith, bound c.before.before.before.before.before, c.requires.4)
+put_moved-requires c =
+    let bound : c.args.x < 64 = let able = c.requires.0.1 in let low = able.bound c.if-code-eq-NUM.false c.if-code-eq-ALL.false in omega (arith, able.shallow) in
+    (c.requires.1, omega arith, omega arith, bound, c.requires.4)
 
 pub returns-then-code-eq-ROLE : goal.returns-then-code-eq-ROLE
 returns-then-code-eq-ROLE c =
@@ -45,7 +39,9 @@ returns-then-code-eq-ROLE c =
     (c.put_moved.ensures.0, λ k traced. leaf_role k a.x a.y a.set c.requires.2 c.requires.3 _ _ _ _ c.if-code-eq-ROLE.true (c.put_moved.ensures.1 k traced))
 
 pub put_moved-requires-2 : goal.put_moved-requires-2
-put_moved-requires-2 c = (c.requires.1, omega arith, omega arith, bound c.before.before.before.before.before, c.requires.4)
+put_moved-requires-2 c =
+    let bound : c.args.x < 64 = let able = c.requires.0.1 in let low = able.bound c.if-code-eq-NUM.false c.if-code-eq-ALL.false in omega (arith, able.shallow) in
+    (c.requires.1, omega arith, omega arith, bound, c.requires.4)
 
 pub returns : goal.returns
 returns c =

@@ -18,7 +18,7 @@ put_answers-requires c =
 pub image-requires : goal.image-requires
 image-requires c =
     let pre = c.requires in
-    ((c.args.types.now, pre.0.0, pre.0.1), pre.3, room_kept c.put_answers.ensures.0.long (room_kept (c.clear.ensures c.args.marks.now).long pre.4))
+    ((c.args.sheet.now.types.now, pre.0.0, pre.0.1), pre.3, room_kept c.put_answers.ensures.0.long (room_kept (c.clear.ensures c.args.marks.now).long pre.4))
 
 pub returns : goal.returns
 returns c = (

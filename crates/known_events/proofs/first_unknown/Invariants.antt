@@ -11,6 +11,3 @@ use Rattle.known_events.proofs.first_unknown.Given as goal
 abbrev pub invariant-loop-row : goal.invariant-loop-row
 invariant-loop-row l =
     (types : List ℕ) (fs : List Floor) (relationships : List ℕ) → Passed (λ m previous e. not (known_event (schema_of l.n.types types fs l.n.relationships relationships) e)) (event_row l.events) l.used l.row
-
-abbrev pub decreases-loop-row : goal.decreases-loop-row
-decreases-loop-row l = l.used - l.row

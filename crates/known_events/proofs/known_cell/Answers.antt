@@ -11,6 +11,3 @@ use Rattle.known_events.proofs.known_cell.Goals as goal
 pub returns-then-valid_id : goal.returns-then-valid_id
 unfolding fits_word
 returns-then-valid_id c = λ word. simp (← c.valid_id.ensures, c.if-valid_id.true, lt-ltb (mag (signed word)) (2 ^ 31) (signed_fits word), and-true)
-
-pub returns-else-valid_id : goal.returns-else-valid_id
-returns-else-valid_id c = λ word. simp (← c.valid_id.ensures, c.if-valid_id.false)

@@ -9,7 +9,3 @@ returns-then-relationship-relationship_count c = λ relationships. simp (relatio
 pub returns-then-valid_id : goal.returns-then-valid_id
 returns-then-valid_id c =
     λ relationships. simp (relationship_known, lt-ltb _ _ c.if-relationship-relationship_count.false, ← c.valid_id.ensures, c.if-valid_id.true) c.valid_id-then-valid_id.ensures
-
-pub returns-else-valid_id : goal.returns-else-valid_id
-returns-else-valid_id c =
-    λ relationships. simp (relationship_known, lt-ltb _ _ c.if-relationship-relationship_count.false, ← c.valid_id.ensures, c.if-valid_id.false)

@@ -4,6 +4,3 @@ use Rattle.known_events.proofs.known_type.Goals as goal
 
 pub returns-then-valid_id : goal.returns-then-valid_id
 returns-then-valid_id c = λ types. simp (← c.valid_id.ensures, c.if-valid_id.true, type_known)
-
-pub returns-else-valid_id : goal.returns-else-valid_id
-returns-else-valid_id c = λ types. simp (← c.valid_id.ensures, c.if-valid_id.false)

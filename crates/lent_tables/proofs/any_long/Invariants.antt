@@ -7,6 +7,3 @@ use Rattle.lent_tables.proofs.any_long.Given as goal
 
 abbrev pub invariant-loop-row : goal.invariant-loop-row
 invariant-loop-row l = (l.row ≤ l.count) × (passes_from (long_body l.rules) l.count l.row ≡ any_long l.rules l.count)
-
-abbrev pub decreases-loop-row : goal.decreases-loop-row
-decreases-loop-row l = l.count - l.row

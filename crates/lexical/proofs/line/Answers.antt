@@ -1,14 +1,9 @@
 -- `lexical::line` meets its contract: the part from the place to where the line ends is the line.
-use mathlib.Core.Path.{sym}
 use native.Mathlib.Omega.{arith}
-use borrow.Author.Rules.{rules}
 use Rattle.lexical.specs.Lines.{is_inner}
-use Rattle.lexical.proofs.Runs.{run_end, run_within}
+use Rattle.lexical.proofs.Runs.{run_within}
 use Rattle.lexical.proofs.Lines.{line_part}
 use Rattle.lexical.proofs.line.Goals as goal
-
-pub returns-then-text-at : goal.returns-then-text-at
-returns-then-text-at c = sym (run_end is_inner _ c.before.args.at (search rules))
 
 pub slice_bounds-result-end-2 : goal.slice_bounds-result-end-2
 slice_bounds-result-end-2 c = omega (arith, c.line_end-end.ensures, run_within is_inner c.args.text.now c.args.at)

@@ -1,30 +1,26 @@
--- `lexical::write_bytes` meets its contract. The loop's invariant: the first i bytes are in their place, and all else is as it was.
-use Prim.Native.Nat.{◌+◌, ◌≤◌}
-use mathlib.Core.Path.{◌≡◌, refl, sym, ◌∙◌}
+-- `lexical::write_bytes` meets its contract: the bytes stand between the text before the place and the text after them.
+use Prim.Native.Nat.{◌+◌, ◌-◌, ◌<◌}
+use mathlib.Core.Path.{◌≡◌, sym, ◌∙◌}
+use mathlib.Core.List.{append_assoc}
+use lib.Seq.{drop-drop}
 use native.Mathlib.Omega.{arith}
-use borrow.Author.Rules.{rules}
-use lib.ListN.{length, length-set}
-use lib.Seq.{paste-zero}
-use Rattle.lexical.proofs.Writing.{paste_more, fits_place, fits_text, over_place, over_text}
+use lib.ListN.{length, take}
+use Rattle.lexical.proofs.Writing.{fits_place, text_is, over_place, over_text}
+use Rattle.lexical.proofs.write_bytes.Goals.{then-out-at-via-then-out-at, then-out-at-via-else-out-at+then-out-at-2}
 use Rattle.lexical.proofs.write_bytes.Goals as goal
 
 pub returns-then-out-at : goal.returns-then-out-at
-returns-then-out-at c = (sym (over_place _ _ _ (omega arith)), sym (over_text _ _ _ (omega arith)))
-
-pub returns-then-out-at-2 : goal.returns-then-out-at-2
-returns-then-out-at-2 c = (sym (over_place _ _ _ (omega arith)), sym (over_text _ _ _ (omega arith)))
-
-pub loop-i-init : goal.loop-i-init
-loop-i-init c = (search rules, paste-zero c.args.out.now c.args.at c.args.bytes.now, refl)
-
-pub loop-i-preserved : goal.loop-i-preserved
-loop-i-preserved c = (search rules, paste_more _ _ _ _ c.loop-i.invariant.1 (omega arith) (omega arith), simp length-set c.loop-i.invariant.2)
+returns-then-out-at c =
+    let over : length c.args.out.now < c.args.at + length c.args.bytes.now =
+    elim c.then-out-at.branch [ then-out-at-via-then-out-at w ↦ omega arith | then-out-at-via-else-out-at+then-out-at-2 w ↦ omega arith ] in
+    (sym (over_place _ _ _ over), sym (over_text _ _ _ over))
 
 pub returns : goal.returns
 returns c =
-    let bytes = c.args.bytes.now in
-    let past : c.loop-i.i ≡ length bytes = omega arith in
-    let fit : c.args.at + length bytes ≤ length c.args.out.now = omega arith in (
-      rw past (sym (fits_place c.args.out.now c.args.at bytes fit)),
-      c.loop-i.invariant.1 ∙ rw past (sym (fits_text c.args.out.now c.args.at bytes fit)),
+    let at = c.args.at in
+    let n = length c.args.bytes.now in
+    let size : at + n - at ≡ n = omega arith in
+    let parts = append_assoc (take at c.args.out.now) c.args.bytes.now _ in (
+      sym (fits_place _ _ _ (omega arith)),
+      rw (size, c.copy_from_slice.ensures.after, drop-drop n at c.args.out.now) (sym (text_is _ _ _ (omega arith) ∙ parts)),
     )

@@ -1,12 +1,11 @@
 -- `link_index::index` meets its contract. The invariant: the places from those of this row on have their slots. The measure is the row.
-use Prim.Native.Nat.{ℕ, ◌-◌, ◌*◌, ◌≤◌, ◌<◌}
-use mathlib.Core.Path.{◌≡◌, ap, subst, ◌∙◌}
+use Prim.Native.Nat.{ℕ, ◌-◌, ◌≤◌, ◌<◌}
+use mathlib.Core.Path.{◌≡◌, ap, ◌∙◌}
 use native.Mathlib.Nat.{le_refl}
 use native.Mathlib.Omega.{arith}
 use Rattle.meaning.specs.Register.{Link}
 use Rattle.tables.specs.Columns.{link_row}
 use Rattle.register.specs.Tables.{row_at}
-use Rattle.link_index.specs.Slots.{Slotted}
 use Rattle.register.proofs.Rows.{row_few}
 use Rattle.link_index.proofs.Laid.{slotted_none, slotted_link}
 use Rattle.link_index.proofs.index.Goals as goal
@@ -76,13 +75,3 @@ loop-row-preserved c = (
   slotted_link (start c.before.before.before).requires.2 (at-loop c.before.before.before).loop-row.index (omega arith) (row c.before.before.before) (left c.before.before.before) (within c.before.before.before)
       c.relationship_of-relationship.ensures (source_is c.before.before.before) (target_is c.before.before.before) c.lay_link.ensures (at-loop c.before.before.before).loop-row.invariant.1,
 )
-
-pub returns : goal.returns
-returns c =
-    let none : 2 * c.loop-row.row ≡ 0 = omega (arith, c.loop-row-test.false) in
-    record {
-      objects_ascend = c.requires.0;
-      links_ascend = c.requires.1;
-      indexable = c.requires.2;
-      slotted = subst (Slotted _ _ _ _ _) none c.loop-row.invariant.1;
-    }

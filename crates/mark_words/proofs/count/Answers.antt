@@ -1,11 +1,8 @@
 -- `mark_words::count` meets its contract.
-use Prim.Native.Nat.{◌-◌}
-use mathlib.Core.Path.{◌≡◌, ap, ◌∙◌}
-use mathlib.Core.Logic.{⊎_elim}
+use mathlib.Core.Path.{ap}
 use mathlib.Core.List.{[], ◌∷◌}
 use native.Mathlib.Omega.{arith}
 use lib.ListN.{length, length-append}
-use Rattle.type_marks.specs.Marks.{places}
 use Rattle.mark_words.specs.Places.{marked_below}
 use Rattle.mark_words.proofs.Places.{below_marked, below_unmarked, below_few}
 use Rattle.mark_words.proofs.count.Goals.{else-marks-place, then-marks-place}
@@ -25,6 +22,3 @@ loop-place-preserved c =
       omega arith,
       elim c.if-marks-place.branch [ then-marks-place w ↦ omega (arith, ap length (below_marked marks place w.if-marks-place.true), length-append (marked_below marks place) (place ∷ [])) | else-marks-place w ↦ omega (arith, ap length (below_unmarked marks place w.if-marks-place.false)) ],
     )
-
-pub returns : goal.returns
-returns c = let all : c.loop-place.place ≡ places = omega arith in c.loop-place.invariant.1 ∙ ap (λ k. length (marked_below c.args.marks.now k)) all

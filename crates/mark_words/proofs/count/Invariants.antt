@@ -1,7 +1,6 @@
 -- `mark_words::count` meets its contract.
 use Prim.Native.Nat.{◌≤◌, ◌-◌}
 use mathlib.Core.Path.{◌≡◌}
-use mathlib.Core.Logic.{⊎_elim}
 use lib.ListN.{length}
 use Rattle.type_marks.specs.Marks.{places}
 use Rattle.mark_words.specs.Places.{marked_below}
@@ -9,6 +8,3 @@ use Rattle.mark_words.proofs.count.Given as goal
 
 abbrev pub invariant-loop-place : goal.invariant-loop-place
 invariant-loop-place l = (l.place ≤ places) × (l.n ≡ length (marked_below l.marks l.place))
-
-abbrev pub decreases-loop-place : goal.decreases-loop-place
-decreases-loop-place l = places - l.place

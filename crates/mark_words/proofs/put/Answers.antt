@@ -3,19 +3,10 @@ use Prim.Native.Nat.{ℕ, suc, ◌+◌, ◌/◌, ◌%◌}
 use mathlib.Core.Path.{◌≡◌, ap₂, ◌∙◌}
 use mathlib.Core.List.{List}
 use native.Mathlib.Omega.{arith}
-use lib.ListN.{set, length-set}
+use lib.ListN.{set}
 use lib.Seq.{sets-eq}
 use Rattle.type_marks.specs.Marks.{words_at}
 use Rattle.mark_words.proofs.put.Goals as goal
-
-pub bounds-list-at-2 : goal.bounds-list-at-2
-bounds-list-at-2 c = simp length-set (omega arith)
-
-pub bounds-list-at-3 : goal.bounds-list-at-3
-bounds-list-at-3 c = simp length-set (omega arith)
-
-pub shape_of-list : goal.shape_of-list
-shape_of-list c = simp length-set
 
 pub returns : goal.returns
 returns c =

@@ -10,24 +10,19 @@ use Rattle.rows.specs.Rows.{in_front}
 use Rattle.mark_words.proofs.Places.{written_none, written_marked, written_unmarked, room}
 use Rattle.mark_words.proofs.write.Goals.{else-marks-place, then-marks-place}
 use Rattle.mark_words.proofs.write.Goals as goal
-use Rattle.mark_words.proofs.write.Lts as lts
-use Rattle.mark_words.proofs.write.Reads as reads
-use Rattle.mark_words.proofs.write.Tie as tie
 
 pub loop-place-init : goal.loop-place-init
 loop-place-init c = (omega arith, c.requires, written_none _ _)
 
-room_left : (c : lts.Then1 tie.the-claims reads.Pre reads.Post goal.the-invariant-loop-place goal.the-decreases-loop-place) → c.loop-place.at + 3 ≤ length c.loop-place.list
-room_left c =
-    let a = c.args in
-    room a.marks.now a.list.now c.loop-place.invariant.2 places (omega arith) c.loop-place.invariant.1 c.if-marks-place.true
-
 pub put-requires : goal.put-requires
-put-requires c = (omega arith, room_left c.before.before)
+put-requires c =
+    let room_left : c.loop-place.at + 3 ≤ length c.loop-place.list = let a = c.args in room a.marks.now a.list.now c.loop-place.invariant.2 places (omega arith) c.loop-place.invariant.1 c.if-marks-place.true in
+    (omega arith, room_left)
 
 pub overflow_add-at : goal.overflow_add-at
 overflow_add-at c =
-    omega (arith, c.well_formed.1.0.0, c.loop-place.invariant.2.long, room_left c.before.before.before.before.before)
+    let room_left : c.loop-place.at + 3 ≤ length c.loop-place.list = let a = c.args in room a.marks.now a.list.now c.loop-place.invariant.2 places (omega arith) c.loop-place.invariant.1 c.if-marks-place.true in
+    omega (arith, c.well_formed.1.0.0, c.loop-place.invariant.2.long, room_left)
 
 pub loop-place-preserved : goal.loop-place-preserved
 loop-place-preserved c =

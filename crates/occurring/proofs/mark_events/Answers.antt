@@ -1,15 +1,9 @@
 -- `occurring::mark_events` meets its contract. The invariant: what the events below this one count for is marked. The measure is the events left.
-use Prim.Native.Nat.{◌-◌}
-use mathlib.Core.Path.{◌≡◌, refl, subst, ◌∙◌}
+use mathlib.Core.Path.{◌≡◌, subst, ◌∙◌}
 use native.Mathlib.Numerals.{add-one}
 use native.Mathlib.Omega.{arith}
-use Rattle.occurring.proofs.Batches.{CountedTo, none_counted, one_counted, all_counted}
+use Rattle.occurring.proofs.Batches.{CountedTo, one_counted, all_counted}
 use Rattle.occurring.proofs.mark_events.Goals as goal
-
-pub loop-i-init : goal.loop-i-init
-loop-i-init c =
-    let a = c.args in
-    (omega arith, refl, none_counted a.n.types a.types.now a.n.objects a.objects.now a.events.now a.met.now a.marks.now)
 
 pub loop-i-preserved : goal.loop-i-preserved
 loop-i-preserved c =
@@ -18,9 +12,6 @@ loop-i-preserved c =
       c.put_event.auto.marks ∙ c.loop-i.invariant.1,
       rw add-one (one_counted a.n.types a.types.now a.n.objects a.objects.now a.events.now a.met.now c.loop-i.i c.loop-i.invariant.2 c.put_event.ensures),
     )
-
-pub shape_of-marks : goal.shape_of-marks
-shape_of-marks c = c.loop-i.invariant.1
 
 pub returns : goal.returns
 returns c =

@@ -1,4 +1,4 @@
--- `occurring::mark_events` meets its contract. The invariant: what the events below this one count for is marked. The measure is the events left.
+-- `occurring::mark_events` meets its contract. The invariant: what the events below this one count for is marked.
 use Prim.Native.Nat.{◌-◌, ◌≤◌}
 use mathlib.Core.Path.{◌≡◌}
 use lib.ListN.{length}
@@ -8,6 +8,3 @@ use Rattle.occurring.proofs.mark_events.Given as goal
 abbrev pub invariant-loop-i : goal.invariant-loop-i
 invariant-loop-i l =
     (l.i ≤ l.count) × (length l.marks ≡ length l.initial.marks) × CountedTo l.n.types l.types l.n.objects l.objects l.events l.met l.initial.marks l.marks l.i
-
-abbrev pub decreases-loop-i : goal.decreases-loop-i
-decreases-loop-i l = l.count - l.i

@@ -1,4 +1,4 @@
--- `occurring::put_types` meets its contract. The invariant: the types below this one are marked. The measure is the types left.
+-- `occurring::put_types` meets its contract. The invariant: the types below this one are marked.
 use Prim.Native.Nat.{◌-◌, ◌≤◌}
 use Rattle.meaning.specs.Limits.{max_types}
 use Rattle.type_marks.specs.Marks.{Added}
@@ -8,6 +8,3 @@ use Rattle.occurring.proofs.put_types.Given as goal
 abbrev pub invariant-loop-t : goal.invariant-loop-t
 invariant-loop-t l =
     (l.t ≤ max_types) × Added l.initial.marks l.marks (marked_to l.kind l.cell (but_not l.these l.except) l.t)
-
-abbrev pub decreases-loop-t : goal.decreases-loop-t
-decreases-loop-t l = max_types - l.t

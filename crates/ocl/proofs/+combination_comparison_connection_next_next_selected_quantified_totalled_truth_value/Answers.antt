@@ -123,39 +123,39 @@ next-next_selected-requires t c =
 pub next_selected-overflow_sub-row : goal.next_selected-overflow_sub-row
 next_selected-overflow_sub-row t c = positive c.requires.0
 
-pub next_selected-loop-object-init : goal.next_selected-loop-object-init
-next_selected-loop-object-init t c =
+pub next_selected-loop-member-init : goal.next_selected-loop-member-init
+next_selected-loop-member-init t c =
     (select_stands c.requires.0 c.start_of-start.ensures c.requires.2 c.args.word c.requires.1, select_starts c.requires.0 c.start_of-start.ensures c.requires.2 c.args.word, λ row. refl)
 
-pub next_selected-next-step-requires : goal.next_selected-next-step-requires
-next_selected-next-step-requires t c =
+pub next_selected-next-requires : goal.next_selected-next-requires
+next_selected-next-requires t c =
     let f = (select_parts c.requires.0 c.requires.2).first c.start_of-start.ensures in
-    (omega (arith, f.0, c.decreases), (f.1, c.loop-object.invariant.0))
+    (omega (arith, f.0, c.decreases), (f.1, c.loop-member.invariant.0))
 
 pub next_selected-bounds-inner-d : goal.next_selected-bounds-inner-d
 next_selected-bounds-inner-d t c = (select_parts c.requires.0 c.requires.2).deep
 
 pub next_selected-truth-requires : goal.next_selected-truth-requires
 next_selected-truth-requires t c =
-    let went = c.next-step.ensures.went _ _ c.in-At.is in
+    let went = c.next.ensures.went _ c.in-Some.is in
     let past = positive c.requires.0 in
-    (omega (arith, c.decreases), (select_parts c.requires.0 c.requires.2).inner _ _ (c.loop-object.invariant.2 _) went.there)
+    (omega (arith, c.decreases), (select_parts c.requires.0 c.requires.2).inner _ _ (c.loop-member.invariant.2 _) went.there)
 
 pub next_selected-returns-then-truth : goal.next_selected-returns-then-truth
 next_selected-returns-then-truth t c =
-    let went = c.next-step.ensures.went _ _ c.in-At.is in
+    let went = c.next.ensures.went _ c.in-Some.is in
     let deep = (select_parts c.requires.0 c.requires.2).deep in
-    stepped_at (select_stops c.requires.0 c.start_of-start.ensures c.requires.2 c.args.word c.loop-object.last deep c.loop-object.invariant.1 went (c.loop-object.invariant.2 _) c.truth.ensures c.if-truth.true)
+    stepped_at (select_stops c.requires.0 c.start_of-start.ensures c.requires.2 c.args.word c.loop-member.last deep c.loop-member.invariant.1 went (c.loop-member.invariant.2 _) c.truth.ensures c.if-truth.true)
 
-pub next_selected-loop-object-smaller : goal.next_selected-loop-object-smaller
-next_selected-loop-object-smaller t c = fewer_left (c.next-step.ensures.went _ _ c.in-At.is)
+pub next_selected-loop-member-smaller : goal.next_selected-loop-member-smaller
+next_selected-loop-member-smaller t c = fewer_left (c.next.ensures.went _ c.in-Some.is)
 
-pub next_selected-loop-object-preserved : goal.next_selected-loop-object-preserved
-next_selected-loop-object-preserved t c =
-    let went = c.next-step.ensures.went _ _ c.in-At.is in
+pub next_selected-loop-member-preserved : goal.next_selected-loop-member-preserved
+next_selected-loop-member-preserved t c =
+    let went = c.next.ensures.went _ c.in-Some.is in
     let deep = (select_parts c.requires.0 c.requires.2).deep in
-    let on = select_goes_on c.requires.0 c.start_of-start.ensures c.requires.2 c.args.word c.loop-object.last deep c.loop-object.invariant.1 went (c.loop-object.invariant.2 _) c.truth.ensures c.if-truth.false in
-    (went.stands, on, λ row. set-set c.loop-object.inner c.args.at.2 _ row ∙ c.loop-object.invariant.2 row)
+    let on = select_goes_on c.requires.0 c.start_of-start.ensures c.requires.2 c.args.word c.loop-member.last deep c.loop-member.invariant.1 went (c.loop-member.invariant.2 _) c.truth.ensures c.if-truth.false in
+    (went.stands, on, λ row. set-set c.loop-member.inner c.args.at.2 _ row ∙ c.loop-member.invariant.2 row)
 
 -- ---- quantified
 
@@ -165,43 +165,43 @@ quantified-overflow_sub-row t c = positive c.requires.0
 pub quantified-begin-word-requires : goal.quantified-begin-word-requires
 quantified-begin-word-requires t c = ((quantify_parts c.requires.0 c.requires.1 c.requires.2 c.requires.3).first c.start_of-start.ensures).1
 
-pub quantified-loop-object-init : goal.quantified-loop-object-init
-quantified-loop-object-init t c =
+pub quantified-loop-member-init : goal.quantified-loop-member-init
+quantified-loop-member-init t c =
     (c.begin-word.ensures.stands, quantify_starts c.requires.0 c.start_of-start.ensures c.requires.1 c.requires.2 c.requires.3 c.begin-word.ensures, λ row. refl)
 
-pub quantified-next-step-requires : goal.quantified-next-step-requires
-quantified-next-step-requires t c =
+pub quantified-next-requires : goal.quantified-next-requires
+quantified-next-requires t c =
     let f = (quantify_parts c.requires.0 c.requires.1 c.requires.2 c.requires.3).first c.start_of-start.ensures in
-    (omega (arith, f.0, c.decreases), (f.1, c.loop-object.invariant.0))
+    (omega (arith, f.0, c.decreases), (f.1, c.loop-member.invariant.0))
 
-pub quantified-returns-in_default : goal.quantified-returns-in_default
-quantified-returns-in_default t c =
-    quantify_ends c.requires.0 c.args.code c.start_of-start.result c.loop-object.word c.loop-object.invariant.1 (c.next-step.ensures.done c.in_default.is)
+pub quantified-returns : goal.quantified-returns
+quantified-returns t c =
+    quantify_ends c.requires.0 c.args.code c.start_of-start.result c.loop-member.word c.loop-member.invariant.1 (c.next.ensures.done c.in_default.is)
 
 pub quantified-bounds-inner-d : goal.quantified-bounds-inner-d
 quantified-bounds-inner-d t c = (quantify_parts c.requires.0 c.requires.1 c.requires.2 c.requires.3).deep
 
 pub quantified-truth-holds-requires : goal.quantified-truth-holds-requires
 quantified-truth-holds-requires t c =
-    let went = c.next-step.ensures.went _ _ c.in-At.is in
+    let went = c.next.ensures.went _ c.in-Some.is in
     let past = positive c.requires.0 in
-    (omega (arith, c.decreases), (quantify_parts c.requires.0 c.requires.1 c.requires.2 c.requires.3).inner _ _ (c.loop-object.invariant.2 _) went.there)
+    (omega (arith, c.decreases), (quantify_parts c.requires.0 c.requires.1 c.requires.2 c.requires.3).inner _ _ (c.loop-member.invariant.2 _) went.there)
 
 pub quantified-returns-then-stops : goal.quantified-returns-then-stops
 quantified-returns-then-stops t c =
-    let went = c.next-step.ensures.went _ _ c.in-At.is in
+    let went = c.next.ensures.went _ c.in-Some.is in
     let deep = (quantify_parts c.requires.0 c.requires.1 c.requires.2 c.requires.3).deep in
-    quantify_stops c.requires.0 c.args.code c.start_of-start.result c.loop-object.word deep c.loop-object.invariant.1 went (c.loop-object.invariant.2 _) c.truth-holds.ensures c.stops.ensures c.if-stops.true
+    quantify_stops c.requires.0 c.args.code c.start_of-start.result c.loop-member.word deep c.loop-member.invariant.1 went (c.loop-member.invariant.2 _) c.truth-holds.ensures c.stops.ensures c.if-stops.true
 
-pub quantified-loop-object-smaller : goal.quantified-loop-object-smaller
-quantified-loop-object-smaller t c = fewer_left (c.next-step.ensures.went _ _ c.in-At.is)
+pub quantified-loop-member-smaller : goal.quantified-loop-member-smaller
+quantified-loop-member-smaller t c = fewer_left (c.next.ensures.went _ c.in-Some.is)
 
-pub quantified-loop-object-preserved : goal.quantified-loop-object-preserved
-quantified-loop-object-preserved t c =
-    let went = c.next-step.ensures.went _ _ c.in-At.is in
+pub quantified-loop-member-preserved : goal.quantified-loop-member-preserved
+quantified-loop-member-preserved t c =
+    let went = c.next.ensures.went _ c.in-Some.is in
     let deep = (quantify_parts c.requires.0 c.requires.1 c.requires.2 c.requires.3).deep in
-    let on = quantify_goes_on c.requires.0 c.args.code c.start_of-start.result c.loop-object.word deep c.loop-object.invariant.1 went (c.loop-object.invariant.2 _) c.truth-holds.ensures c.stops.ensures c.if-stops.false in
-    (went.stands, on, λ row. set-set c.loop-object.inner c.args.at.2 _ row ∙ c.loop-object.invariant.2 row)
+    let on = quantify_goes_on c.requires.0 c.args.code c.start_of-start.result c.loop-member.word deep c.loop-member.invariant.1 went (c.loop-member.invariant.2 _) c.truth-holds.ensures c.stops.ensures c.if-stops.false in
+    (went.stands, on, λ row. set-set c.loop-member.inner c.args.at.2 _ row ∙ c.loop-member.invariant.2 row)
 
 -- ---- totalled
 
@@ -211,30 +211,30 @@ totalled-overflow_sub-row t c = positive c.requires.0
 pub totalled-begin-word-requires : goal.totalled-begin-word-requires
 totalled-begin-word-requires t c = total_part c.requires.0 c.requires.1 c.requires.2 c.requires.3
 
-pub totalled-loop-object-init : goal.totalled-loop-object-init
-totalled-loop-object-init t c =
+pub totalled-loop-member-init : goal.totalled-loop-member-init
+totalled-loop-member-init t c =
     (c.begin-word.ensures.stands, sum_starts c.requires.0 c.requires.1 c.requires.2 c.requires.3 c.begin-word.ensures)
 
-pub totalled-next-step-requires : goal.totalled-next-step-requires
-totalled-next-step-requires t c =
+pub totalled-next-requires : goal.totalled-next-requires
+totalled-next-requires t c =
     let past = positive c.requires.0 in
-    (omega (arith, c.decreases), (total_part c.requires.0 c.requires.1 c.requires.2 c.requires.3, c.loop-object.invariant.0))
+    (omega (arith, c.decreases), (total_part c.requires.0 c.requires.1 c.requires.2 c.requires.3, c.loop-member.invariant.0))
 
-pub totalled-returns-in_default : goal.totalled-returns-in_default
-totalled-returns-in_default t c = sum_ends c.requires.0 c.loop-object.invariant.1 (c.next-step.ensures.done c.in_default.is)
+pub totalled-returns : goal.totalled-returns
+totalled-returns t c = sum_ends c.requires.0 c.loop-member.invariant.1 (c.next.ensures.done c.in_default.is)
 
 pub totalled-add-total-requires : goal.totalled-add-total-requires
 totalled-add-total-requires t c =
-    let went = c.next-step.ensures.went _ _ c.in-At.is in
-    (sum_fits c.requires.0 c.loop-object.invariant.1, weight_fits c.requires.0 c.loop-object.invariant.1 went c.field-cell.ensures (to_z-of_z w64 c.weight.result (record { sfits = c.weight.type_inv }) ∙ c.weight.ensures))
+    let went = c.next.ensures.went _ c.in-Some.is in
+    (sum_fits c.requires.0 c.loop-member.invariant.1, weight_fits c.requires.0 c.loop-member.invariant.1 went c.field-cell.ensures (to_z-of_z w64 c.weight.result (record { sfits = c.weight.type_inv }) ∙ c.weight.ensures))
 
-pub totalled-loop-object-smaller : goal.totalled-loop-object-smaller
-totalled-loop-object-smaller t c = fewer_left (c.next-step.ensures.went _ _ c.in-At.is)
+pub totalled-loop-member-smaller : goal.totalled-loop-member-smaller
+totalled-loop-member-smaller t c = fewer_left (c.next.ensures.went _ c.in-Some.is)
 
-pub totalled-loop-object-preserved : goal.totalled-loop-object-preserved
-totalled-loop-object-preserved t c =
-    let went = c.next-step.ensures.went _ _ c.in-At.is in
-    (went.stands, sum_goes_on c.requires.0 c.loop-object.invariant.1 went c.field-cell.ensures (to_z-of_z w64 c.weight.result (record { sfits = c.weight.type_inv }) ∙ c.weight.ensures) (to_z-of_z w64 c.add-total.result (record { sfits = c.add-total.type_inv }) ∙ c.add-total.ensures))
+pub totalled-loop-member-preserved : goal.totalled-loop-member-preserved
+totalled-loop-member-preserved t c =
+    let went = c.next.ensures.went _ c.in-Some.is in
+    (went.stands, sum_goes_on c.requires.0 c.loop-member.invariant.1 went c.field-cell.ensures (to_z-of_z w64 c.weight.result (record { sfits = c.weight.type_inv }) ∙ c.weight.ensures) (to_z-of_z w64 c.add-total.result (record { sfits = c.add-total.type_inv }) ∙ c.add-total.ensures))
 
 -- ---- truth
 

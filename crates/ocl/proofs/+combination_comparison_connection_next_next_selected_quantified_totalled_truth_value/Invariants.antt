@@ -45,33 +45,33 @@ decreases-value l = l.at.1 + l.at.1 + 1
 abbrev pub BindsAs : List ℕ → List ℕ → ℕ → Type 0
 BindsAs inner vars depth = (row : ℕ) → set inner depth row ≡ set vars depth row
 
-abbrev pub invariant-next_selected-loop-object : goal.invariant-next_selected-loop-object
-invariant-next_selected-loop-object l =
-    let w = site_of l.n l.types l.objects l.links l.index l.bodies l.rule in
+abbrev pub invariant-next_selected-loop-member : goal.invariant-next_selected-loop-member
+invariant-next_selected-loop-member l =
+    let w = site_of l.n l.sheet.types.now l.sheet.objects.now l.sheet.links.now l.index l.sheet.bodies.now l.rule in
     Stands w l.start l.vs l.last
     × (left_at w l.e l.vs l.depth l.word ≡ keep (under_one w l.row l.vs l.depth) (left_at w l.start l.vs l.depth l.last))
     × BindsAs l.inner l.vs l.depth
 
-abbrev pub decreases-next_selected-loop-object : goal.decreases-next_selected-loop-object
-decreases-next_selected-loop-object l =
-    length (left_at (site_of l.n l.types l.objects l.links l.index l.bodies l.rule) l.start l.vs l.depth l.last)
+abbrev pub decreases-next_selected-loop-member : goal.decreases-next_selected-loop-member
+decreases-next_selected-loop-member l =
+    length (left_at (site_of l.n l.sheet.types.now l.sheet.objects.now l.sheet.links.now l.index l.sheet.bodies.now l.rule) l.start l.vs l.depth l.last)
 
-abbrev pub invariant-quantified-loop-object : goal.invariant-quantified-loop-object
-invariant-quantified-loop-object l =
-    let w = site_of l.n l.types l.objects l.links l.index l.bodies l.rule in
+abbrev pub invariant-quantified-loop-member : goal.invariant-quantified-loop-member
+invariant-quantified-loop-member l =
+    let w = site_of l.n l.sheet.types.now l.sheet.objects.now l.sheet.links.now l.index l.sheet.bodies.now l.rule in
     Stands w l.start l.vs l.word
     × (truth_of w l.e l.vs l.depth ≡ quantifiedBy (quantifier_of l.code) (under_one w l.row l.vs l.depth) (left_at w l.start l.vs l.depth l.word))
     × BindsAs l.inner l.vs l.depth
 
-abbrev pub decreases-quantified-loop-object : goal.decreases-quantified-loop-object
-decreases-quantified-loop-object l =
-    length (left_at (site_of l.n l.types l.objects l.links l.index l.bodies l.rule) l.start l.vs l.depth l.word)
+abbrev pub decreases-quantified-loop-member : goal.decreases-quantified-loop-member
+decreases-quantified-loop-member l =
+    length (left_at (site_of l.n l.sheet.types.now l.sheet.objects.now l.sheet.links.now l.index l.sheet.bodies.now l.rule) l.start l.vs l.depth l.word)
 
-abbrev pub invariant-totalled-loop-object : goal.invariant-totalled-loop-object
-invariant-totalled-loop-object l =
-    let w = site_of l.n l.types l.objects l.links l.index l.bodies l.rule in
+abbrev pub invariant-totalled-loop-member : goal.invariant-totalled-loop-member
+invariant-totalled-loop-member l =
+    let w = site_of l.n l.sheet.types.now l.sheet.objects.now l.sheet.links.now l.index l.sheet.bodies.now l.rule in
     Stands w l.row l.vs l.word × Summed w l.e l.vs l.depth l.code l.total l.word
 
-abbrev pub decreases-totalled-loop-object : goal.decreases-totalled-loop-object
-decreases-totalled-loop-object l =
-    length (left_at (site_of l.n l.types l.objects l.links l.index l.bodies l.rule) l.row l.vs l.depth l.word)
+abbrev pub decreases-totalled-loop-member : goal.decreases-totalled-loop-member
+decreases-totalled-loop-member l =
+    length (left_at (site_of l.n l.sheet.types.now l.sheet.objects.now l.sheet.links.now l.index l.sheet.bodies.now l.rule) l.row l.vs l.depth l.word)

@@ -1,10 +1,6 @@
 -- `ocl::holds_at` meets its contract: the truth of the whole body, with one variable bound.
-use mathlib.Core.Path.{refl}
 use Rattle.walks.specs.Values.{truth_of}
 use Rattle.ocl.proofs.holds_at.Goals as goal
-
-pub truth-requires : goal.truth-requires
-truth-requires c = c.requires _ refl refl
 
 pub returns : goal.returns
 unfolding truth_of

@@ -5,6 +5,3 @@ use Rattle.pair_marks.proofs.next_rule.Given as goal
 
 abbrev pub invariant-loop-word : goal.invariant-loop-word
 invariant-loop-word l = (l.from * 32 ≤ l.word) × (l.word ≤ 1024) × ((k : ℕ) → l.from * 32 ≤ k → k < l.word → Unmarked l.marks k)
-
-abbrev pub decreases-loop-word : goal.decreases-loop-word
-decreases-loop-word l = 1024 - l.word

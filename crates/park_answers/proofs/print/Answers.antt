@@ -14,16 +14,16 @@ returns-then-text-gt65536 c =
     let e = long_text park_room (tables_printed a.asked) a.text.now c.if-text-gt65536.true in
     (c.refuse.ensures.0 ∙ ap (λ b. in_front b a.out.now) e, c.refuse.ensures.1 ∙ ap length e)
 
-pub returns-in-Refused : goal.returns-in-Refused
+pub returns-in-Err : goal.returns-in-Err
 unfolding park_prints lent_sheet
-returns-in-Refused c =
+returns-in-Err c =
     let a = c.args in
-    let e = read_refused park_room (tables_printed a.asked) a.text.now c.if-text-gt65536.false (sym c.in-Refused.is ∙ c.read.ensures.0) in
-    (c.refuse-in-Refused.ensures.0 ∙ ap (λ b. in_front b a.out.now) e, c.refuse-in-Refused.ensures.1 ∙ ap length e)
+    let e = read_refused park_room (tables_printed a.asked) a.text.now c.if-text-gt65536.false (sym c.in-Err.is ∙ c.read.ensures.0) in
+    (c.refuse-in-Err.ensures.0 ∙ ap (λ b. in_front b a.out.now) e, c.refuse-in-Err.ensures.1 ∙ ap length e)
 
-pub returns-in-Done : goal.returns-in-Done
+pub returns-in-Ok : goal.returns-in-Ok
 unfolding park_prints lent_sheet
-returns-in-Done c =
+returns-in-Ok c =
     let a = c.args in
-    let e = read_done park_room (tables_printed a.asked) a.text.now c.if-text-gt65536.false (sym c.in-Done.is ∙ c.read.ensures.0) c.read.ensures.1 in
+    let e = read_done park_room (tables_printed a.asked) a.text.now c.if-text-gt65536.false (sym c.in-Ok.is ∙ c.read.ensures.0) c.read.ensures.1 in
     (c.print_tables.ensures.0 ∙ ap (λ b. in_front b a.out.now) e, c.print_tables.ensures.1 ∙ ap length e)

@@ -4,7 +4,6 @@ use lib.ListN.{length}
 use Rattle.rows.specs.Rows.{in_front}
 use Rattle.tables.specs.Layouts.{sheet_of}
 use Rattle.park_answers.proofs.Printing.{check_asked, full_asked, events_asked, after_asked}
-use borrow.Author.Rules.{rules}
 use Rattle.park_answers.proofs.print_tables.Goals as goal
 
 pub returns-in-Check : goal.returns-in-Check

@@ -11,7 +11,7 @@ unfolding asked
 returns-then-named c =
     let a = c.args in
     λ k follows.
-    ap (λ b. b || taken_from k (question_of a.question a.x) (id_in a.objects.now a.row)) (sym c.if-named.true ∙ c.named.ensures k follows)
+    ap (λ b. b || taken_from k (question_of a.question a.x) (id_in a.sheet.now.objects.now a.row)) (sym c.if-named.true ∙ c.named.ensures k follows)
 
 pub returns-then-question-ne-PARTED : goal.returns-then-question-ne-PARTED
 unfolding asked
@@ -19,7 +19,7 @@ returns-then-question-ne-PARTED c =
     let a = c.args in
     λ k follows.
     sym (ap₂ ◌||◌ (sym (c.named.ensures k follows) ∙ c.if-named.false)
-    (not_taken k a.x (id_in a.objects.now a.row) a.question c.if-question-ne-PARTED.true))
+    (not_taken k a.x (id_in a.sheet.now.objects.now a.row) a.question c.if-question-ne-PARTED.true))
 
 pub returns : goal.returns
 unfolding asked
@@ -27,4 +27,4 @@ returns c =
     let a = c.args in
     λ k follows.
     c.lost.ensures k follows
-    ∙ sym (ap₂ ◌||◌ (sym (c.named.ensures k follows) ∙ c.if-named.false) (ap (λ q. taken_from k (question_of q a.x) (id_in a.objects.now a.row)) c.if-question-ne-PARTED.false))
+    ∙ sym (ap₂ ◌||◌ (sym (c.named.ensures k follows) ∙ c.if-named.false) (ap (λ q. taken_from k (question_of q a.x) (id_in a.sheet.now.objects.now a.row)) c.if-question-ne-PARTED.false))

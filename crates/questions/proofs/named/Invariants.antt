@@ -11,8 +11,8 @@ use Rattle.questions.proofs.named.Given as goal
 
 abbrev pub invariant-loop-word : goal.invariant-loop-word
 invariant-loop-word l =
-    Walk itself 0 (λ p. omega arith) (place_row l.n.objects l.objects l.events) (2 * l.n.events) l.row
-    (λ p. answers_at (types_of l.n.types l.types) (question_of l.question l.x) (event_row l.events (p / 2)) (p % 2) (met_word l.trace (p / 2)) (eqb (there_word l.trace (p / 2)) 1)) l.word
+    Walk itself 0 (λ p. omega arith) (place_row l.n.objects l.sheet.objects.now l.sheet.events.now) (2 * l.n.events) l.row
+    (λ p. answers_at (types_of l.n.types l.sheet.types.now) (question_of l.question l.x) (event_row l.sheet.events.now (p / 2)) (p % 2) (met_word l.trace (p / 2)) (eqb (there_word l.trace (p / 2)) 1)) l.word
 
 abbrev pub decreases-loop-word : goal.decreases-loop-word
 decreases-loop-word l = left_of 512 l.word

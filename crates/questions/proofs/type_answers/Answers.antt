@@ -9,12 +9,6 @@ use Rattle.tables.specs.Columns.{types_of, event_of}
 use Rattle.trace_places.specs.Questions.{question_of, answers_at}
 use Rattle.trace_places.proofs.Questions.{insert_answer, special_answer, general_answer}
 use Rattle.questions.proofs.type_answers.Goals as goal
-use Rattle.questions.proofs.type_answers.Lts as lts
-use Rattle.questions.proofs.type_answers.Reads as reads
-use Rattle.questions.proofs.type_answers.Tie as tie
-
-abbrev types : lts.Start tie.the-claims reads.Pre reads.Post → List ObjectType
-types s = types_of s.args.type_count s.args.types.now
 
 pub returns-then-question-eq-INSERTED : goal.returns-then-question-eq-INSERTED
 returns-then-question-eq-INSERTED c =
@@ -22,8 +16,8 @@ returns-then-question-eq-INSERTED c =
     λ x j there.
     c.of_kind.ensures
     ∙ ap (λ b. eqb 0 a.kind && (eqb a.z 0 && b)) c.under-is.ensures
-    ∙ insert_answer (types c.before.before.before.before.before) a.kind x a.to a.z j a.met there a.t
-    ∙ ap (λ q. answers_at (types c.before.before.before.before.before) (question_of q a.t) (event_of a.kind x a.to a.z) j a.met there) (sym c.if-question-eq-INSERTED.true)
+    ∙ insert_answer ((types_of c.args.type_count c.args.types.now)) a.kind x a.to a.z j a.met there a.t
+    ∙ ap (λ q. answers_at ((types_of c.args.type_count c.args.types.now)) (question_of q a.t) (event_of a.kind x a.to a.z) j a.met there) (sym c.if-question-eq-INSERTED.true)
 
 pub returns-then-question-eq-SPECIALISED : goal.returns-then-question-eq-SPECIALISED
 returns-then-question-eq-SPECIALISED c =
@@ -31,8 +25,8 @@ returns-then-question-eq-SPECIALISED c =
     λ x j there.
     c.of_kind-then-question-eq-SPECIALISED.ensures
     ∙ ap (λ b. eqb 5 a.kind && (eqb a.z 0 && b)) (c.unless.ensures ∙ ap₂ (λ p q. p && not q) c.under-is.ensures c.was_under-was.ensures)
-    ∙ special_answer (types c.before.before.before.before.before.before.before.before) a.kind x a.to a.z j a.met there a.t
-    ∙ ap (λ q. answers_at (types c.before.before.before.before.before.before.before.before) (question_of q a.t) (event_of a.kind x a.to a.z) j a.met there) (sym c.if-question-eq-SPECIALISED.true)
+    ∙ special_answer ((types_of c.args.type_count c.args.types.now)) a.kind x a.to a.z j a.met there a.t
+    ∙ ap (λ q. answers_at ((types_of c.args.type_count c.args.types.now)) (question_of q a.t) (event_of a.kind x a.to a.z) j a.met there) (sym c.if-question-eq-SPECIALISED.true)
 
 pub returns : goal.returns
 returns c =
@@ -41,5 +35,5 @@ returns c =
     λ x j there.
     c.of_kind-2.ensures
     ∙ ap (λ b. eqb 6 a.kind && (eqb a.z 0 && b)) (c.unless-2.ensures ∙ ap₂ (λ p q. p && not q) c.was_under-was.ensures c.under-is.ensures)
-    ∙ general_answer (types c.before.before.before.before.before.before.before.before) a.kind x a.to a.z j a.met there a.t
-    ∙ ap (λ q. answers_at (types c.before.before.before.before.before.before.before.before) (question_of q a.t) (event_of a.kind x a.to a.z) j a.met there) (sym (last))
+    ∙ general_answer ((types_of c.args.type_count c.args.types.now)) a.kind x a.to a.z j a.met there a.t
+    ∙ ap (λ q. answers_at ((types_of c.args.type_count c.args.types.now)) (question_of q a.t) (event_of a.kind x a.to a.z) j a.met there) (sym (last))

@@ -81,7 +81,7 @@ module _ {S : Schema} {w : Site} {starts : List ℕ} {e : ℕ} {vars : List ℕ}
 pub moved-returns-then-set-eq0 : goal.moved-returns-then-set-eq0
 moved-returns-then-set-eq0 t c =
     let a = c.args in
-    let w = site_of a.n a.types.now a.objects.now a.links.now a.index.now a.bodies.now a.at.0 in
+    let w = site_of a.n a.sheet.now.types.now a.sheet.now.objects.now a.sheet.now.links.now a.index.now a.sheet.now.bodies.now a.at.0 in
     λ k traced marks. none_asked k w a.at.1 a.vs.now a.at.2 ∙ ap (moves_at k w a.at.1 a.vs.now a.at.2) (sym c.if-set-eq0.true)
 
 pub moved-overflow_sub-row : goal.moved-overflow_sub-row
@@ -150,7 +150,7 @@ moved-returns-then-code-ne-SUM t c =
 pub moved-member_set-requires : goal.moved-member_set-requires
 moved-member_set-requires t c =
     let a = c.args in
-    let w = site_of a.n a.types.now a.objects.now a.links.now a.index.now a.bodies.now a.at.0 in
+    let w = site_of a.n a.sheet.now.types.now a.sheet.now.objects.now a.sheet.now.links.now a.index.now a.sheet.now.bodies.now a.at.0 in
     let r = c.requires.0.1 in
     let is = coded_at r c.field-code.ensures in
     let some = not_as c.if-shape-eq-NONE.false (c.shape.ensures (op r) is) in
@@ -161,7 +161,7 @@ moved-member_set-requires t c =
 pub moved-returns-then-shape-eq-NONE-2 : goal.moved-returns-then-shape-eq-NONE-2
 moved-returns-then-shape-eq-NONE-2 t c =
     let a = c.args in
-    let w = site_of a.n a.types.now a.objects.now a.links.now a.index.now a.bodies.now a.at.0 in
+    let w = site_of a.n a.sheet.now.types.now a.sheet.now.objects.now a.sheet.now.links.now a.index.now a.sheet.now.bodies.now a.at.0 in
     let r = c.requires.0.1 in
     let is = coded_at r c.field-code.ensures in
     let some = not_as c.if-shape-eq-NONE.false (c.shape.ensures (op r) is) in
@@ -244,7 +244,7 @@ moved-over-requires t c =
 pub moved-returns : goal.moved-returns
 moved-returns t c =
     let a = c.args in
-    let w = site_of a.n a.types.now a.objects.now a.links.now a.index.now a.bodies.now a.at.0 in
+    let w = site_of a.n a.sheet.now.types.now a.sheet.now.objects.now a.sheet.now.links.now a.index.now a.sheet.now.bodies.now a.at.0 in
     let r = c.requires.0.1 in
     let is = coded_at r c.field-code.ensures in
     let some = not_as c.if-shape-eq-NONE.false (c.shape.ensures (op r) is) in
@@ -292,28 +292,28 @@ over-overflow_cast-new t c = let h = c.requires.0.1.deep in omega arith
 pub over-begin-word-requires : goal.over-begin-word-requires
 over-begin-word-requires t c = c.requires.0.1.first
 
-pub over-loop-object-init : goal.over-loop-object-init
-over-loop-object-init t c =
+pub over-loop-member-init : goal.over-loop-member-init
+over-loop-member-init t c =
     let a = c.args in
-    let w = site_of a.n a.types.now a.objects.now a.links.now a.index.now a.bodies.now a.at.0 in
+    let w = site_of a.n a.sheet.now.types.now a.sheet.now.objects.now a.sheet.now.links.now a.index.now a.sheet.now.bodies.now a.at.0 in
     let row = a.at.1 - 1 in (
       c.begin-word.ensures.stands,
       (λ k traced marks. any_starts w (get_or a.spans.now row 0) a.vs.now a.at.2 (at_member k w row a.vs.now a.at.2 a.set) c.begin-word.ensures),
       λ object. refl,
     )
 
-pub over-next-step-requires : goal.over-next-step-requires
-over-next-step-requires t c = (c.requires.0.1.first, c.loop-object.invariant.0)
+pub over-next-requires : goal.over-next-requires
+over-next-requires t c = (c.requires.0.1.first, c.loop-member.invariant.0)
 
-pub over-returns-in_default : goal.over-returns-in_default
-over-returns-in_default t c =
+pub over-returns : goal.over-returns
+over-returns t c =
     let a = c.args in
     let r = c.requires.0.1 in
-    let w = site_of a.n a.types.now a.objects.now a.links.now a.index.now a.bodies.now a.at.0 in
+    let w = site_of a.n a.sheet.now.types.now a.sheet.now.objects.now a.sheet.now.links.now a.index.now a.sheet.now.bodies.now a.at.0 in
     let row = a.at.1 - 1 in
     λ k traced marks.
-    any_ends w (get_or a.spans.now row 0) a.vs.now a.at.2 (at_member k w row a.vs.now a.at.2 a.set) c.loop-object.word (c.loop-object.invariant.1 k traced (row_marks r k a.floored.now marks))
-    (c.next-step.ensures.done c.in_default.is)
+    any_ends w (get_or a.spans.now row 0) a.vs.now a.at.2 (at_member k w row a.vs.now a.at.2 a.set) c.loop-member.word (c.loop-member.invariant.1 k traced (row_marks r k a.floored.now marks))
+    (c.next.ensures.done c.in_default.is)
 
 pub over-offset_bounds-inner-new : goal.over-offset_bounds-inner-new
 over-offset_bounds-inner-new t c = let h = c.requires.0.1.deep in omega arith
@@ -327,34 +327,34 @@ over-overflow_add-deeper t c = let h = c.requires.0.1.deep in omega arith
 pub over-moved-requires : goal.over-moved-requires
 over-moved-requires t c =
     let r = c.requires.0.1 in
-    let went = c.next-step.ensures.went _ _ c.in-At.is in
+    let went = c.next.ensures.went _ c.in-Some.is in
     let h = r.positive in
-    (omega (arith, c.decreases), ((c.requires.0.0, r.inner _ _ (c.loop-object.invariant.2 _) went.there), c.requires.1, c.requires.2))
+    (omega (arith, c.decreases), ((c.requires.0.0, r.inner _ _ (c.loop-member.invariant.2 _) went.there), c.requires.1, c.requires.2))
 
 pub over-returns-then-moved : goal.over-returns-then-moved
 over-returns-then-moved t c =
     let a = c.args in
     let r = c.requires.0.1 in
-    let w = site_of a.n a.types.now a.objects.now a.links.now a.index.now a.bodies.now a.at.0 in
+    let w = site_of a.n a.sheet.now.types.now a.sheet.now.objects.now a.sheet.now.links.now a.index.now a.sheet.now.bodies.now a.at.0 in
     let row = a.at.1 - 1 in
-    let went = c.next-step.ensures.went _ _ c.in-At.is in
+    let went = c.next.ensures.went _ c.in-Some.is in
     λ k traced marks.
-    any_stops w (get_or a.spans.now row 0) a.vs.now a.at.2 (at_member k w row a.vs.now a.at.2 a.set) c.loop-object.word (c.loop-object.invariant.1 k traced (row_marks r k a.floored.now marks)) went
-    (c.moved.ensures k traced (row_marks r k a.floored.now marks) ∙ at_member_lem r k a.set _ _ (c.loop-object.invariant.2 _)) c.if-moved.true
+    any_stops w (get_or a.spans.now row 0) a.vs.now a.at.2 (at_member k w row a.vs.now a.at.2 a.set) c.loop-member.word (c.loop-member.invariant.1 k traced (row_marks r k a.floored.now marks)) went
+    (c.moved.ensures k traced (row_marks r k a.floored.now marks) ∙ at_member_lem r k a.set _ _ (c.loop-member.invariant.2 _)) c.if-moved.true
 
-pub over-loop-object-smaller : goal.over-loop-object-smaller
-over-loop-object-smaller t c = fewer_left (c.next-step.ensures.went _ _ c.in-At.is)
+pub over-loop-member-smaller : goal.over-loop-member-smaller
+over-loop-member-smaller t c = fewer_left (c.next.ensures.went _ c.in-Some.is)
 
-pub over-loop-object-preserved : goal.over-loop-object-preserved
-over-loop-object-preserved t c =
+pub over-loop-member-preserved : goal.over-loop-member-preserved
+over-loop-member-preserved t c =
     let a = c.args in
     let r = c.requires.0.1 in
-    let w = site_of a.n a.types.now a.objects.now a.links.now a.index.now a.bodies.now a.at.0 in
+    let w = site_of a.n a.sheet.now.types.now a.sheet.now.objects.now a.sheet.now.links.now a.index.now a.sheet.now.bodies.now a.at.0 in
     let row = a.at.1 - 1 in
-    let went = c.next-step.ensures.went _ _ c.in-At.is in (
+    let went = c.next.ensures.went _ c.in-Some.is in (
       went.stands,
       (λ k traced marks.
-          any_goes_on w (get_or a.spans.now row 0) a.vs.now a.at.2 (at_member k w row a.vs.now a.at.2 a.set) c.loop-object.word (c.loop-object.invariant.1 k traced marks) went
-          (c.moved.ensures k traced marks ∙ at_member_lem r k a.set _ _ (c.loop-object.invariant.2 _)) c.if-moved.false),
-      λ object. set-set c.loop-object.inner a.at.2 _ object ∙ c.loop-object.invariant.2 object,
+          any_goes_on w (get_or a.spans.now row 0) a.vs.now a.at.2 (at_member k w row a.vs.now a.at.2 a.set) c.loop-member.word (c.loop-member.invariant.1 k traced marks) went
+          (c.moved.ensures k traced marks ∙ at_member_lem r k a.set _ _ (c.loop-member.invariant.2 _)) c.if-moved.false),
+      λ object. set-set c.loop-member.inner a.at.2 _ object ∙ c.loop-member.invariant.2 object,
     )

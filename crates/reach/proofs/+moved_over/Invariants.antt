@@ -22,14 +22,14 @@ abbrev pub at_member : Change → Site → ℕ → List ℕ → ℕ → ℕ → 
 at_member c w e vars depth dirs m = moved_by c (form_at w e) (bind (ids_of w depth vars) m) dirs
 
 -- no member that the walk has passed moves, and the variables are those lent but for the new one
-abbrev pub invariant-over-loop-object : goal.invariant-over-loop-object
-invariant-over-loop-object l =
-    let w = site_of l.n l.types l.objects l.links l.index l.bodies l.rule in
+abbrev pub invariant-over-loop-member : goal.invariant-over-loop-member
+invariant-over-loop-member l =
+    let w = site_of l.n l.sheet.types.now l.sheet.objects.now l.sheet.links.now l.index l.sheet.bodies.now l.rule in
     (Stands w (get_or l.spans l.row 0) l.vs l.word)
-    × ((c : Change) → Traced c l.n l.types l.objects l.links l.events l.trace → FlooredRows c.schema (rows_at w) l.row l.floored
+    × ((c : Change) → Traced c l.n l.sheet.types.now l.sheet.objects.now l.sheet.links.now l.sheet.events.now l.trace → FlooredRows c.schema (rows_at w) l.row l.floored
     → Left w (get_or l.spans l.row 0) l.vs l.depth (at_member c w l.row l.vs l.depth l.set) l.word)
     × ((object : ℕ) → set l.inner l.depth object ≡ set l.vs l.depth object)
 
-abbrev pub decreases-over-loop-object : goal.decreases-over-loop-object
-decreases-over-loop-object l =
-    length (left_at (site_of l.n l.types l.objects l.links l.index l.bodies l.rule) (get_or l.spans l.row 0) l.vs l.depth l.word)
+abbrev pub decreases-over-loop-member : goal.decreases-over-loop-member
+decreases-over-loop-member l =
+    length (left_at (site_of l.n l.sheet.types.now l.sheet.objects.now l.sheet.links.now l.index l.sheet.bodies.now l.rule) (get_or l.spans l.row 0) l.vs l.depth l.word)

@@ -8,26 +8,22 @@ use Rattle.tables.specs.Columns.{types_of}
 use Rattle.walks.specs.Site.{id_in}
 use Rattle.reach.proofs.Leaves.{first_way, second_way, asked_kind, asked_generalised}
 use Rattle.reach.proofs.kind_moved.Goals as goal
-use Rattle.reach.proofs.kind_moved.Lts as lts
-use Rattle.reach.proofs.kind_moved.Reads as reads
-use Rattle.reach.proofs.kind_moved.Tie as tie
-
-there : (s : lts.Start tie.the-claims reads.Pre reads.Post) → s.args.row < s.args.n.objects
-there s = s.requires.1
 
 pub returns-then-ask_if : goal.returns-then-ask_if
 returns-then-ask_if c =
+    let there : c.args.row < c.args.n.objects = c.requires.1 in
     let a = c.args in
     λ k traced.
-    let u = id_in a.objects.now a.row in
+    let u = id_in a.sheet.now.objects.now a.row in
     first_way a.set (kind_moves k u a.t) (c.ask_if.ensures k traced
-    ∙ ap₂ ◌&&◌ c.contains-up.ensures (asked_kind traced (there c.before.before.before.before.before.before.before.before.before.before) a.t (c.under-there.ensures ∙ ap (λ t. under (types_of a.n.types a.types.now) t a.t) c.type_of.ensures))) c.if-ask_if.true
+    ∙ ap₂ ◌&&◌ c.contains-up.ensures (asked_kind traced there a.t (c.under-there.ensures ∙ ap (λ t. under (types_of a.n.types a.sheet.now.types.now) t a.t) c.type_of.ensures))) c.if-ask_if.true
 
 pub returns : goal.returns
 returns c =
+    let there : c.args.row < c.args.n.objects = c.requires.1 in
     let a = c.args in
     λ k traced.
-    let u = id_in a.objects.now a.row in
+    let u = id_in a.sheet.now.objects.now a.row in
     second_way a.set (kind_moves k u a.t) (c.ask_if.ensures k traced
-    ∙ ap₂ ◌&&◌ c.contains-up.ensures (asked_kind traced (there c.before.before.before.before.before.before.before.before.before.before.before.before) a.t (c.under-there.ensures ∙ ap (λ t. under (types_of a.n.types a.types.now) t a.t) c.type_of.ensures))) c.if-ask_if.false
+    ∙ ap₂ ◌&&◌ c.contains-up.ensures (asked_kind traced there a.t (c.under-there.ensures ∙ ap (λ t. under (types_of a.n.types a.sheet.now.types.now) t a.t) c.type_of.ensures))) c.if-ask_if.false
     (c.ask_if-2.ensures k traced ∙ ap₂ ◌&&◌ c.contains-down.ensures (asked_generalised k u a.t))

@@ -8,12 +8,12 @@ use Rattle.trace_places.specs.Traces.{Traced}
 use Rattle.reach.proofs.Members.{Left}
 use Rattle.reach.proofs.member_set.Given as goal
 
-abbrev pub invariant-loop-object : goal.invariant-loop-object
-invariant-loop-object l =
-    let w = site_of l.n l.types l.objects l.links l.index l.bodies l.of.0 in
+abbrev pub invariant-loop-member : goal.invariant-loop-member
+invariant-loop-member l =
+    let w = site_of l.n l.sheet.types.now l.sheet.objects.now l.sheet.links.now l.index l.sheet.bodies.now l.of.0 in
     (Stands w l.of.1 l.vs l.word)
-    × ((c : Change) → Traced c l.n l.types l.objects l.links l.events l.trace → Left w l.of.1 l.vs l.of.2 (λ m. cell_moves c m l.cell) l.word)
+    × ((c : Change) → Traced c l.n l.sheet.types.now l.sheet.objects.now l.sheet.links.now l.sheet.events.now l.trace → Left w l.of.1 l.vs l.of.2 (λ m. cell_moves c m l.cell) l.word)
 
-abbrev pub decreases-loop-object : goal.decreases-loop-object
-decreases-loop-object l =
-    length (left_at (site_of l.n l.types l.objects l.links l.index l.bodies l.of.0) l.of.1 l.vs l.of.2 l.word)
+abbrev pub decreases-loop-member : goal.decreases-loop-member
+decreases-loop-member l =
+    length (left_at (site_of l.n l.sheet.types.now l.sheet.objects.now l.sheet.links.now l.index l.sheet.bodies.now l.of.0) l.of.1 l.vs l.of.2 l.word)

@@ -2,9 +2,9 @@
 use mathlib.Core.Path.{sym, ◌∙◌}
 use mathlib.Core.List.{List}
 use Rattle.meaning.specs.Schema.{ObjectType, Floor, Schema}
-use Rattle.meaning.specs.Register.{Register, object_fault, link_fault}
+use Rattle.meaning.specs.Register.{Register}
 use Rattle.tables.specs.Columns.{types_of, floors_of, schema_of, register_of}
-use Rattle.schema.proofs.Founds.{found_none, found_first, found_second}
+use Rattle.schema.proofs.Founds.{found_none}
 use Rattle.register.proofs.Searches.{objects_ascend}
 use Rattle.register_faults.proofs.check.Goals as goal
 use Rattle.register_faults.proofs.check.Lts as lts
@@ -31,16 +31,4 @@ pub link_fault-requires : goal.link_fault-requires
 link_fault-requires c =
     let start = at-start c.before.before.before.before.before in
     objects_ascend (types start) (floors start) start.args.object_count start.args.objects.now (register start).links
-    (found_none _ (sym c.in-Nothing.is ∙ c.object_fault.ensures (register start).links))
-
-pub returns-in-At : goal.returns-in-At
-returns-in-At c =
-    let start = at-start c.before.before in
-    found_first (object_fault (types start) (floors start) (register start)) (link_fault (schema start) (register start))
-    (sym c.in-At.is ∙ c.object_fault.ensures (register start).links)
-
-pub returns-in-Nothing : goal.returns-in-Nothing
-returns-in-Nothing c =
-    let start = at-start c.before.before.before.before.before.before in
-    found_second (object_fault (types start) (floors start) (register start)) (link_fault (schema start) (register start))
-    (sym c.in-Nothing.is ∙ c.object_fault.ensures (register start).links) (c.link_fault.ensures (floors start))
+    (found_none _ (sym c.in-None.is ∙ c.object_fault.ensures (register start).links))

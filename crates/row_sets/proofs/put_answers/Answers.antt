@@ -6,12 +6,8 @@ use Rattle.walks.specs.Site.{id_in}
 use Rattle.trace_places.specs.Questions.{named, taken_from, asked, question_of}
 use Rattle.questions.proofs.Losses.{not_taken}
 use Rattle.row_sets.proofs.Tests.{one_true}
-use Rattle.row_sets.proofs.Growth.{room_kept, grown_then}
+use Rattle.row_sets.proofs.Growth.{grown_then}
 use Rattle.row_sets.proofs.put_answers.Goals as goal
-
-pub put_lost-requires : goal.put_lost-requires
-put_lost-requires c =
-    (c.requires.0, c.requires.2, room_kept c.put_named.ensures.0.long c.requires.3)
 
 pub returns-then-question-eq-PARTED : goal.returns-then-question-eq-PARTED
 unfolding asked
@@ -19,7 +15,7 @@ returns-then-question-eq-PARTED c =
     let a = c.args in (
       grown_then c.put_named.ensures.0 c.put_lost.ensures.0,
       λ k traced row h t.
-          let u = id_in a.objects.now row in
+          let u = id_in a.sheet.now.objects.now row in
           let q = question_of a.question a.x in
           ⊎_elim (λ e. c.put_lost.ensures.0.kept _ _ (c.put_named.ensures.1 k traced row h e))
           (λ e. c.put_lost.ensures.1 k traced row h (ap (λ code. taken_from k (question_of code a.x) u) (sym c.if-question-eq-PARTED.true) ∙ e))
@@ -32,7 +28,7 @@ returns-else-question-eq-PARTED c =
     let a = c.args in (
       c.put_named.ensures.0,
       λ k traced row h t.
-          let u = id_in a.objects.now row in
+          let u = id_in a.sheet.now.objects.now row in
           let q = question_of a.question a.x in
           ⊎_elim (c.put_named.ensures.1 k traced row h)
           (λ e. absurd (subst T (sym e ∙ not_taken k a.x u a.question c.if-question-eq-PARTED.false) tt))

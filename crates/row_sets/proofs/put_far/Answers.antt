@@ -1,6 +1,6 @@
 -- `row_sets::put_far` meets its contract. The loop's invariant: the marks only grow, and each far row is marked or still to come. The measure is
 -- what is left of the walk.
-use Prim.Native.Nat.{suc, ◌+◌, ◌-◌, ◌≤◌, ◌<◌}
+use Prim.Native.Nat.{suc, ◌+◌, ◌-◌, ◌<◌}
 use mathlib.Core.Path.{◌≡◌, sym, subst}
 use native.Mathlib.Omega.{arith}
 use lib.ListN.{length, get_or}
@@ -9,7 +9,7 @@ use Rattle.meaning.specs.Register.{far_ends}
 use Rattle.walks.specs.Site.{Site, register_at, id_in}
 use Rattle.walks.proofs.Steps.{fewer_left}
 use Rattle.row_sets.specs.Sets.{sets_of, in_set}
-use Rattle.row_sets.proofs.Growth.{room_kept, grown_none, grown_then}
+use Rattle.row_sets.proofs.Growth.{grown_none, grown_then}
 use Rattle.row_sets.proofs.Fars.{left, far_starts, far_low, far_ends_lem, went, far_goes_on}
 use Rattle.row_sets.proofs.put_far.Invariants.{walked}
 use Rattle.row_sets.proofs.put_far.Goals as goal
@@ -32,9 +32,6 @@ site s = let a = s.args in walked a.n a.objects.now a.links.now a.index.now
 up : (s : Start) → Ascending ◌<◌ (far_ends (register_at (site s)) s.args.role (id_in s.args.objects.now s.args.row))
 up s = s.requires.1.far_ascend s.args.role (id_in s.args.objects.now s.args.row)
 
-few : (s : Start) → s.args.n.objects ≤ 1024
-few s = s.requires.0.indexable.few
-
 slot_is : (c : Turn) → suc (c.loop-word.word - 1) ≡ c.loop-word.word
 slot_is c = let h = c.loop-word-test.true in omega arith
 
@@ -44,22 +41,12 @@ slot_low c =
     let h = c.loop-word-test.true in
     omega (arith, far_low (site s) s.requires.0 s.args.role s.args.row s.requires.3 (up s) c.loop-word.invariant.1)
 
-pub first_slot-word-requires : goal.first_slot-word-requires
-first_slot-word-requires c = (c.requires.2, omega (arith, few c.before.before.before.before, c.requires.3))
-
 pub loop-word-init : goal.loop-word-init
 loop-word-init c =
     (grown_none _, far_starts (site c.before.before.before.before.before) c.requires.0 c.args.role c.args.row c.requires.3 (up c.before.before.before.before.before) (in_set (sets_of c.args.marks.now c.args.sets.now) c.args.v) c.first_slot-word.ensures)
 
-pub overflow_sub-slot : goal.overflow_sub-slot
-overflow_sub-slot c = let h = c.loop-word-test.true in omega arith
-
 pub far_row-requires : goal.far_row-requires
 far_row-requires c = slot_low c.before
-
-pub mark-requires : goal.mark-requires
-mark-requires c =
-    (c.requires.4, few c.before.before.before.before.before.before.before.before.before.before, room_kept c.loop-word.invariant.0.long c.requires.5)
 
 pub next_slot-word-requires : goal.next_slot-word-requires
 next_slot-word-requires c = slot_low c.before.before.before.before.before.before.before
@@ -84,9 +71,6 @@ loop-word-preserved c =
           (λ y e. put.0.kept c.args.v y e)
           (put.1 (subst (λ k. k < c.args.n.objects) (sym far) step.there)),
     )
-
-pub shape_of-sets : goal.shape_of-sets
-shape_of-sets c = c.loop-word.invariant.0.long.inner
 
 pub returns : goal.returns
 returns c =

@@ -22,7 +22,7 @@ returns c =
     let a = c.args in (
       grown_then first.0 second.0,
       λ k traced row h e.
-          let answered : ℕ → Bool = λ question. asked k (question_of question a.x) (id_in a.objects.now row) in
+          let answered : ℕ → Bool = λ question. asked k (question_of question a.x) (id_in a.sheet.now.objects.now row) in
           ⊎_elim
           (λ t. second.0.kept _ _ (first.1 k traced row h (ap (λ b. b && answered a.gain) c.contains-up.ensures ∙ t)))
           (λ t. second.1 k traced row h (ap (λ b. b && answered a.loss) c.contains-down.ensures ∙ t))

@@ -5,15 +5,8 @@ use native.Mathlib.Omega.{arith}
 use borrow.Rule.Slice.PartMut.{put_mid}
 use borrow.Author.Tests.{lt-leb, le-leb}
 use Rattle.rows.specs.Rows.{without_columns}
-use Rattle.rows.proofs.Offsets.{place_fits, next_fits}
 use Rattle.rows.proofs.Parts.{put_zeros}
 use Rattle.rows.proofs.clear_columns.Goals as goal
-
-pub overflow_mul-end : goal.overflow_mul-end
-overflow_mul-end c = place_fits c.ranges.row c.ranges.width
-
-pub overflow_add-end : goal.overflow_add-end
-overflow_add-end c = next_fits c.ranges.row c.ranges.width
 
 pub returns-then-width-column : goal.returns-then-width-column
 unfolding without_columns
@@ -33,6 +26,6 @@ returns c =
     let start : e - n ≡ a = omega arith in
     let long : e - a ≡ n = omega arith in
     simp (le-leb _ _ c.if-width-column.false, le-leb _ _ c.if-t-end.false)
-    (ap (put_mid (e - n) (e - (e - n)) t) c.zero.ensures
+    (ap (put_mid (e - n) (e - (e - n)) t) (c.fill.ensures.after (λ y same. same))
     ∙ put_zeros t (e - n) e (omega arith) c.if-t-end.false
     ∙ rw (start, long))

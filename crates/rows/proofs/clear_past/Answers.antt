@@ -8,12 +8,8 @@ use lib.Seq.{take_all}
 use borrow.Rule.Slice.PartMut.{put_mid}
 use native.Mathlib.Omega.{arith}
 use Rattle.rows.specs.Rows.{cleared_past}
-use Rattle.rows.proofs.Offsets.{place_fits}
 use Rattle.rows.proofs.Parts.{put_zeros_last}
 use Rattle.rows.proofs.clear_past.Goals as goal
-
-pub overflow_mul-start : goal.overflow_mul-start
-overflow_mul-start c = place_fits c.ranges.used c.ranges.width
 
 pub returns-then-t-start : goal.returns-then-t-start
 unfolding cleared_past
@@ -29,5 +25,5 @@ returns c =
     let t = c.args.t.now in
     let a = c.args.used * c.args.width in
     let h : a ≤ length t = omega arith in
-    ap (put_mid a (length t - a) t) c.zero.ensures
+    ap (put_mid a (length t - a) t) (c.fill.ensures.after (λ y same. same))
     ∙ put_zeros_last t a h

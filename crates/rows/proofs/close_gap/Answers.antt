@@ -1,23 +1,16 @@
--- `rows::close_gap` meets its contract: the part from row `at` to the end of the used rows is shifted down by a row.
+-- `rows::close_gap` meets its contract: the rows after `at` move down by a row, and the last used row becomes zeros.
 use Prim.Native.Nat.{◌+◌, ◌*◌, ◌-◌, ◌≤◌}
-use mathlib.Core.Path.{ap, ◌∙◌}
-use borrow.Rule.Slice.PartMut.{put_mid}
+use mathlib.Core.Path.{◌≡◌, sym, ap, ap₂, ◌∙◌}
+use mathlib.Core.List.{◌++◌}
 use native.Mathlib.Omega.{arith}
+use lib.ListN.{length, take, drop, replicate}
+use lib.Seq.{paste}
+use borrow.Rule.Slice.PartMut.{mid_of, put_mid}
 use borrow.Author.Tests.{lt-ltb, le-ltb, le-leb, lt-leb}
 use Rattle.rows.specs.Rows.{without_row}
-use Rattle.rows.proofs.Offsets.{place_fits, row_before}
+use Rattle.rows.proofs.Offsets.{row_before}
 use Rattle.rows.proofs.Parts.{put_down}
 use Rattle.rows.proofs.close_gap.Goals as goal
-use Rattle.rows.proofs.close_gap.Lts as lts
-use Rattle.rows.proofs.close_gap.Reads as reads
-use Rattle.rows.proofs.close_gap.Tie as tie
-
--- the row ends where the used ones end, or before
-within : (c : lts.Else2 tie.the-claims reads.Pre reads.Post) → let x = c.args in x.at * x.width + x.width ≤ x.used * x.width
-within c = row_before _ _ _ c.if-used-at.false
-
-pub overflow_mul-end : goal.overflow_mul-end
-overflow_mul-end c = place_fits c.ranges.used c.ranges.width
 
 pub returns-then-used-at : goal.returns-then-used-at
 unfolding without_row
@@ -27,18 +20,6 @@ pub returns-then-t-end : goal.returns-then-t-end
 unfolding without_row
 returns-then-t-end c = simp (lt-ltb _ _ c.if-used-at.false, lt-leb _ _ c.if-t-end.true)
 
-pub overflow_mul-start : goal.overflow_mul-start
-overflow_mul-start c = place_fits c.ranges.at c.ranges.width
-
-pub offset_bounds-t-start : goal.offset_bounds-t-start
-offset_bounds-t-start c = omega (arith, within c.before)
-
-pub slice_bounds-shift_down-count : goal.slice_bounds-shift_down-count
-slice_bounds-shift_down-count c = omega (arith, within c.before)
-
-pub slice_bounds-shift_down-start : goal.slice_bounds-shift_down-start
-slice_bounds-shift_down-start c = omega (arith, within c.before)
-
 pub returns : goal.returns
 unfolding without_row
 returns c =
@@ -46,6 +27,14 @@ returns c =
     let n = c.args.width in
     let a = c.args.at * n in
     let e = c.args.used * n in
+    let m = e - (a + n) in
+    let within : a + n ≤ e = row_before _ _ _ c.if-used-at.false in
+    let last : e - n ≡ a + m = omega arith in
+    let end : e ≡ a + m + n = omega arith in
+    let moved : c.copy_within.new.self ≡ paste t a (drop (a + n) t) m = c.copy_within.ensures.after in
     simp (lt-ltb _ _ c.if-used-at.false, le-leb _ _ c.if-t-end.false)
-    (ap (put_mid a (e - a) t) c.shift_down.ensures
-    ∙ put_down t a e (omega (arith, within c.before.before.before.before.before)) n (e - (a + n)) c.if-t-end.false (omega (arith, within c.before.before.before.before.before)))
+    (ap (put_mid (e - n) (e - (e - n)) c.copy_within.new.self) (c.fill.ensures.after (λ y same. same))
+    ∙ ap₂ (λ i j. put_mid i (j - i) c.copy_within.new.self (replicate (length (mid_of i (j - i) c.copy_within.new.self)) 0)) last end
+    ∙ ap (λ l. put_mid (a + m) (a + m + n - (a + m)) l (replicate (length (mid_of (a + m) (a + m + n - (a + m)) l)) 0)) moved
+    ∙ put_down t a n m (omega arith)
+    ∙ ap (λ k. take a t ++ take m (drop (a + n) t) ++ replicate n 0 ++ drop k t) (sym end))

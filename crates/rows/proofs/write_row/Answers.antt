@@ -5,19 +5,12 @@ use lib.ListN.{length}
 use borrow.Rule.Slice.PartMut.{put_mid}
 use borrow.Author.Tests.{eq-eqb, ne_eqb, lt-leb, le-leb}
 use Rattle.rows.specs.Rows.{with_row}
-use Rattle.rows.proofs.Offsets.{place_fits, next_fits}
 use Rattle.rows.proofs.Parts.{put_words}
 use Rattle.rows.proofs.write_row.Goals as goal
-
-pub overflow_mul-at : goal.overflow_mul-at
-overflow_mul-at c = place_fits c.ranges.row c.ranges.width
 
 pub returns-then-words-n : goal.returns-then-words-n
 unfolding with_row
 returns-then-words-n c = simp (ne_eqb _ _ c.if-words-n.true)
-
-pub overflow_add-at : goal.overflow_add-at
-overflow_add-at c = next_fits c.ranges.row c.ranges.width
 
 pub returns-then-t-at : goal.returns-then-t-at
 unfolding with_row

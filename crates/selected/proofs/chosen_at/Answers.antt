@@ -13,7 +13,7 @@ bounds-marks-at c =
 pub returns-then-not-marks-at : goal.returns-then-not-marks-at
 returns-then-not-marks-at c = λ k traced known.
     let a = c.args in
-    unmarked traced a.rules.now a.bodies.now a.rule a.floored.now a.marks.now c.requires.2 known a.row c.requires.3 (not-true _ (ap not c.if-not-marks-at.true))
+    unmarked traced a.sheet.now.rules.now a.sheet.now.bodies.now a.rule a.floored.now a.marks.now c.requires.2 known a.row c.requires.3 (not-true _ (ap not c.if-not-marks-at.true))
 
 pub selected_at-requires : goal.selected_at-requires
 selected_at-requires c =

@@ -21,9 +21,6 @@ overflow_mul-value c =
     let small : 256 ^ (c.args.end - c.loop-i.i) ≤ 256 ^ 6 = pow-le-pow_right (omega arith) few in
     omega arith
 
-pub overflow_cast-value : goal.overflow_cast-value
-overflow_cast-value c = omega (arith, c.type_inv.line (c.loop-i.i - 1))
-
 pub overflow_add-value : goal.overflow_add-value
 overflow_add-value c =
     let few : c.args.end - c.loop-i.i ≤ 6 = omega arith in
@@ -37,8 +34,3 @@ loop-i-preserved c =
     let inv = c.loop-i.invariant in
     let byte = c.type_inv.line (i - 1) in
     (omega arith, omega arith, pack_more args.line.now args.at args.end i c.loop-i.value (omega arith) (omega arith) (omega arith) inv.2, power_more args.end i c.loop-i.value (get_or args.line.now (i - 1) 0) (omega arith) (omega arith) inv.3 (omega (arith, byte)))
-
-pub returns : goal.returns
-returns c =
-    let done : c.loop-i.i ≡ c.args.at = omega arith in
-    rw done at c.loop-i.invariant.2

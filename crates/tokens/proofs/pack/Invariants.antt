@@ -8,6 +8,3 @@ use Rattle.tokens.proofs.pack.Given as goal
 abbrev pub invariant-loop-i : goal.invariant-loop-i
 invariant-loop-i l =
     (l.at ≤ l.i) × (l.i ≤ l.end) × (l.value ≡ packed (take (l.end - l.i) (drop l.i l.line))) × (l.value < 256 ^ (l.end - l.i))
-
-abbrev pub decreases-loop-i : goal.decreases-loop-i
-decreases-loop-i l = l.i

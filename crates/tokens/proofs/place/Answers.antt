@@ -4,7 +4,7 @@ use native.Mathlib.Omega.{arith}
 use borrow.Author.Rules.{rules}
 use borrow.Author.Tests.{eq-eqb, ne_eqb}
 use Rattle.text.specs.Names.{names, name_count, place_of}
-use Rattle.tokens.specs.Tokens.{place_or}
+use Rattle.tokens.specs.Tokens.{place_found}
 use Rattle.tokens.specs.Tokens.{packed}
 use Rattle.tokens.proofs.Names.{name_words, place_one, place_past}
 use Rattle.tokens.proofs.place.Goals as goal
@@ -16,7 +16,7 @@ loop-k-init c = (search rules, λ l e q. refl)
 pub returns-then-row-value : goal.returns-then-row-value
 unfolding name_words names packed
 returns-then-row-value c =
-    λ l e q. ap place_or (sym (rw (eq-eqb _ _ (c.if-row-value.true ∙ sym q)) at (place_one l c.loop-k.k e c.loop-k-test.true)) ∙ c.loop-k.invariant.1 l e q)
+    λ l e q. ap place_found (sym (rw (eq-eqb _ _ (c.if-row-value.true ∙ sym q)) at (place_one l c.loop-k.k e c.loop-k-test.true)) ∙ c.loop-k.invariant.1 l e q)
 
 pub loop-k-preserved : goal.loop-k-preserved
 unfolding name_words names packed
@@ -26,4 +26,4 @@ loop-k-preserved c =
 pub returns : goal.returns
 returns c =
     let past : c.loop-k.k ≡ name_count = omega arith in
-    λ l e q. past ∙ ap place_or (sym (place_past l) ∙ (rw past at (c.loop-k.invariant.1 l e q)))
+    λ l e q. ap place_found (sym (place_past l) ∙ (rw past at (c.loop-k.invariant.1 l e q)))

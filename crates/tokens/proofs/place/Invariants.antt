@@ -1,5 +1,5 @@
 -- `tokens::place` meets its contract. The loop's invariant: letters that are the value are found from k on as among all names.
-use Prim.Native.Nat.{ℕ, ◌-◌, ◌≤◌}
+use Prim.Native.Nat.{ℕ, ◌≤◌}
 use mathlib.Core.Path.{◌≡◌}
 use mathlib.Core.Bool.{true}
 use mathlib.Core.List.{List}
@@ -12,6 +12,3 @@ use Rattle.tokens.proofs.place.Given as goal
 abbrev pub invariant-loop-k : goal.invariant-loop-k
 invariant-loop-k s0 =
     (s0.k ≤ name_count) × ((l : List ℕ) → every is_letter l ≡ true → packed l ≡ s0.value → place_from l s0.k (drop s0.k names) ≡ place_of l)
-
-abbrev pub decreases-loop-k : goal.decreases-loop-k
-decreases-loop-k l = name_count - l.k

@@ -3,8 +3,8 @@ use mathlib.Core.Path.{sym, ap}
 use Rattle.told.specs.Coded.{done_words}
 use Rattle.told.proofs.reading.Goals as goal
 
-pub returns-in-Done : goal.returns-in-Done
-returns-in-Done c = ap done_words (sym c.in-Done.is)
+pub returns-in-Ok : goal.returns-in-Ok
+returns-in-Ok c = ap done_words (sym c.in-Ok.is)
 
-pub returns-in-Refused : goal.returns-in-Refused
-returns-in-Refused c = ap done_words (sym c.in-Refused.is)
+pub returns-in-Err : goal.returns-in-Err
+returns-in-Err c = ap done_words (sym c.in-Err.is)

@@ -3,5 +3,5 @@ use mathlib.Core.Path.{sym, ap}
 use Rattle.told.specs.Coded.{verdict_code}
 use Rattle.told.proofs.verdict.Goals as goal
 
-pub returns-in-Refused : goal.returns-in-Refused
-returns-in-Refused c = ap verdict_code (sym c.in-Refused.is)
+pub returns-in-Err : goal.returns-in-Err
+returns-in-Err c = ap verdict_code (sym c.in-Err.is)

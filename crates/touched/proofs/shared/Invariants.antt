@@ -1,7 +1,6 @@
 -- `touched::shared` meets its contract: no place that was passed is marked in both.
 use Prim.Native.Nat.{◌≤◌, ◌-◌}
 use mathlib.Core.Path.{◌≡◌}
-use mathlib.Core.Logic.{⊎_elim}
 use mathlib.Core.Bool.{false}
 use Rattle.type_marks.specs.Marks.{places}
 use Rattle.touched.specs.Shared.{shared_below}
@@ -9,6 +8,3 @@ use Rattle.touched.proofs.shared.Given as goal
 
 abbrev pub invariant-loop-place : goal.invariant-loop-place
 invariant-loop-place l = (l.place ≤ places) × (shared_below l.a l.b l.place ≡ false)
-
-abbrev pub decreases-loop-place : goal.decreases-loop-place
-decreases-loop-place l = places - l.place

@@ -19,5 +19,5 @@ fill-requires-2 c =
 pub returns : goal.returns
 returns c =
     let a = c.args in
-    traced a.n a.types.now a.objects.now a.links.now a.events.now a.met.now a.loss_count a.losses.now c.requires
+    traced a.n a.sheet.now.types.now a.sheet.now.objects.now a.sheet.now.links.now a.sheet.now.events.now a.met.now a.loss_count a.losses.now c.requires
     c.place.ensures c.keep.ensures c.fill.ensures c.fill-2.ensures.0 c.fill-2.ensures.1

@@ -1,8 +1,8 @@
 -- `walks::next_instance` meets its contract. The loop's invariant: the rows passed have left nothing out.
 use mathlib.Core.Path.{◌∙◌}
 use Rattle.tables.specs.Columns.{types_of}
-use Rattle.walks.proofs.Objects.{row_taken, row_passed, none_left}
-use Rattle.walks.proofs.Steps.{stepped_at, stepped_done}
+use Rattle.walks.proofs.Objects.{row_taken, row_passed}
+use Rattle.walks.proofs.Steps.{stepped_at}
 use Rattle.walks.proofs.next_instance.Goals as goal
 
 pub returns-then-under : goal.returns-then-under
@@ -21,9 +21,3 @@ loop-row-preserved c =
     let inside = c.loop-row-test.true in
     c.loop-row.invariant
     ∙ row_passed types start.objects.now start.object_count start.t inside c.type_of.ensures c.under.ensures c.if-under.false
-
-pub returns : goal.returns
-returns c =
-    let start = c.args in
-    let types = types_of start.type_count start.types.now in
-    stepped_done (c.loop-row.invariant ∙ none_left types start.objects.now start.object_count start.t c.loop-row.row c.loop-row-test.false)

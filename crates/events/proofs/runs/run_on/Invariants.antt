@@ -1,6 +1,6 @@
 -- `events::runs::run_on` meets its contract. The invariant: what is left of the batch before this event (`Reached`), whatever words are lent for a list, and
 -- its losses (`Lost`).
--- The measure is what is left of the events.
+--
 use Prim.Native.Nat.{ℕ, ◌-◌}
 use mathlib.Core.Path.{◌≡◌}
 use lib.ListN.{length}
@@ -21,7 +21,3 @@ invariant-loop-row l =
     × (length l.objects ≡ length l.initial.objects) × (length l.links ≡ length l.initial.links)
     × Lost (schema_of l.type_count l.types (floors_of l.floor_count l.floors) l.relationship_count l.relationships) (register_of l.from.objects l.initial.objects l.from.links l.initial.links) (event_row l.events) l.event_count l.row
     l.used.objects l.objects l.used.links l.links l.used.losses l.losses
-
-abbrev pub decreases-loop-row : goal.decreases-loop-row
-decreases-loop-row l =
-    l.event_count - l.row

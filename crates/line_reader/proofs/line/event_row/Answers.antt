@@ -1,13 +1,17 @@
-use mathlib.Core.Path.{ap}
-use lib.Dec.{eqb}
-use Rattle.line_reader.proofs.Rows.{event_no, event_is}
-use mathlib.Core.Bool.{not}
+use native.Mathlib.Omega.{arith}
+use Rattle.std.proofs.lemmas.Bool.Decides.{nat_tests}
+use Rattle.text.specs.Entries.{event_fields}
+use Rattle.line_reader.specs.Rows.{event_held, words_held}
 use Rattle.line_reader.proofs.line.event_row.Goals as goal
 
-pub returns-then-not-and : goal.returns-then-not-and
-returns-then-not-and c =
-    event_no c.args.items c.words_of-w.ensures.0 c.args.kind (ap (eqb c.args.items.count) c.fields_of.ensures) c.and.ensures c.and-2.ensures (ap not c.if-not-and.true) c.no_row.ensures
+pub returns-then-kind-ge7 : goal.returns-then-kind-ge7
+unfolding event_held event_fields
+returns-then-kind-ge7 c = grind (arith, nat_tests)
+
+pub returns-in_err-v : goal.returns-in_err-v
+unfolding event_held words_held event_fields
+returns-in_err-v c = grind (arith, nat_tests)
 
 pub returns : goal.returns
-returns c =
-    event_is c.args.items c.words_of-w.ensures.0 c.args.kind (ap (eqb c.args.items.count) c.fields_of.ensures) c.and.ensures c.and-2.ensures c.words_of-w.ensures.1 (ap not c.if-not-and.false)
+unfolding event_held words_held event_fields
+returns c = grind (arith, nat_tests)

@@ -1,38 +1,34 @@
-use mathlib.Core.Path.{◌≡◌, ◌∙◌}
 use native.Mathlib.Omega.{arith}
-use Rattle.text.specs.Names.{rule_name}
+use mathlib.Core.Path.{◌∙◌}
 use Rattle.line_reader.specs.Rows.{flat_held}
 use Rattle.line_reader.proofs.Flat.{flat_event}
 use Rattle.line_reader.proofs.line.flat_row.Goals as goal
 
-pub returns-then-name-eq-TYPE_SECTION : goal.returns-then-name-eq-TYPE_SECTION
+pub returns-in-0 : goal.returns-in-0
 unfolding flat_held
-returns-then-name-eq-TYPE_SECTION c = rw c.if-name-eq-TYPE_SECTION.true c.type_row.ensures
+returns-in-0 c = rw c.in-0.is c.type_row.ensures
 
-pub returns-then-name-eq-FLOOR_SECTION : goal.returns-then-name-eq-FLOOR_SECTION
+pub returns-in-1 : goal.returns-in-1
 unfolding flat_held
-returns-then-name-eq-FLOOR_SECTION c = rw c.if-name-eq-FLOOR_SECTION.true c.plain_row.ensures
+returns-in-1 c = rw c.in-1.is c.plain_row.ensures
 
-pub returns-then-name-eq-RELATIONSHIP_SECTION : goal.returns-then-name-eq-RELATIONSHIP_SECTION
+pub returns-in-2 : goal.returns-in-2
 unfolding flat_held
-returns-then-name-eq-RELATIONSHIP_SECTION c = rw c.if-name-eq-RELATIONSHIP_SECTION.true c.relationship_row.ensures
+returns-in-2 c = rw c.in-2.is c.relationship_row.ensures
 
-pub returns-then-name-eq-OBJECT_SECTION : goal.returns-then-name-eq-OBJECT_SECTION
+pub returns-in-3 : goal.returns-in-3
 unfolding flat_held
-returns-then-name-eq-OBJECT_SECTION c = rw c.if-name-eq-OBJECT_SECTION.true c.object_row.ensures
+returns-in-3 c = rw c.in-3.is
 
-pub returns-then-name-eq-LINK_SECTION : goal.returns-then-name-eq-LINK_SECTION
+pub returns-in-4 : goal.returns-in-4
 unfolding flat_held
-returns-then-name-eq-LINK_SECTION c = rw c.if-name-eq-LINK_SECTION.true c.plain_row-then-name-eq-LINK_SECTION.ensures
+returns-in-4 c = rw c.in-4.is c.object_row.ensures
 
--- of the names below the events' only the rules' is left
-pub returns-then-name-lt-EVENT_SECTION : goal.returns-then-name-lt-EVENT_SECTION
+pub returns-in-5 : goal.returns-in-5
 unfolding flat_held
-returns-then-name-lt-EVENT_SECTION c =
-    let of_rules : c.args.name ≡ rule_name = omega arith in
-    rw of_rules c.no_row.ensures
+returns-in-5 c = rw c.in-5.is c.plain_row-in-5.ensures
 
-pub returns : goal.returns
-returns c =
+pub returns-in_default : goal.returns-in_default
+returns-in_default c =
     let a = c.args in
-    c.event_row.ensures ∙ flat_event a.items a.name a.types a.relationships a.cells.now c.if-name-lt-EVENT_SECTION.false
+    c.event_row.ensures ∙ flat_event a.items a.name a.types a.relationships a.cells.now (omega arith)

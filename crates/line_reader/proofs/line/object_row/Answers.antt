@@ -1,16 +1,26 @@
+use mathlib.Core.Path.{◌≡◌}
 use borrow.Author.Rules.{rules}
-use mathlib.Core.Path.{◌≡◌, refl}
+use native.Mathlib.Omega.{arith}
 use lib.ListN.{length}
-use Rattle.line_reader.proofs.Rows.{object_no, object_is}
-use mathlib.Core.Path.{ap}
-use mathlib.Core.Bool.{not}
+use Rattle.std.proofs.lemmas.Bool.Decides.{nat_tests}
+use Rattle.line_reader.specs.Rows.{object_held, words_held}
+use Rattle.line_reader.proofs.Rows.{padded_all}
 use Rattle.line_reader.proofs.line.object_row.Goals as goal
 
-pub returns-then-not-and : goal.returns-then-not-and
-returns-then-not-and c =
-    object_no c.args.items c.words_of-w.ensures.0 c.args.types c.args.cells.now refl c.cells_of-size.ensures c.and.ensures c.and-2.ensures c.and-3.ensures c.and-4.ensures (ap not c.if-not-and.true) c.no_row.ensures
+pub returns-in_err-words : goal.returns-in_err-words
+unfolding object_held words_held
+returns-in_err-words c = grind (arith, nat_tests)
+
+pub returns-then-items-lt2 : goal.returns-then-items-lt2
+unfolding object_held words_held
+returns-then-items-lt2 c = grind (arith, nat_tests)
+
+pub returns-then-size-gt8 : goal.returns-then-size-gt8
+unfolding object_held words_held
+returns-then-size-gt8 c = grind (arith, nat_tests)
 
 pub returns : goal.returns
+unfolding object_held words_held
 returns c =
     let wide : length c.args.items.values ≡ 10 = search rules in
-    object_is c.args.items c.words_of-w.ensures.0 c.args.types c.args.cells.now refl c.cells_of-size.ensures c.and.ensures c.and-2.ensures c.and-3.ensures c.and-4.ensures wide c.words_of-w.ensures.1 (ap not c.if-not-and.false)
+    grind (arith, nat_tests, padded_all c.args.items.values wide)

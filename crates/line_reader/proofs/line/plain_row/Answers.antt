@@ -1,16 +1,22 @@
-use borrow.Author.Rules.{rules}
 use mathlib.Core.Path.{◌≡◌}
+use borrow.Author.Rules.{rules}
+use native.Mathlib.Omega.{arith}
 use lib.ListN.{length}
-use Rattle.line_reader.proofs.Rows.{plain_no, plain_is}
-use mathlib.Core.Path.{ap}
-use mathlib.Core.Bool.{not}
+use Rattle.std.proofs.lemmas.Bool.Decides.{nat_tests}
+use Rattle.line_reader.specs.Rows.{plain_held, words_held}
+use Rattle.line_reader.proofs.Rows.{padded_all}
 use Rattle.line_reader.proofs.line.plain_row.Goals as goal
 
-pub returns-then-not-and : goal.returns-then-not-and
-returns-then-not-and c =
-    plain_no c.args.items c.words_of-w.ensures.0 c.args.section c.args.width c.and.ensures (ap not c.if-not-and.true) c.no_row.ensures
+pub returns-then-items-width : goal.returns-then-items-width
+unfolding plain_held
+returns-then-items-width c = grind (arith, nat_tests)
+
+pub returns-in_err-words : goal.returns-in_err-words
+unfolding plain_held words_held
+returns-in_err-words c = grind (arith, nat_tests)
 
 pub returns : goal.returns
+unfolding plain_held words_held
 returns c =
     let wide : length c.args.items.values ≡ 10 = search rules in
-    plain_is c.args.items c.words_of-w.ensures.0 c.args.section c.args.width c.and.ensures wide c.words_of-w.ensures.1 (ap not c.if-not-and.false)
+    grind (arith, nat_tests, padded_all c.args.items.values wide)

@@ -1,13 +1,16 @@
-use mathlib.Core.Path.{refl}
-use Rattle.line_reader.proofs.Rows.{relationship_no, relationship_is}
-use mathlib.Core.Path.{ap}
-use mathlib.Core.Bool.{not}
+use native.Mathlib.Omega.{arith}
+use Rattle.std.proofs.lemmas.Bool.Decides.{nat_tests}
+use Rattle.line_reader.specs.Rows.{relationship_held, words_held}
 use Rattle.line_reader.proofs.line.relationship_row.Goals as goal
 
-pub returns-then-not-and : goal.returns-then-not-and
-returns-then-not-and c =
-    relationship_no c.args.items c.words_of-w.ensures.0 c.args.relationships refl c.and.ensures c.and-2.ensures (ap not c.if-not-and.true) c.no_row.ensures
+pub returns-then-items-ne3 : goal.returns-then-items-ne3
+unfolding relationship_held
+returns-then-items-ne3 c = grind (arith, nat_tests)
+
+pub returns-in_err-v : goal.returns-in_err-v
+unfolding relationship_held words_held
+returns-in_err-v c = grind (arith, nat_tests)
 
 pub returns : goal.returns
-returns c =
-    relationship_is c.args.items c.words_of-w.ensures.0 c.args.relationships refl c.and.ensures c.and-2.ensures c.words_of-w.ensures.1 (ap not c.if-not-and.false)
+unfolding relationship_held words_held
+returns c = grind (arith, nat_tests)

@@ -1,22 +1,16 @@
-use borrow.Author.Rules.{rules}
-use mathlib.Core.Path.{refl}
-use Rattle.line_reader.proofs.Rows.{type_no, type_is, type_cells, type_parent}
-use mathlib.Core.Path.{ap}
-use mathlib.Core.Bool.{not}
+use native.Mathlib.Omega.{arith}
+use Rattle.std.proofs.lemmas.Bool.Decides.{nat_tests}
+use Rattle.line_reader.specs.Rows.{type_held}
 use Rattle.line_reader.proofs.line.type_row.Goals as goal
 
-pub returns-then-not-and : goal.returns-then-not-and
-returns-then-not-and c =
-    type_no c.args.items c.args.types c.or-parent.ensures refl c.and.ensures c.and-2.ensures c.and-3.ensures (ap not c.if-not-and.true) c.no_row.ensures
+pub returns-then-items-ne3 : goal.returns-then-items-ne3
+unfolding type_held
+returns-then-items-ne3 c = grind (arith, nat_tests)
 
-pub parent_word-p-requires : goal.parent_word-p-requires
-parent_word-p-requires c =
-    type_parent c.args.items c.args.types c.or-parent.ensures refl c.and.ensures c.and-2.ensures c.and-3.ensures (ap not c.if-not-and.false)
-
-pub overflow_cast-cells : goal.overflow_cast-cells
-overflow_cast-cells c =
-    let small = type_cells c.args.items c.args.types c.or-parent.ensures refl c.and.ensures c.and-2.ensures c.and-3.ensures (ap not c.if-not-and.false) in search rules
+pub returns-then-v-ne-DASH : goal.returns-then-v-ne-DASH
+unfolding type_held
+returns-then-v-ne-DASH c = grind (arith, nat_tests)
 
 pub returns : goal.returns
-returns c =
-    type_is c.args.items c.args.types c.or-parent.ensures refl c.and.ensures c.and-2.ensures c.and-3.ensures c.parent_word-p.ensures refl (ap not c.if-not-and.false)
+unfolding type_held
+returns c = grind (arith, nat_tests, c.parent_word-p.ensures)

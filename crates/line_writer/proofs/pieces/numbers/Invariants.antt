@@ -7,6 +7,3 @@ use Rattle.line_writer.proofs.pieces.numbers.Given as goal
 
 abbrev pub invariant-loop-i : goal.invariant-loop-i
 invariant-loop-i l = (l.i ≤ l.count) × Put l.initial.out l.at (spell_items (take l.i (drop l.from l.t))) l.out l.next
-
-abbrev pub decreases-loop-i : goal.decreases-loop-i
-decreases-loop-i l = l.count - l.i

@@ -1,5 +1,3 @@
-use mathlib.Core.Path.{◌≡◌}
-use Prim.Native.Nat.{ℕ}
 use native.Mathlib.Omega.{arith}
 use Rattle.operators.proofs.Connectives.{decided_and, decided_or, decided_implies}
 use Rattle.operators.proofs.operators.decided.Goals as goal
@@ -9,9 +7,6 @@ returns-in-7 c = decided_and _ _ c.in-7.is
 
 pub returns-in-8 : goal.returns-in-8
 returns-in-8 c = decided_or _ _ c.in-8.is
-
-pub returns-in-9 : goal.returns-in-9
-returns-in-9 c = λ h b. let z : ◌≡◌ {A = ℕ} 0 1 = cc in absurd (omega arith)
 
 pub returns-in_default : goal.returns-in_default
 returns-in_default c = decided_implies c.args.code c.args.left (λ e. absurd (omega arith)) (λ e. absurd (omega arith)) (λ e. absurd (omega arith))

@@ -1,35 +1,24 @@
--- `park_answers::words::asked_by` meets its contract.
-use mathlib.Core.Bool.{false}
-use mathlib.Core.Path.{◌≡◌}
-use Rattle.meaning.specs.Lists.{same_list}
-use Rattle.park_answers.specs.Words.{check_word, full_word, events_word}
-use Rattle.park_answers.proofs.Wording.{alike, unlike, asks_check, asks_full, asks_events, asks_after, asks_nothing}
+-- `park_answers::words::asked_by` meets its contract: each comparison decides a test of the definition.
+use Rattle.park_answers.specs.Words.{check_word, full_word, events_word, after_word, asked_by}
+use Rattle.park_answers.proofs.Wording.{compared}
 use Rattle.park_answers.proofs.words.asked_by.Goals as goal
-use Rattle.park_answers.proofs.words.asked_by.Lts as lts
-use Rattle.park_answers.proofs.words.asked_by.Reads as reads
-use Rattle.park_answers.proofs.words.asked_by.Tie as tie
 
--- the word is not the one that it was compared with
-abbrev not_check : (c : lts.Else1 tie.the-claims reads.Pre reads.Post) → same_list c.args.word.now check_word ≡ false
-not_check c = unlike c.same.ensures c.if-same.false
+pub returns-then-eq : goal.returns-then-eq
+unfolding asked_by
+returns-then-eq c = rw (compared c.args.word.now check_word c.as_slice.ensures c.eq.ensures c.if-eq.true)
 
-abbrev not_full : (c : lts.Else2 tie.the-claims reads.Pre reads.Post) → same_list c.args.word.now full_word ≡ false
-not_full c = unlike c.same-2.ensures c.if-same-2.false
+pub returns-then-eq-2 : goal.returns-then-eq-2
+unfolding asked_by
+returns-then-eq-2 c = rw (compared c.args.word.now check_word c.as_slice.ensures c.eq.ensures c.if-eq.false, compared c.args.word.now full_word c.as_slice-2.ensures c.eq-2.ensures c.if-eq-2.true)
 
-abbrev not_events : (c : lts.Else3 tie.the-claims reads.Pre reads.Post) → same_list c.args.word.now events_word ≡ false
-not_events c = unlike c.same-3.ensures c.if-same-3.false
+pub returns-then-eq-3 : goal.returns-then-eq-3
+unfolding asked_by
+returns-then-eq-3 c = rw (compared c.args.word.now check_word c.as_slice.ensures c.eq.ensures c.if-eq.false, compared c.args.word.now full_word c.as_slice-2.ensures c.eq-2.ensures c.if-eq-2.false, compared c.args.word.now events_word c.as_slice-3.ensures c.eq-3.ensures c.if-eq-3.true)
 
-pub returns-then-same : goal.returns-then-same
-returns-then-same c = asks_check _ (alike c.same.ensures c.if-same.true)
-
-pub returns-then-same-2 : goal.returns-then-same-2
-returns-then-same-2 c = asks_full _ (not_check c.before.before.before.before.before) (alike c.same-2.ensures c.if-same-2.true)
-
-pub returns-then-same-3 : goal.returns-then-same-3
-returns-then-same-3 c = asks_events _ (not_check c.before.before.before.before.before.before.before.before.before) (not_full c.before.before.before.before.before) (alike c.same-3.ensures c.if-same-3.true)
-
-pub returns-then-same-4 : goal.returns-then-same-4
-returns-then-same-4 c = asks_after _ (not_check c.before.before.before.before.before.before.before.before.before.before.before.before.before) (not_full c.before.before.before.before.before.before.before.before.before) (not_events c.before.before.before.before.before) (alike c.same-4.ensures c.if-same-4.true)
+pub returns-then-eq-4 : goal.returns-then-eq-4
+unfolding asked_by
+returns-then-eq-4 c = rw (compared c.args.word.now check_word c.as_slice.ensures c.eq.ensures c.if-eq.false, compared c.args.word.now full_word c.as_slice-2.ensures c.eq-2.ensures c.if-eq-2.false, compared c.args.word.now events_word c.as_slice-3.ensures c.eq-3.ensures c.if-eq-3.false, compared c.args.word.now after_word c.as_slice-4.ensures c.eq-4.ensures c.if-eq-4.true)
 
 pub returns : goal.returns
-returns c = asks_nothing _ (not_check c.before.before.before.before.before.before.before.before.before.before.before.before.before) (not_full c.before.before.before.before.before.before.before.before.before) (not_events c.before.before.before.before.before) (unlike c.same-4.ensures c.if-same-4.false)
+unfolding asked_by
+returns c = rw (compared c.args.word.now check_word c.as_slice.ensures c.eq.ensures c.if-eq.false, compared c.args.word.now full_word c.as_slice-2.ensures c.eq-2.ensures c.if-eq-2.false, compared c.args.word.now events_word c.as_slice-3.ensures c.eq-3.ensures c.if-eq-3.false, compared c.args.word.now after_word c.as_slice-4.ensures c.eq-4.ensures c.if-eq-4.false)

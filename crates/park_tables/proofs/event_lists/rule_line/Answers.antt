@@ -10,25 +10,25 @@ use Rattle.park_tables.proofs.event_lists.rule_line.Goals as goal
 pub line-requires : goal.line-requires
 line-requires c =
     let a = c.args in
-    let told = sym c.in-Types.is ∙ c.list.ensures.0 in
+    let told = sym c.in-Ok.is ∙ c.list.ensures.0 in
     let left = c.list.ensures.1 in (
-      words_there a.n a.types.now a.floors.now a.relationships.now a.rules.now a.bodies.now a.«rule» (replicate 5376 0) c.requires.0 c.requires.1 (length-replicate {A = ℕ} 5376 0) told left (c.list.auto.list ∙ length-replicate {A = ℕ} 5376 0),
-      kinds_there a.n a.types.now a.floors.now a.relationships.now a.rules.now a.bodies.now a.«rule» (replicate 5376 0) c.requires.0 c.requires.1 (length-replicate {A = ℕ} 5376 0) told left,
+      words_there a.n a.sheet.now.types.now a.sheet.now.floors.now a.sheet.now.relationships.now a.sheet.now.rules.now a.sheet.now.bodies.now a.«rule» (replicate 5376 0) c.requires.0 c.requires.1 (length-replicate {A = ℕ} 5376 0) told left (c.list.auto.list ∙ length-replicate {A = ℕ} 5376 0),
+      kinds_there a.n a.sheet.now.types.now a.sheet.now.floors.now a.sheet.now.relationships.now a.sheet.now.rules.now a.sheet.now.bodies.now a.«rule» (replicate 5376 0) c.requires.0 c.requires.1 (length-replicate {A = ℕ} 5376 0) told left,
     )
 
-pub returns-in-Refused : goal.returns-in-Refused
-returns-in-Refused c =
+pub returns-in-Err : goal.returns-in-Err
+returns-in-Err c =
     let a = c.args in
     absurd
-    (never_refused a.n a.types.now a.floors.now a.relationships.now a.rules.now a.bodies.now a.«rule» (replicate 5376 0) c.requires.0 c.requires.1 (length-replicate {A = ℕ} 5376 0)
-    (sym c.in-Refused.is ∙ c.list.ensures.0))
+    (never_refused a.n a.sheet.now.types.now a.sheet.now.floors.now a.sheet.now.relationships.now a.sheet.now.rules.now a.sheet.now.bodies.now a.«rule» (replicate 5376 0) c.requires.0 c.requires.1 (length-replicate {A = ℕ} 5376 0)
+    (sym c.in-Err.is ∙ c.list.ensures.0))
 
-pub returns-in-Types : goal.returns-in-Types
-returns-in-Types c =
+pub returns-in-Ok : goal.returns-in-Ok
+returns-in-Ok c =
     let a = c.args in
-    let told = sym c.in-Types.is ∙ c.list.ensures.0 in
+    let told = sym c.in-Ok.is ∙ c.list.ensures.0 in
     let left = c.list.ensures.1 in
     let line = c.line.ensures in (
-      put_as line.0 (line_same a.n a.types.now a.floors.now a.relationships.now a.rules.now a.bodies.now a.«rule» (replicate 5376 0) c.requires.0 c.requires.1 (length-replicate {A = ℕ} 5376 0) told left),
-      line_short a.n a.types.now a.floors.now a.relationships.now a.rules.now a.bodies.now a.«rule» (replicate 5376 0) c.requires.0 c.requires.1 (length-replicate {A = ℕ} 5376 0) told left line.1,
+      put_as line.0 (line_same a.n a.sheet.now.types.now a.sheet.now.floors.now a.sheet.now.relationships.now a.sheet.now.rules.now a.sheet.now.bodies.now a.«rule» (replicate 5376 0) c.requires.0 c.requires.1 (length-replicate {A = ℕ} 5376 0) told left),
+      line_short a.n a.sheet.now.types.now a.sheet.now.floors.now a.sheet.now.relationships.now a.sheet.now.rules.now a.sheet.now.bodies.now a.«rule» (replicate 5376 0) c.requires.0 c.requires.1 (length-replicate {A = ℕ} 5376 0) told left line.1,
     )

@@ -3,7 +3,7 @@ use borrow.Author.Rules.{rules}
 use Prim.Native.Nat.{◌*◌, ◌-◌, ◌≤◌}
 use mathlib.Core.List.{[]}
 use lib.ListN.{length}
-use Rattle.tables.specs.Layouts.{sheet_of}
+use Rattle.tables.specs.Layouts.{book_sheet}
 use Rattle.tables.specs.Columns.{book_of}
 use Rattle.line_writer.specs.Put.{Put}
 use Rattle.event_lines.specs.Events.{room_for_events}
@@ -12,8 +12,5 @@ use Rattle.park_tables.proofs.event_lists.rule_lines.Given as goal
 
 abbrev pub invariant-loop-rule : goal.invariant-loop-rule
 invariant-loop-rule l =
-    let lines = rule_lines (book_of l.n (sheet_of l.types l.floors l.relationships l.rules l.bodies [] [] [])) l.rule in
+    let lines = rule_lines (book_of l.n (book_sheet l.sheet)) l.rule in
     (l.rule ≤ l.n.rules) × Put l.initial.out 0 lines l.out l.next × (length lines ≤ room_for_events 1792 * l.rule)
-
-abbrev pub decreases-loop-rule : goal.decreases-loop-rule
-decreases-loop-rule l = l.n.rules - l.rule

@@ -6,6 +6,3 @@ use Rattle.printing.proofs.outcome.pair_lines.Given as goal
 
 abbrev pub invariant-loop-i : goal.invariant-loop-i
 invariant-loop-i l = (l.i ≤ l.pairs) × Put l.initial.out l.at (pair_lines (pairs_in l.list l.i)) l.out l.next
-
-abbrev pub decreases-loop-i : goal.decreases-loop-i
-decreases-loop-i l = l.pairs - l.i

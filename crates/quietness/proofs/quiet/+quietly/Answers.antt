@@ -134,8 +134,7 @@ returns-then-quantifier t c =
     let wanted = c.turned-then-quantifier.ensures ∙ ap (λ k. turn (eqb k 12) w) code_is in
     let own = c.of_self.ensures ∙ ap (λ n. self_part counts (ending rows n).form) (middle_is r ok) in
     at_place r ok counts w _
-    (c.both.ensures
-    ∙ ap₂ ◌&&◌ wanted own
+    (ap₂ ◌&&◌ wanted own
     ∙ quantified_here rows row (sound r ok) counts w (λ e. c.if-code-eq-NOT.false (code_is ∙ e)) connects_not quantifies_here)
 
 pub returns : goal.returns

@@ -13,46 +13,33 @@ use Rattle.quietness.specs.Quiet.{counted, self_part}
 use Rattle.quietness.proofs.Unlinked.{self_test, self_here}
 use mathlib.Core.Bool.{not}
 use Rattle.quietness.proofs.quiet.of_self.Goals as goal
-use Rattle.quietness.proofs.quiet.of_self.Lts as lts
-use Rattle.quietness.proofs.quiet.of_self.Reads as reads
-use Rattle.quietness.proofs.quiet.of_self.Tie as tie
-
--- ---- places of the code
-abbrev both-start : lts.After-both tie.the-claims reads.Pre reads.Post → lts.Start tie.the-claims reads.Pre reads.Post
-both-start c = c.before.before.before.before.before
-
--- ---- the row, and the roles that count
-abbrev rows : lts.Start tie.the-claims reads.Pre reads.Post → ℕ → BodyRow
-rows s = body_of s.args.bodies.now s.args.rule
-
-abbrev row : lts.Start tie.the-claims reads.Pre reads.Post → ℕ
-row s = s.args.end - 1
-
-abbrev counts : lts.Start tie.the-claims reads.Pre reads.Post → ℕ → Bool
-counts s = let roles = s.args.roles in counted roles.every (relationships_of roles.relationships s.args.relationships.now) roles.context
 
 -- what is asked of the row is what the form asks
-asked : (s : lts.Start tie.the-claims reads.Pre reads.Post) → self_test (counts s) (rows s (row s)).code (rows s (row s)) ≡ self_part (counts s) (ending (rows s) s.args.end).form
-asked s =
-    let h = sound_pos (rows s) s.args.end s.requires in
-    let whole : suc (row s) ≡ s.args.end = omega arith in
-    self_here (rows s) (row s) (subst (λ n. T (ending (rows s) n).sound) (sym whole) s.requires) (counts s)
-    ∙ ap (λ n. self_part (counts s) (ending (rows s) n).form) whole
+asked : (counts : ℕ → Bool) (rows : ℕ → BodyRow) (end : ℕ) → T (ending rows end).sound → self_test counts (rows (end - 1)).code (rows (end - 1)) ≡ self_part counts (ending rows end).form
+asked counts rows end ok =
+    let h = sound_pos rows end ok in
+    let whole : suc (end - 1) ≡ end = omega arith in
+    self_here rows (end - 1) (subst (λ n. T (ending rows n).sound) (sym whole) ok) counts ∙ ap (λ n. self_part counts (ending rows n).form) whole
 
-of_self : (c : lts.After-both tie.the-claims reads.Pre reads.Post) → let r = rows (both-start c) (row (both-start c)) in c.both.result ≡ (eqb r.code 20 && eqb r.x 0)
-of_self c = c.both.ensures ∙ ap₂ (λ k x. eqb k 20 && eqb x 0) c.field-role.ensures c.field-own.ensures
-
--- ---- the needs, in the order of the code
 pub overflow_sub-row : goal.overflow_sub-row
-overflow_sub-row c = sound_pos (rows c.before.before.before) c.args.end c.requires
+overflow_sub-row c = sound_pos (body_of c.args.bodies.now c.args.rule) c.args.end c.requires
 
-pub returns-then-not-both : goal.returns-then-not-both
-returns-then-not-both c =
-    sym (ap (λ own. own && counts c.before.before.before.before.before.before.before (rows c.before.before.before.before.before.before.before (row c.before.before.before.before.before.before.before)).y) (sym (of_self c.before.before) ∙ not-true c.both.result (ap not c.if-not-both.true))) ∙ asked c.before.before.before.before.before.before.before
+pub returns-then-not-role-own : goal.returns-then-not-role-own
+returns-then-not-role-own c =
+    let a = c.args in
+    let rows = body_of a.bodies.now a.rule in
+    let row = a.end - 1 in
+    let counts = counted a.roles.every (relationships_of a.roles.relationships a.relationships.now) a.roles.context in
+    let test = ap₂ (λ k x. eqb k 20 && eqb x 0) c.field-role.ensures c.field-own.ensures in
+    sym (ap (λ own. own && counts (rows row).y) (sym test ∙ not-true _ (ap not c.if-not-role-own.true))) ∙ asked counts rows a.end c.requires
 
 pub returns : goal.returns
 returns c =
-    c.counts.ensures
-    ∙ ap (counts c.before.before.before.before.before.before.before.before.before) c.field.ensures
-    ∙ sym (ap (λ self. self && counts c.before.before.before.before.before.before.before.before.before (rows c.before.before.before.before.before.before.before.before.before (row c.before.before.before.before.before.before.before.before.before)).y) (sym (of_self c.before.before.before.before) ∙ not-false c.both.result (ap not c.if-not-both.false)))
-    ∙ asked c.before.before.before.before.before.before.before.before.before
+    let a = c.args in
+    let rows = body_of a.bodies.now a.rule in
+    let row = a.end - 1 in
+    let counts = counted a.roles.every (relationships_of a.roles.relationships a.relationships.now) a.roles.context in
+    let test = ap₂ (λ k x. eqb k 20 && eqb x 0) c.field-role.ensures c.field-own.ensures in
+    c.counts.ensures ∙ ap counts c.field.ensures
+    ∙ sym (ap (λ self. self && counts (rows row).y) (sym test ∙ not-false _ (ap not c.if-not-role-own.false)))
+    ∙ asked counts rows a.end c.requires

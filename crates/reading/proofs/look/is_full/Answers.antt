@@ -1,25 +1,25 @@
 use Prim.Native.Nat.{min}
-use mathlib.Core.Path.{◌≡◌, ap, ◌∙◌}
+use mathlib.Core.Path.{◌≡◌}
+use native.Mathlib.Omega.{arith}
 use lib.ListN.{get_or}
+use Rattle.std.proofs.lemmas.Bool.Decides.{nat_tests}
 use Rattle.tables.specs.Layouts.{limit_of}
-use Rattle.reading.proofs.Room.{full_rows, full_body, row_left}
 use Rattle.reading.proofs.look.is_full.Goals as goal
 
--- the lesser of the section's limit and the rows lent for it is `most`
 pub returns-then-most-counts : goal.returns-then-most-counts
+unfolding limit_of
 returns-then-most-counts c =
-    let a = c.args in
-    let most : c.lesser-most.result ≡ min (limit_of a.section) (get_or a.room.now a.section 0) = c.lesser-most.ensures ∙ ap (λ l. min l (get_or a.room.now a.section 0)) c.limit_of.ensures in
-    full_rows a.section a.forms (limit_of a.section) (get_or a.room.now a.section 0) most c.if-most-counts.true
+    let most : c.min-most.result ≡ min (limit_of c.args.section) (get_or c.args.room.now c.args.section 0) = omega (arith, c.min-most.ensures) in
+    grind (arith, nat_tests)
 
 pub returns-then-section-eq-RULE_SECTION : goal.returns-then-section-eq-RULE_SECTION
+unfolding limit_of
 returns-then-section-eq-RULE_SECTION c =
-    let a = c.args in
-    let most : c.lesser-most.result ≡ min (limit_of a.section) (get_or a.room.now a.section 0) = c.lesser-most.ensures ∙ ap (λ l. min l (get_or a.room.now a.section 0)) c.limit_of.ensures in
-    full_body a.section a.forms (limit_of a.section) (get_or a.room.now a.section 0) most c.if-most-counts.false c.if-section-eq-RULE_SECTION.true
+    let most : c.min-most.result ≡ min (limit_of c.args.section) (get_or c.args.room.now c.args.section 0) = omega (arith, c.min-most.ensures) in
+    grind (arith, nat_tests)
 
-pub returns : goal.returns
-returns c =
-    let a = c.args in
-    let most : c.lesser-most.result ≡ min (limit_of a.section) (get_or a.room.now a.section 0) = c.lesser-most.ensures ∙ ap (λ l. min l (get_or a.room.now a.section 0)) c.limit_of.ensures in
-    row_left a.section a.forms (limit_of a.section) (get_or a.room.now a.section 0) most c.if-most-counts.false c.if-section-eq-RULE_SECTION.false
+pub returns-else-section-eq-RULE_SECTION : goal.returns-else-section-eq-RULE_SECTION
+unfolding limit_of
+returns-else-section-eq-RULE_SECTION c =
+    let most : c.min-most.result ≡ min (limit_of c.args.section) (get_or c.args.room.now c.args.section 0) = omega (arith, c.min-most.ensures) in
+    grind (arith, nat_tests)

@@ -9,6 +9,3 @@ use Rattle.register.proofs.floors.below_floor.Given as goal
 abbrev pub invariant-loop-cell : goal.invariant-loop-cell
 invariant-loop-cell l =
     NoneBelow (types_of l.type_count l.types) (floors_of l.floor_count l.floors) l.objects l.row l.t l.cell
-
-abbrev pub decreases-loop-cell : goal.decreases-loop-cell
-decreases-loop-cell l = cell_count - l.cell

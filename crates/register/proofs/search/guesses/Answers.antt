@@ -1,14 +1,10 @@
 -- `register::search::guesses` meets its contract. The invariant: the rows from this one on, put into the table, make the table that is promised.
 use Prim.Native.Nat.{suc, ◌-◌}
 use mathlib.Core.Path.{◌≡◌, sym, ap, ◌∙◌}
-use native.Mathlib.Nat.{sub-zero}
 use native.Mathlib.Numerals.{add-one}
 use native.Mathlib.Omega.{arith}
 use Rattle.register.specs.Guesses.{with_guess, with_guesses}
 use Rattle.register.proofs.search.guesses.Goals as goal
-
-pub loop-row-init : goal.loop-row-init
-loop-row-init c = let x = c.args in ap (with_guesses x.table.now x.objects.now 0) (sub-zero x.object_count)
 
 pub loop-row-preserved : goal.loop-row-preserved
 unfolding with_guesses

@@ -6,6 +6,3 @@ use Rattle.register.proofs.search.guesses.Given as goal
 
 abbrev pub invariant-loop-row : goal.invariant-loop-row
 invariant-loop-row l = with_guesses l.table l.objects l.row (l.object_count - l.row) ≡ with_guesses l.initial.table l.objects 0 l.object_count
-
-abbrev pub decreases-loop-row : goal.decreases-loop-row
-decreases-loop-row l = l.object_count - l.row

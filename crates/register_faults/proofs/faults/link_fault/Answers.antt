@@ -7,9 +7,6 @@ use Rattle.register_faults.proofs.faults.link_fault.Goals as goal
 pub loop-row-init : goal.loop-row-init
 loop-row-init c = λ fs. passed_none _ _ _
 
-pub faulty_link-requires : goal.faulty_link-requires
-faulty_link-requires c = c.requires
-
 pub returns-then-faulty_link : goal.returns-then-faulty_link
 unfolding link_fault
 returns-then-faulty_link c = λ fs. rw (passed_found _ _ _ (c.loop-row.invariant fs) c.loop-row-test.true (sym (c.faulty_link.ensures fs _) ∙ c.if-faulty_link.true))

@@ -1,4 +1,4 @@
--- `register_faults::faults::object_fault` meets its contract. The invariant: the objects before the row are passed. The measure is what is left of them.
+-- `register_faults::faults::object_fault` meets its contract. The invariant: the objects before the row are passed.
 use Prim.Native.Nat.{◌-◌}
 use Rattle.meaning.specs.Register.{faulty_object}
 use Rattle.tables.specs.Columns.{object_row, types_of, floors_of}
@@ -8,6 +8,3 @@ use Rattle.register_faults.proofs.faults.object_fault.Given as goal
 abbrev pub invariant-loop-row : goal.invariant-loop-row
 invariant-loop-row l =
     Passed (faulty_object (types_of l.type_count l.types) (floors_of l.floor_count l.floors)) (object_row l.objects) l.object_count l.row
-
-abbrev pub decreases-loop-row : goal.decreases-loop-row
-decreases-loop-row l = l.object_count - l.row

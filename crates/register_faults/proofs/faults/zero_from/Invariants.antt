@@ -1,4 +1,4 @@
--- `register_faults::faults::zero_from` meets its contract. The invariant: the cells passed are 0. The measure is what is left of the eight.
+-- `register_faults::faults::zero_from` meets its contract. The invariant: the cells passed are 0.
 use Prim.Native.Nat.{◌-◌}
 use mathlib.Core.Path.{◌≡◌}
 use lib.ListN.{drop}
@@ -11,6 +11,3 @@ use Rattle.register_faults.proofs.faults.zero_from.Given as goal
 abbrev pub invariant-loop-cell : goal.invariant-loop-cell
 invariant-loop-cell l =
     every is_zero (drop l.cells (object_row l.objects l.row).cells) ≡ every is_zero (drop l.cell (object_row l.objects l.row).cells)
-
-abbrev pub decreases-loop-cell : goal.decreases-loop-cell
-decreases-loop-cell l = cell_count - l.cell

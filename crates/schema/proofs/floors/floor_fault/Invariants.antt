@@ -1,4 +1,4 @@
--- `schema::floors::floor_fault` meets its contract. The invariant: the floors before the row are passed. The measure is what is left of them.
+-- `schema::floors::floor_fault` meets its contract. The invariant: the floors before the row are passed.
 use Prim.Native.Nat.{◌-◌}
 use Rattle.meaning.specs.Schema.{faulty_floor}
 use Rattle.tables.specs.Columns.{floor_row, types_of}
@@ -7,6 +7,3 @@ use Rattle.schema.proofs.floors.floor_fault.Given as goal
 
 abbrev pub invariant-loop-row : goal.invariant-loop-row
 invariant-loop-row l = Passed (faulty_floor (types_of l.type_count l.types)) (floor_row l.floors) l.floor_count l.row
-
-abbrev pub decreases-loop-row : goal.decreases-loop-row
-decreases-loop-row l = l.floor_count - l.row

@@ -1,4 +1,4 @@
--- `schema::floors::floored` meets its contract. The invariant: no floor before the row floors the cell. The measure is what is left of them.
+-- `schema::floors::floored` meets its contract. The invariant: no floor before the row floors the cell.
 use Prim.Native.Nat.{◌-◌}
 use mathlib.Core.Bool.{◌&&◌}
 use lib.Dec.{eqb}
@@ -10,6 +10,3 @@ use Rattle.schema.proofs.floors.floored.Given as goal
 abbrev pub invariant-loop-row : goal.invariant-loop-row
 invariant-loop-row l =
     Missed (λ f. under (types_of l.type_count l.types) l.t f.type && eqb f.cell l.cell) (floor_row l.floors) l.floor_count l.row
-
-abbrev pub decreases-loop-row : goal.decreases-loop-row
-decreases-loop-row l = l.floor_count - l.row

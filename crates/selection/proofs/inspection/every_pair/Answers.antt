@@ -16,12 +16,6 @@ pub overflow_add-count : goal.overflow_add-count
 overflow_add-count c =
     omega (arith, c.loop-rule-test.true, c.loop-rule.invariant.1, c.mark_context-found.ensures.1, c.requires.0, c.requires.1)
 
-pub overflow_add-rule : goal.overflow_add-rule
-overflow_add-rule c = omega (arith, c.loop-rule-test.true)
-
-pub loop-rule-smaller : goal.loop-rule-smaller
-loop-rule-smaller c = omega (arith, c.loop-rule-test.true)
-
 pub loop-rule-preserved : goal.loop-rule-preserved
 loop-rule-preserved c =
     let inv = c.loop-rule.invariant in

@@ -11,6 +11,3 @@ abbrev pub invariant-loop-rule : goal.invariant-loop-rule
 invariant-loop-rule l =
     (l.rule ≤ l.n.rules) × (l.count ≤ l.rule * 1024) × (length l.marks ≡ 1024)
     × Added l.objects (in_context (types_of l.n.types l.types) l.rules l.objects) l.n.objects (read_rows (λ i. i) l.rule) l.initial.marks l.marks l.count
-
-abbrev pub decreases-loop-rule : goal.decreases-loop-rule
-decreases-loop-rule l = l.n.rules - l.rule

@@ -8,24 +8,6 @@ use Rattle.selection.specs.Selected.{in_context}
 use Rattle.selection.proofs.Adding.{added_to, rows_start, row_marked, row_passed}
 use Rattle.selection.proofs.inspection.mark_context.Goals.{else-under, then-under}
 use Rattle.selection.proofs.inspection.mark_context.Goals as goal
-use Rattle.selection.proofs.inspection.mark_context.Lts as lts
-use Rattle.selection.proofs.inspection.mark_context.Reads as reads
-use Rattle.selection.proofs.inspection.mark_context.Tie as tie
-
--- the function's entry, and the loop's head
-abbrev entry : lts.At-loop tie.the-claims reads.Pre reads.Post goal.the-invariant-loop-row goal.the-decreases-loop-row → lts.Start tie.the-claims reads.Pre reads.Post goal.the-invariant-loop-row goal.the-decreases-loop-row
-entry c = c.before.before.before.before.before
-
-abbrev head : lts.Then1 tie.the-claims reads.Pre reads.Post goal.the-invariant-loop-row goal.the-decreases-loop-row → lts.At-loop tie.the-claims reads.Pre reads.Post goal.the-invariant-loop-row goal.the-decreases-loop-row
-head c = c.before.before
-
--- the test asked of the row
-asked : (c : lts.After-under tie.the-claims reads.Pre reads.Post goal.the-invariant-loop-row goal.the-decreases-loop-row) → let at = head c.before.before in let a = (entry at).args in
-    c.under.result ≡ in_context (types_of a.n.types a.types.now) a.rules.now a.objects.now a.rule at.loop-row.row
-asked c =
-    let at = head c.before.before in
-    let a = (entry at).args in
-    c.under.ensures ∙ ap₂ (under (types_of a.n.types a.types.now)) c.type_of.ensures at.word-context.ensures
 
 pub loop-row-init : goal.loop-row-init
 loop-row-init c = (omega arith, omega arith, c.requires.2, rows_start _ _ _ _)
@@ -36,18 +18,18 @@ mark-requires c =
 
 pub overflow_add-count : goal.overflow_add-count
 overflow_add-count c =
-    omega (arith, c.loop-row-test.true, c.loop-row.invariant.1, (entry (head c.before.before.before.before.before.before)).requires.0)
-
-pub loop-row-smaller : goal.loop-row-smaller
-loop-row-smaller c = omega (arith, c.loop-row-test.true)
+    omega (arith, c.loop-row-test.true, c.loop-row.invariant.1, c.requires.0)
 
 pub loop-row-preserved : goal.loop-row-preserved
 loop-row-preserved c =
+    let a = c.args in
+    let asked : c.under.result ≡ in_context (types_of a.n.types a.types.now) a.rules.now a.objects.now a.rule c.loop-row.row =
+    c.under.ensures ∙ ap₂ (under (types_of a.n.types a.types.now)) c.type_of.ensures c.word-context.ensures in
     let inv = c.loop-row.invariant in (
       omega (arith, c.loop-row-test.true),
       elim c.if-under.branch [ then-under w ↦ omega (arith, w.count-is, inv.1) | else-under w ↦ omega (arith, w.count-is, inv.1) ],
       elim c.if-under.branch [ then-under w ↦ ap length w.marks-is ∙ w.mark.ensures.0 | else-under w ↦ ap length w.marks-is ∙ inv.2 ],
-      elim c.if-under.branch [ then-under w ↦ added_to refl refl w.marks-is (row_marked inv.3 (sym w.if-under.true ∙ asked c.before.before) w.mark.ensures.1 w.count-is) | else-under w ↦ row_passed inv.3 (sym w.if-under.false ∙ asked c.before.before) w.marks-is w.count-is ],
+      elim c.if-under.branch [ then-under w ↦ added_to refl refl w.marks-is (row_marked inv.3 (sym w.if-under.true ∙ asked) w.mark.ensures.1 w.count-is) | else-under w ↦ row_passed inv.3 (sym w.if-under.false ∙ asked) w.marks-is w.count-is ],
     )
 
 pub returns : goal.returns

@@ -11,6 +11,3 @@ abbrev pub invariant-loop-row : goal.invariant-loop-row
 invariant-loop-row l =
     (l.row ≤ l.n.objects) × (l.count ≤ l.row) × (length l.marks ≡ 1024)
     × Added l.objects (in_context (types_of l.n.types l.types) l.rules l.objects) l.row (l.rule ∷ []) l.initial.marks l.marks l.count
-
-abbrev pub decreases-loop-row : goal.decreases-loop-row
-decreases-loop-row l = l.n.objects - l.row

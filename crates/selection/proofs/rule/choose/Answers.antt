@@ -22,9 +22,6 @@ pub overflow_add-count : goal.overflow_add-count
 overflow_add-count c =
     omega (arith, c.loop-row-test.true, c.loop-row.invariant.1, c.requires.1.1.objects_few)
 
-pub loop-row-smaller : goal.loop-row-smaller
-loop-row-smaller c = omega (arith, c.loop-row-test.true)
-
 pub loop-row-preserved : goal.loop-row-preserved
 loop-row-preserved c =
     let inv = c.loop-row.invariant in

@@ -12,8 +12,5 @@ use Rattle.selection.proofs.rule.choose.Given as goal
 abbrev pub invariant-loop-row : goal.invariant-loop-row
 invariant-loop-row l =
     (l.row ≤ l.n.objects) × (l.count ≤ l.row) × (length l.marks ≡ 1024)
-    × ((c : Change) → Traced c l.n l.types l.objects l.links l.events l.trace → KnownBy c l.rules l.bodies l.rule l.floored l.still
-    → Added l.objects (by_events c l.rules l.bodies l.objects) l.row (l.rule ∷ []) l.initial.marks l.marks l.count)
-
-abbrev pub decreases-loop-row : goal.decreases-loop-row
-decreases-loop-row l = l.n.objects - l.row
+    × ((c : Change) → Traced c l.n l.sheet.types.now l.sheet.objects.now l.sheet.links.now l.sheet.events.now l.trace → KnownBy c l.sheet.rules.now l.sheet.bodies.now l.rule l.floored l.still
+    → Added l.sheet.objects.now (by_events c l.sheet.rules.now l.sheet.bodies.now l.sheet.objects.now) l.row (l.rule ∷ []) l.initial.marks l.marks l.count)

@@ -30,14 +30,14 @@ words c n a b e =
 pub returns-then-kind-ne-JOIN : goal.returns-then-kind-ne-JOIN
 returns-then-kind-ne-JOIN c = λ os n a b e. absurd (c.if-kind-ne-JOIN.true (words c.before.before n a b e).kind_is)
 
-pub returns-in-At : goal.returns-in-At
-returns-in-At c =
+pub returns-in-Some : goal.returns-in-Some
+returns-in-Some c =
     λ os n a b e.
-    sym (link_present os c.args.link_count c.args.links.now (link c.before.before.before.before) (found_some _ (sym c.in-At.is ∙ c.link_row.ensures)))
+    sym (link_present os c.args.link_count c.args.links.now (link c.before.before.before.before) (found_some _ (sym c.in-Some.is ∙ c.link_row.ensures)))
     ∙ ap (has_link (links_with os c.args.link_count c.args.links.now)) (words c.before.before.before.before n a b e).same
 
-pub returns-in-Nothing : goal.returns-in-Nothing
-returns-in-Nothing c =
+pub returns-in-None : goal.returns-in-None
+returns-in-None c =
     λ os n a b e.
-    sym (link_absent os c.args.link_count c.args.links.now (link c.before.before.before.before) (found_none _ (sym c.in-Nothing.is ∙ c.link_row.ensures)))
+    sym (link_absent os c.args.link_count c.args.links.now (link c.before.before.before.before) (found_none _ (sym c.in-None.is ∙ c.link_row.ensures)))
     ∙ ap (has_link (links_with os c.args.link_count c.args.links.now)) (words c.before.before.before.before n a b e).same

@@ -22,8 +22,3 @@ loop-i-preserved c =
       subst (λ t. Placed a.object_count a.objects.now a.events.now (2 * a.event_count) a.trace.now t (2 * i)) (sym c.put_event.ensures)
           (placed_event_lem a.object_count a.objects.now a.events.now c.requires.1 (2 * a.event_count) a.trace.now c.loop-i.trace (omega arith) i (omega (arith, up, c.loop-i.invariant.0)) (omega (arith, c.requires.2)) b),
     )
-
-pub returns : goal.returns
-returns c =
-    let none : 2 * c.loop-i.i ≡ 0 = omega (arith, c.loop-i-test.false) in
-    subst (Placed _ _ _ _ _ _) none c.loop-i.invariant.1

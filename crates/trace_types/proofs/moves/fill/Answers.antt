@@ -1,16 +1,13 @@
 -- `trace_types::moves::fill` meets its contract. The invariant: the events below this one are in the sets. The measure is the events left.
-use mathlib.Core.Path.{◌≡◌, refl, ap}
+use mathlib.Core.Path.{◌≡◌, ap}
 use native.Mathlib.Numerals.{add-one}
 use native.Mathlib.Omega.{arith}
 use lib.ListN.{get_or}
 use Rattle.tables.specs.Columns.{types_of, event_row}
 use Rattle.register.specs.Tables.{objects_with}
 use Rattle.trace_places.specs.Making.{event_moves, some_below}
-use Rattle.trace_types.proofs.Moving.{sets_as, sets_still, sets_then}
+use Rattle.trace_types.proofs.Moving.{sets_as, sets_then}
 use Rattle.trace_types.proofs.moves.fill.Goals as goal
-
-pub loop-i-init : goal.loop-i-init
-loop-i-init c = (omega arith, λ ls. sets_still _ _ _ (λ t d. refl))
 
 pub loop-i-preserved : goal.loop-i-preserved
 loop-i-preserved c =

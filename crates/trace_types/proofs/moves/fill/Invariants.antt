@@ -1,4 +1,4 @@
--- `trace_types::moves::fill` meets its contract. The invariant: the events below this one are in the sets. The measure is the events left.
+-- `trace_types::moves::fill` meets its contract. The invariant: the events below this one are in the sets.
 use Prim.Native.Nat.{◌-◌, ◌≤◌}
 use mathlib.Core.List.{List}
 use lib.ListN.{get_or}
@@ -14,6 +14,3 @@ invariant-loop-i l =
     (l.i ≤ l.event_count)
     × ((ls : List Link) → SetsWith l.initial.trace l.trace
     (λ t d. some_below (λ j. event_moves (types_of l.type_count l.types) (objects_with l.object_count l.objects ls) (event_row l.events j) (get_or l.met j 0) t d) l.i) max_types)
-
-abbrev pub decreases-loop-i : goal.decreases-loop-i
-decreases-loop-i l = l.event_count - l.i

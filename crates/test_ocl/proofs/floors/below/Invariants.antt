@@ -1,9 +1,0 @@
--- `floors::below` is safe and ends.
-use Rattle.std.proofs.Common.{◌-◌}
-use Rattle.test_ocl.proofs.floors.below.Given as goal
-
-abbrev pub invariant-loop-i : goal.invariant-loop-i
-invariant-loop-i l = Unit {0}
-
-abbrev pub decreases-loop-i : goal.decreases-loop-i
-decreases-loop-i l = l.count - l.i

@@ -1,8 +1,0 @@
--- `floors::first_below` is safe and ends.
-use Rattle.test_ocl.proofs.floors.first_below.Given as goal
-
-abbrev pub invariant-loop-row : goal.invariant-loop-row
-invariant-loop-row l = Unit {0}
-
-abbrev pub decreases-loop-row : goal.decreases-loop-row
-decreases-loop-row l = l.row

@@ -1,9 +1,0 @@
--- `judge::say_rows` is safe and ends.
-use Rattle.std.proofs.Common.{◌-◌}
-use Rattle.test_text.proofs.judge.say_rows.Given as goal
-
-abbrev pub invariant-loop-i : goal.invariant-loop-i
-invariant-loop-i l = Unit {0}
-
-abbrev pub decreases-loop-i : goal.decreases-loop-i
-decreases-loop-i l = 32463 - l.i
