@@ -39,7 +39,8 @@ pub fn rows_lent(t: &[u32], width: u32) -> usize
     t.len() / (width as usize)
 }
 
-// Copies the first n words of src to dst, where both have them.
+// Copies the first n words of src to dst, where both have them. A loop does it and not `copy_from_slice`: with that one the library asks those who link it for
+// `memmove` besides `memcpy` and `memset`.
 pub fn copy_words(dst: &mut [u32], src: &[u32], n: usize)
     ensures { dst.new ≡ copied dst.old src.now n }
 {
@@ -49,7 +50,9 @@ pub fn copy_words(dst: &mut [u32], src: &[u32], n: usize)
     if src.len() < n {
         return;
     }
-    dst[..n].copy_from_slice(&src[..n]);
+    for i in 0..n {
+        dst[i] = src[i];
+    }
 }
 
 // Puts a row's words in their place, where they are as many as the width and the slice has the row.
