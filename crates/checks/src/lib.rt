@@ -22,7 +22,7 @@ fn refuse(number: u32, place: Option<u32>) -> Result<(), Refusal>
     }
 }
 
-// Refusals 3, 4 and 5.
+// Refusals 3, 4 and 5. All three are looked at before the first that refuses is reported.
 fn contents(n: Counts, sheet: &Sheet) -> Result<(), Refusal>
     ensures { let s = register_sheet sheet.now in result ≡ verdict_of (refusal (book_of n s) (register_in n s)) }
 {
@@ -34,7 +34,6 @@ fn contents(n: Counts, sheet: &Sheet) -> Result<(), Refusal>
         n.relationships,
         sheet.relationships,
     );
-    refuse(3, schema)?;
     let book = book::check(
         n.types,
         sheet.types,
@@ -44,7 +43,6 @@ fn contents(n: Counts, sheet: &Sheet) -> Result<(), Refusal>
         sheet.rules,
         sheet.bodies,
     );
-    refuse(4, book)?;
     let register = register_faults::check(
         n.types,
         sheet.types,
@@ -57,6 +55,8 @@ fn contents(n: Counts, sheet: &Sheet) -> Result<(), Refusal>
         n.links,
         sheet.links,
     );
+    refuse(3, schema)?;
+    refuse(4, book)?;
     refuse(5, register)
 }
 
