@@ -32,12 +32,12 @@ module _ (n : Counts) (s : Sheet) where
       go none f = let z : ◌≡◌ {A = ℕ} 0 1 = cc in absurd (omega arith)
       go (some r) f = (cc, refl)
 
-  module _ (clear : Ok tt ≡ verdict_of (sheet_refusal n s)) where
-    abbrev none_met_lem : sheet_refusal n s ≡ none
-    none_met_lem = clear_none (sheet_refusal n s) clear
+  pub none_met : Ok tt ≡ verdict_of (sheet_refusal n s) → sheet_refusal n s ≡ none
+  none_met = clear_none (sheet_refusal n s)
 
+  module _ (clear : sheet_refusal n s ≡ none) where
     pub clear_given : Given n s × EventsLent n s × EventsKnown n s
-    clear_given = given_sheet n s none_met_lem
+    clear_given = given_sheet n s clear
 
     pub clear_answer : {r : OrRefused ℕ} {after out : List ℕ} → Answered r after (text_refusal (sheet_text n s) (length out)) (sheet_text n s) out
         → (r ≡ answer_for n s out) × (after ≡ bytes_left n s out)
@@ -47,8 +47,8 @@ module _ (n : Counts) (s : Sheet) where
         let same = text_spelled n s clear_given in (
           a.answer_is
               ∙ ap (λ t. write_answer (text_refusal t (length out)) (length t)) same
-              ∙ ap (λ o. write_answer (first_of o (text_refusal text (length out))) (length text)) (sym none_met_lem),
+              ∙ ap (λ o. write_answer (first_of o (text_refusal text (length out))) (length text)) (sym clear),
           a.bytes
               ∙ ap (λ t. bytes_after (text_refusal t (length out)) t out) same
-              ∙ ap (λ o. bytes_after (first_of o (text_refusal text (length out))) text out) (sym none_met_lem),
+              ∙ ap (λ o. bytes_after (first_of o (text_refusal text (length out))) text out) (sym clear),
         )

@@ -2,6 +2,7 @@
 #![tactic(auto)]
 
 ghost use Rattle.std.specs.Prelude.{◌≡◌, List, ℕ, ◌+◌, ◌<◌, ◌≤◌, length};
+ghost use Rattle.std.proofs.Math.Option.{none};
 ghost use Rattle.tables.specs.Layouts.{section_count, sheet_in};
 ghost use Rattle.tables.specs.Refusals.{verdict_of, sheet_refusal};
 ghost use Rattle.checks.specs.Given.{Given, EventsLent, EventsKnown};
@@ -117,13 +118,22 @@ fn refused(n: Counts, sheet: &Sheet) -> Result<(), Refusal>
     }
 }
 
+// The text of tables that nothing refuses, into lent bytes. It stands apart, so that a refusal doesn't pay for the buffer.
+fn write_sound(n: Counts, sheet: &Sheet, out: &mut [u8]) -> Result<u32, Refusal>
+    requires { sheet_refusal n (sheet_in sheet.now) ≡ none }
+    ensures { let s = sheet_in sheet.now in
+        (result ≡ answer_for n s out.old) × (out.new ≡ bytes_left n s out.old) }
+{
+    let mut buffer = [0u8; 65536];
+    let end = text(&mut buffer, n, sheet);
+    deliver(&buffer, end, out)
+}
+
 // The text of lent tables, into lent bytes: the first refusal, else how many bytes were written. On a refusal nothing is written.
 pub fn write(n: Counts, sheet: &Sheet, out: &mut [u8]) -> Result<u32, Refusal>
     ensures { let s = sheet_in sheet.now in
         (result ≡ answer_for n s out.old) × (out.new ≡ bytes_left n s out.old) }
 {
     refused(n, sheet)?;
-    let mut buffer = [0u8; 65536];
-    let end = text(&mut buffer, n, sheet);
-    deliver(&buffer, end, out)
+    write_sound(n, sheet, out)
 }
