@@ -18,6 +18,10 @@ pub const TABLES: [&str; 8] = [
     "events",
 ];
 
+// Where each table begins in a row of all words, one table after the other, each with the words of the most rows that the limits allow. What a
+// table has past those is the next one's too.
+pub const BASES: [usize; 8] = [0, 64, 576, 640, 704, 8896, 19136, 31424];
+
 pub const NO_ROWS: Counts = Counts {
     types: 0,
     floors: 0,
@@ -47,16 +51,12 @@ fn part(table: &[u32], words: u32) -> &[u32] {
     table.get(..words as usize).unwrap_or(table)
 }
 
-// So many words, from a place on and a step apart, become the word so far before them, more by a number.
-fn chain(table: &mut [u32], from: usize, times: u32, step: usize, back: usize, more: u32) {
-    let mut at = from;
-    for _ in 0..times {
-        let before = table.get(at.wrapping_sub(back)).copied().unwrap_or(0);
-        if let Some(word) = table.get_mut(at) {
-            *word = before.wrapping_add(more);
-        }
-        at = at.saturating_add(step);
-    }
+// Where the word of `TABLE PLACE`, with which a line begins, stands in that row.
+fn place(line: &str) -> Option<usize> {
+    let name = line.split_whitespace().next()?;
+    let [at] = line::numbers::<1>(line);
+    let (_, base) = TABLES.iter().zip(BASES).find(|(table, _)| **table == name)?;
+    Some(base.saturating_add(at as usize))
 }
 
 fn part_mut(table: &mut [u32], words: u32) -> &mut [u32] {
@@ -149,19 +149,59 @@ impl Sheet {
         }
     }
 
-    // `TABLE PLACE VALUE` puts a word, `TABLE PLACE TIMES STEP BACK MORE` makes words of others.
-    pub fn change(&mut self, line: &str) {
-        let name = line.split_whitespace().next().unwrap_or("");
-        let [place, value, step, back, more] = line::numbers::<5>(line);
-        let at = place as usize;
-        let Some(table) = self.table(name) else {
-            return;
+    // The word at a place in that row, if there is one.
+    fn word(&self, place: usize) -> Option<u32> {
+        for (table, base) in self.tables().iter().zip(BASES) {
+            if let Some(word) = table.get(place.wrapping_sub(base)) {
+                return Some(*word);
+            }
+        }
+        None
+    }
+
+    // Puts a word there, in each table that has the place. Answers the one that stood there, if there is one.
+    fn put(&mut self, place: usize, value: u32) -> Option<u32> {
+        let mut old = None;
+        for (name, base) in TABLES.iter().zip(BASES) {
+            if let Some(word) = self
+                .table(name)
+                .and_then(|t| t.get_mut(place.wrapping_sub(base)))
+            {
+                old = Some(std::mem::replace(word, value));
+            }
+        }
+        old
+    }
+
+    // So many words, from a place on and a step apart, become the word so far before them, more by a number. Answers whether all are there.
+    fn chain(&mut self, from: usize, times: u32, step: usize, back: usize, more: u32) -> bool {
+        let mut at = from;
+        let mut are_there = true;
+        for _ in 0..times {
+            let before = self.word(at.wrapping_sub(back)).unwrap_or(0);
+            are_there &= self.put(at, before.wrapping_add(more)).is_some();
+            at = at.saturating_add(step);
+        }
+        are_there
+    }
+
+    // `TABLE PLACE VALUE` puts a word, `TABLE PLACE TIMES STEP BACK MORE` makes words of others, on into the next tables. Answers whether all are
+    // there.
+    pub fn change(&mut self, line: &str) -> bool {
+        let [_, value, step, back, more] = line::numbers::<5>(line);
+        let Some(at) = place(line) else {
+            return false;
         };
         if line.split_whitespace().count() > 3 {
-            chain(table, at, value, step as usize, back as usize, more);
-        } else if let Some(word) = table.get_mut(at) {
-            *word = value;
+            self.chain(at, value, step as usize, back as usize, more)
+        } else {
+            self.put(at, value).is_some()
         }
+    }
+
+    // Puts a word at `TABLE PLACE`, with which a line begins. Answers the one that stood there, if there is one.
+    pub fn replace(&mut self, line: &str, value: u32) -> Option<u32> {
+        self.put(place(line)?, value)
     }
 
     // `lent T F R U B O L E`: so many words of each table are lent.

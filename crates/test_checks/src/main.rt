@@ -40,25 +40,14 @@ impl Trial {
         show(rt, self.ask())
     }
 
-    // Puts a word of a table; answers the one that stood there.
-    fn put(&mut self, table: &str, place: u32, value: u32) -> u32 {
-        match self
-            .sheet
-            .table(table)
-            .and_then(|t| t.get_mut(place as usize))
-        {
-            Some(word) => std::mem::replace(word, value),
-            None => 0,
-        }
-    }
-
     // `TABLE PLACE VALUE: NAME`, where the word is another for this case.
     fn case_of_a_word(&mut self, rt: &impl Print, order: &str, name: &str) -> io::Result<()> {
-        let table = order.split_whitespace().next().unwrap_or("");
-        let [place, value] = numbers::<2>(order);
-        let old = self.put(table, place, value);
+        let [_, value] = numbers::<2>(order);
+        let Some(old) = self.sheet.replace(order, value) else {
+            return println!(rt; "not in the tables: {order}");
+        };
         self.case(rt, name)?;
-        self.put(table, place, old);
+        self.sheet.replace(order, old);
         Ok(())
     }
 
@@ -82,8 +71,8 @@ impl Trial {
             return Ok(());
         }
         let Some((order, name)) = line.split_once(": ") else {
-            if !self.settle(line) {
-                self.sheet.change(line);
+            if !self.settle(line) && !self.sheet.change(line) {
+                println!(rt; "not in the tables: {line}")?;
             }
             return Ok(());
         };

@@ -20,10 +20,11 @@ fn show(
     links: &[u32],
 ) -> io::Result<()> {
     let mut out = [0u8; 2048];
+    let none = [0u32; 4];
     let shown = tables::Sheet {
         objects,
         links,
-        events: &[],
+        events: &none,
         ..sheet.lent_sheet()
     };
     let written = writer::write(n, &shown, &mut out);

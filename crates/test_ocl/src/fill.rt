@@ -6,7 +6,6 @@ use tables::Counts;
 
 // A book without rules and floors, and a register without objects; its types and relationships stay.
 pub fn begin(sheet: &mut Sheet) {
-    sheet.floors.fill(0);
     sheet.rules.fill(0);
     sheet.bodies.fill(0);
     sheet.objects.fill(0);

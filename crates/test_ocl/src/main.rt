@@ -32,7 +32,11 @@ fn one_line(
     tally: &mut Tally,
 ) -> io::Result<()> {
     match line.split_whitespace().next().unwrap_or("") {
-        "types" | "relationships" => sheet.change(line),
+        "types" | "relationships" => {
+            if !sheet.change(line) {
+                println!(rt; "not in the tables: {line}")?;
+            }
+        }
         "book" => fill::begin(sheet),
         "rule" => fill::rule(line, sheet),
         "floor" => fill::floor(line, sheet),

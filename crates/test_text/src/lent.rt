@@ -1,5 +1,5 @@
 // The library's calls on the tables of a case, as far as they are lent.
-use cases::sheet::{Sheet, TABLES};
+use cases::sheet::{BASES, Sheet, TABLES};
 use meaning::MAX_FORMS;
 use tables::{
     BODY_WIDTH, EVENT_WIDTH, FLOOR_WIDTH, LINK_WIDTH, OBJECT_WIDTH, RELATIONSHIP_WIDTH, RULE_WIDTH,
@@ -37,16 +37,16 @@ fn mark_at(i: usize) -> u32 {
     7 + (i % 1009) as u32
 }
 
-fn mark_table(table: &mut [u32]) {
+fn mark_table(table: &mut [u32], base: usize) {
     for (i, word) in table.iter_mut().enumerate() {
-        *word = mark_at(i);
+        *word = mark_at(base.saturating_add(i));
     }
 }
 
 pub fn mark(sheet: &mut Sheet) {
-    for name in TABLES {
+    for (name, base) in TABLES.iter().zip(BASES) {
         if let Some(table) = sheet.table(name) {
-            mark_table(table);
+            mark_table(table, base);
         }
     }
 }
@@ -54,8 +54,11 @@ pub fn mark(sheet: &mut Sheet) {
 // How many words are not the marks.
 pub fn unmarked(sheet: &Sheet) -> usize {
     let mut wrong = 0usize;
-    for table in sheet.tables() {
-        let changed = table.iter().enumerate().filter(|(i, w)| **w != mark_at(*i));
+    for (table, base) in sheet.tables().iter().zip(BASES) {
+        let changed = table
+            .iter()
+            .enumerate()
+            .filter(|(i, w)| **w != mark_at(base.saturating_add(*i)));
         wrong = wrong.saturating_add(changed.count());
     }
     wrong
@@ -70,10 +73,10 @@ pub fn fill(sheet: &mut Sheet, word: u32) {
     }
 }
 
-// How many lent words of two sheets differ.
+// How many words of two sheets differ.
 pub fn differing(a: &Sheet, b: &Sheet) -> usize {
     let mut n = 0usize;
-    for (a, b) in a.lent().iter().zip(b.lent()) {
+    for (a, b) in a.tables().iter().zip(b.tables()) {
         n = n.saturating_add(a.iter().zip(b).filter(|(x, y)| *x != *y).count());
     }
     n

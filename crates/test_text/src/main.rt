@@ -63,8 +63,11 @@ impl Trial {
                 Ok(())
             }
             _ => {
-                self.sheet.change(line);
-                Ok(())
+                if self.sheet.change(line) {
+                    Ok(())
+                } else {
+                    println!(rt; "not in the tables: {line}")
+                }
             }
         }
     }
