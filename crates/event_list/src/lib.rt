@@ -2,6 +2,7 @@
 #![tactic(auto)]
 
 ghost use Rattle.std.specs.Prelude.{◌≡◌, [], length};
+ghost use Rattle.std.proofs.Math.Option.{none};
 ghost use Rattle.tables.specs.Layouts.{book_sheet};
 ghost use Rattle.tables.specs.Refusals.{verdict_of};
 ghost use Rattle.event_list.specs.Answers.{lent_book_refusal, rule_refusal, answer, list_after};
@@ -54,12 +55,12 @@ fn verdict(n: Counts, sheet: &Sheet, rule: u32) -> Result<(), Refusal>
     }
 }
 
-// Writes a rule's event list at the front of the lent words, and answers how many event types it has. Words past it keep what they held, and a refusal writes none.
-pub fn list(n: Counts, sheet: &Sheet, rule: u32, list: &mut [u16]) -> Result<u32, Refusal>
+// The event list of a rule that nothing refuses, as `list` writes it. It stands apart, so that a refusal doesn't pay for the marks.
+fn list_known(n: Counts, sheet: &Sheet, rule: u32, list: &mut [u16]) -> Result<u32, Refusal>
+    requires { rule_refusal n (book_sheet sheet.now) «rule» ≡ none }
     ensures { let s = book_sheet sheet.now in
         (result ≡ answer n s «rule» (length list.old)) × (list.new ≡ list_after n s «rule» list.old) }
 {
-    verdict(n, sheet, rule)?;
     let mut marks = [false; 1792];
     rule_marks(
         n.types,
@@ -82,4 +83,13 @@ pub fn list(n: Counts, sheet: &Sheet, rule: u32, list: &mut [u16]) -> Result<u32
     }
     mark_words::write(&marks, list);
     Ok(count)
+}
+
+// Writes a rule's event list at the front of the lent words, and answers how many event types it has. Words past it keep what they held, and a refusal writes none.
+pub fn list(n: Counts, sheet: &Sheet, rule: u32, list: &mut [u16]) -> Result<u32, Refusal>
+    ensures { let s = book_sheet sheet.now in
+        (result ≡ answer n s «rule» (length list.old)) × (list.new ≡ list_after n s «rule» list.old) }
+{
+    verdict(n, sheet, rule)?;
+    list_known(n, sheet, rule, list)
 }

@@ -13,7 +13,7 @@ use Rattle.lexical.specs.Writing.{written}
 use Rattle.lexical.proofs.Writing.{fits_place, over_place, text_is}
 use Rattle.line_writer.specs.Put.{Put}
 use Rattle.writer.specs.Answers.{Answered, text_refusal, bytes_after}
-use Rattle.std.specs.Prelude.{Ok, Err}
+use Rattle.std.specs.Prelude.{Ok}
 
 -- text put from the start of a buffer of 65,536 bytes
 module _ {d s e : List ℕ} {p : ℕ} (put : Put d 0 s e p) (size : length d ≡ 65536) where

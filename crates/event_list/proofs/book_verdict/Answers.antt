@@ -1,6 +1,5 @@
 -- `event_list::book_verdict` meets its contract: the checks of the book with an empty register.
 use mathlib.Core.Path.{ap, ◌∙◌}
-use borrow.Author.Rules.{rules}
 use Rattle.tables.specs.Refusals.{verdict_of}
 use Rattle.event_list.proofs.Answers.{book_alone_lem}
 use Rattle.event_list.proofs.book_verdict.Goals as goal

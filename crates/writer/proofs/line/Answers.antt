@@ -3,7 +3,7 @@ use Prim.Native.Nat.{ℕ}
 use mathlib.Core.Path.{◌≡◌, sym, ap}
 use native.Mathlib.Omega.{arith}
 use Rattle.tables.specs.Layouts.{Sheet, sheet_in}
-use Rattle.text.specs.Names.{type_name, floor_name, relationship_name, rule_name, object_name, link_name, first_event}
+use Rattle.text.specs.Names.{first_event}
 use Rattle.line_writer.specs.Lines.{line_of}
 use Rattle.line_writer.proofs.Puts.{put_as}
 use Rattle.writer.proofs.line.Goals as goal

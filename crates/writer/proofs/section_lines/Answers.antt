@@ -1,7 +1,7 @@
 -- `writer::section_lines` meets its contract. The invariant: the lines of the rows before `row` are put.
 use mathlib.Core.Path.{◌≡◌, sym, ap}
 use native.Mathlib.Omega.{arith}
-use Rattle.tables.specs.Layouts.{Sheet, sheet_in}
+use Rattle.tables.specs.Layouts.{sheet_in}
 use Rattle.line_writer.specs.Lines.{line_of, lines_of}
 use Rattle.line_writer.proofs.Puts.{put_nothing, put_then, put_as}
 use Rattle.writer.proofs.Sections.{lines_none, lines_more}

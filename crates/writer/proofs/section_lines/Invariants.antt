@@ -1,5 +1,5 @@
 -- `writer::section_lines` meets its contract. The invariant: the lines of the rows before `row` are put.
-use Prim.Native.Nat.{◌-◌, ◌≤◌}
+use Prim.Native.Nat.{◌≤◌}
 use Rattle.tables.specs.Layouts.{sheet_in}
 use Rattle.line_writer.specs.Put.{Put}
 use Rattle.line_writer.specs.Lines.{line_of, lines_of}

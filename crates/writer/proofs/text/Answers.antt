@@ -3,7 +3,7 @@ use Prim.Native.Nat.{◌<◌}
 use mathlib.Core.Path.{◌≡◌, sym, ap, subst, ◌∙◌}
 use mathlib.Core.List.{◌++◌}
 use native.Mathlib.Omega.{arith}
-use Rattle.tables.specs.Layouts.{Sheet, section_count, sheet_in}
+use Rattle.tables.specs.Layouts.{section_count, sheet_in}
 use Rattle.line_writer.specs.Lines.{line_of, lines_of, section_text, sheet_text}
 use Rattle.line_writer.proofs.Puts.{put_nothing, put_then, put_as, put_within}
 use Rattle.writer.proofs.Sections.{lines_none, lines_more, sound_fit}

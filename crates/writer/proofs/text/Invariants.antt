@@ -1,5 +1,5 @@
 -- `writer::text` meets its contract. The invariant: the sections before `section` are put.
-use Prim.Native.Nat.{◌-◌, ◌≤◌}
+use Prim.Native.Nat.{◌≤◌}
 use Rattle.tables.specs.Layouts.{section_count, sheet_in}
 use Rattle.line_writer.specs.Put.{Put}
 use Rattle.line_writer.specs.Lines.{lines_of, section_text}
