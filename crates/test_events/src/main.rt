@@ -39,17 +39,20 @@ fn run(rt: &impl Print, n: Counts, sheet: &Sheet) -> io::Result<()> {
     let mut objects = [7u32; 50];
     let mut links = [7u32; 12];
     let ran = lent_run::run(n, &sheet.lent_sheet(), &mut objects, &mut links);
-    match ran.verdict {
+    let met_types = ran.met;
+    let held = ran.held;
+    let verdict = ran.verdict;
+    match verdict {
         Err(Refusal { number, place }) => println!(rt; "refused {number} {place}"),
         Ok(()) => {
             print!(rt; "met")?;
-            for met in ran.met.iter().take(n.events as usize) {
+            for met in met_types.iter().take(n.events as usize) {
                 print!(rt; " {met}")?;
             }
             println!(rt)?;
             let end = Counts {
-                objects: ran.held.objects,
-                links: ran.held.links,
+                objects: held.objects,
+                links: held.links,
                 events: 0,
                 ..n
             };

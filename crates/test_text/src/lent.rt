@@ -37,9 +37,20 @@ fn mark_at(i: usize) -> u32 {
     7 + (i % 1009) as u32
 }
 
+// The mark at the next place.
+fn mark_after(mark: u32) -> u32 {
+    if mark == 1015 {
+        7
+    } else {
+        mark.saturating_add(1)
+    }
+}
+
 fn mark_table(table: &mut [u32], base: usize) {
-    for (i, word) in table.iter_mut().enumerate() {
-        *word = mark_at(base.saturating_add(i));
+    let mut mark = mark_at(base);
+    for word in table.iter_mut() {
+        *word = mark;
+        mark = mark_after(mark);
     }
 }
 
@@ -55,11 +66,13 @@ pub fn mark(sheet: &mut Sheet) {
 pub fn unmarked(sheet: &Sheet) -> usize {
     let mut wrong = 0usize;
     for (table, base) in sheet.tables().iter().zip(BASES) {
-        let changed = table
-            .iter()
-            .enumerate()
-            .filter(|(i, w)| **w != mark_at(base.saturating_add(*i)));
-        wrong = wrong.saturating_add(changed.count());
+        let mut mark = mark_at(base);
+        for word in table.iter() {
+            if *word != mark {
+                wrong = wrong.saturating_add(1);
+            }
+            mark = mark_after(mark);
+        }
     }
     wrong
 }
