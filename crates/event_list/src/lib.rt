@@ -40,7 +40,9 @@ pub fn book_verdict(n: Counts, sheet: &Sheet) -> Result<(), Refusal>
     )
 }
 
-// The same, and then 4 of a rule number that the book lacks.
+// The same, and then 4 of a rule number that the book lacks. With the law named here a refusal of the book is proved in whichever way the code hands it on, so that
+// an edit of one is refused for its value and not for its form.
+#[tactic(auto, using(crate::proofs::Answers::book_refused))]
 fn verdict(n: Counts, sheet: &Sheet, rule: u32) -> Result<(), Refusal>
     ensures { result ≡ verdict_of (rule_refusal n (book_sheet sheet.now) «rule») }
 {
