@@ -56,7 +56,7 @@ impl Trial {
 
     // `ask`: reads the text into marked tables. Words are wrong that a refusal changed, or that are not 0 past the used rows.
     pub fn ask(&mut self, rt: &impl Print) -> io::Result<()> {
-        lent::mark(&mut self.sheet);
+        lent::copy(&self.marks, &mut self.sheet);
         match self.sheet.read(&self.text) {
             Err(
                 Refusal {
@@ -64,7 +64,7 @@ impl Trial {
                     place: line,
                 },
             ) => {
-                let wrong = lent::unmarked(&self.sheet);
+                let wrong = lent::differing(&self.sheet, &self.marks);
                 self.count(wrong);
                 print!(rt; "{number}:{line}")
             }

@@ -37,20 +37,9 @@ fn mark_at(i: usize) -> u32 {
     7 + (i % 1009) as u32
 }
 
-// The mark at the next place.
-fn mark_after(mark: u32) -> u32 {
-    if mark == 1015 {
-        7
-    } else {
-        mark.saturating_add(1)
-    }
-}
-
 fn mark_table(table: &mut [u32], base: usize) {
-    let mut mark = mark_at(base);
-    for word in table.iter_mut() {
-        *word = mark;
-        mark = mark_after(mark);
+    for (i, word) in table.iter_mut().enumerate() {
+        *word = mark_at(base.saturating_add(i));
     }
 }
 
@@ -62,19 +51,19 @@ pub fn mark(sheet: &mut Sheet) {
     }
 }
 
-// How many words are not the marks.
-pub fn unmarked(sheet: &Sheet) -> usize {
-    let mut wrong = 0usize;
-    for (table, base) in sheet.tables().iter().zip(BASES) {
-        let mut mark = mark_at(base);
-        for word in table.iter() {
-            if *word != mark {
-                wrong = wrong.saturating_add(1);
-            }
-            mark = mark_after(mark);
+fn copy_table(from: &[u32], to: &mut [u32]) {
+    if from.len() == to.len() {
+        to.copy_from_slice(from);
+    }
+}
+
+// The words of a sheet, in the tables of one as large.
+pub fn copy(from: &Sheet, to: &mut Sheet) {
+    for (name, words) in TABLES.iter().zip(from.tables()) {
+        if let Some(table) = to.table(name) {
+            copy_table(words, table);
         }
     }
-    wrong
 }
 
 // Every word becomes the same.
@@ -90,7 +79,9 @@ pub fn fill(sheet: &mut Sheet, word: u32) {
 pub fn differing(a: &Sheet, b: &Sheet) -> usize {
     let mut n = 0usize;
     for (a, b) in a.tables().iter().zip(b.tables()) {
-        n = n.saturating_add(a.iter().zip(b).filter(|(x, y)| *x != *y).count());
+        if *a != b {
+            n = n.saturating_add(a.iter().zip(b).filter(|(x, y)| *x != *y).count());
+        }
     }
     n
 }

@@ -13,11 +13,12 @@ use cases::line::number;
 use cases::sheet::{LIMITS, Sheet};
 use std::io;
 
-// The text and the tables of a case; how many words were wrong so far, and how many cases there were.
+// The text and the tables of a case, and the tables marked; how many words were wrong so far, and how many cases there were.
 #[derive(Drop)]
 pub struct Trial {
     text: Vec<u8>,
     sheet: Sheet,
+    marks: Sheet,
     wrong: usize,
     cases: u32,
 }
@@ -107,9 +108,12 @@ impl Trial {
 
 fn main(rt: HostRuntime) -> io::Result<()> {
     let input = io::read_to_string(rt.alloc(), rt.stdin())?;
+    let mut marks = Sheet::new(rt.alloc(), LIMITS)?;
+    lent::mark(&mut marks);
     let mut trial = Trial {
         text: Vec::new(rt.alloc()),
         sheet: Sheet::new(rt.alloc(), LIMITS)?,
+        marks,
         wrong: 0,
         cases: 0,
     };
