@@ -56,7 +56,7 @@ impl Trial {
 
     // `ask`: reads the text into marked tables. Words are wrong that a refusal changed, or that are not 0 past the used rows.
     pub fn ask(&mut self, rt: &impl Print) -> io::Result<()> {
-        lent::copy(&self.marks, &mut self.sheet);
+        lent::take_over(&self.marks, &mut self.sheet);
         match self.sheet.read(&self.text) {
             Err(
                 Refusal {

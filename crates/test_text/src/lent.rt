@@ -58,7 +58,7 @@ fn copy_table(from: &[u32], to: &mut [u32]) {
 }
 
 // The words of a sheet, in the tables of one as large.
-pub fn copy(from: &Sheet, to: &mut Sheet) {
+pub fn take_over(from: &Sheet, to: &mut Sheet) {
     for (name, words) in TABLES.iter().zip(from.tables()) {
         if let Some(table) = to.table(name) {
             copy_table(words, table);
